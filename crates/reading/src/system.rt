@@ -1,0 +1,153 @@
+// A whole encoded system: the free names, one system, and nothing after it.
+ghost use mathlib.Core.Path.{_≡_};
+ghost use Rattle.reading.specs.System.{readProcess, readSystem, freeTypes, header, sheetOf, readSheet};
+ghost use Rattle.reading.specs.Told.{number, ending, ended, counted, whyOf, pathOf};
+
+use crate::bytes::byte_below;
+use crate::bytes::refusal;
+use crate::forms::process_at;
+use crate::forms::system_at;
+use crate::paths;
+use crate::types::type_at;
+use crate::End;
+use crate::Form;
+use crate::FormRead;
+use crate::Number;
+use crate::NumberRead;
+use crate::Path;
+use crate::Refusal;
+
+// Why a form was not read.
+fn why(read: FormRead) -> Refusal
+    ensures { λ r. ⌜ r ≡ whyOf read ⌝ }
+{
+    match read {
+        FormRead::Found(_) => Refusal { question: 0, at: 0 },
+        FormRead::Refused(r) => r,
+    }
+}
+
+// Reads past a process. The permitted nesting falls at each call.
+pub fn read_process(s: &[u8], at: usize, nest: usize, names: usize) -> End
+    ensures { λ r. ⌜ ending r ≡ ended (readProcess nest (now (s .entry)) names at) ⌝ }
+{
+    let read = process_at(s, at, nest, names);
+    let FormRead::Found(place) = read else {
+        return End::Refused(why(read));
+    };
+    let next = place.next;
+    let form = place.form;
+    match form {
+        Form::Nil => End::At(next),
+        Form::Par => {
+            let left = read_process(s, next, nest - 1, names);
+            let End::At(middle) = left else {
+                return left;
+            };
+            read_process(s, middle, nest - 1, names)
+        }
+        Form::New(_) => read_process(s, next, nest - 1, names + 1),
+        Form::Input(_) => read_process(s, next, nest - 1, names + 1),
+        Form::Output(_) => read_process(s, next, nest - 1, names),
+        Form::Replicate => read_process(s, next, nest - 1, names),
+        Form::Group(_) => End::Refused(Refusal { question: 4, at }),
+        Form::Component(_) => End::Refused(Refusal { question: 4, at }),
+    }
+}
+
+// Reads past a component's process and counts the component.
+fn read_component(s: &[u8], at: usize, nest: usize, names: usize, components: usize) -> NumberRead {
+    let end = read_process(s, at, nest, names);
+    match end {
+        End::At(next) => NumberRead::Found(Number {
+            value: components + 1,
+            next,
+        }),
+        End::Refused(r) => NumberRead::Refused(r),
+    }
+}
+
+// Reads past a system. The number found is that of the components so far, those of this system included.
+pub fn read_system(s: &[u8], at: usize, nest: usize, names: usize, path: Path, components: usize) -> NumberRead
+    ensures { λ r. ⌜ number r ≡ counted components (readSystem nest (now (s .entry)) names (pathOf path) components at) ⌝ }
+{
+    let read = system_at(s, at, nest, names, path, components);
+    let FormRead::Found(place) = read else {
+        return NumberRead::Refused(why(read));
+    };
+    let next = place.next;
+    let form = place.form;
+    match form {
+        Form::Nil => NumberRead::Found(Number {
+            value: components,
+            next,
+        }),
+        Form::Par => {
+            let left = read_system(s, next, nest - 1, names, path, components);
+            let NumberRead::Found(middle) = left else {
+                return left;
+            };
+            read_system(s, middle.next, nest - 1, names, path, middle.value)
+        }
+        Form::Group(g) => read_system(s, next, nest - 1, names, paths::with(path, g), components),
+        Form::New(_) => read_system(s, next, nest - 1, names + 1, path, components),
+        Form::Component(_) => read_component(s, next, nest - 1, names, components),
+        Form::Input(_) => NumberRead::Refused(Refusal { question: 4, at }),
+        Form::Output(_) => NumberRead::Refused(Refusal { question: 4, at }),
+        Form::Replicate => NumberRead::Refused(Refusal { question: 4, at }),
+    }
+}
+
+// Reads past `count` stored types.
+fn free_types(s: &[u8], at: usize, count: usize) -> End
+    ensures { λ r. ⌜ ending r ≡ ended (freeTypes count (now (s .entry)) at) ⌝ }
+{
+    let mut next = at;
+    let mut left = count;
+    while 0 < left {
+        let read = type_at(s, next);
+        let NumberRead::Found(t) = read else {
+            return End::Refused(refusal(read));
+        };
+        next = t.next;
+        left -= 1;
+    }
+    End::At(next)
+}
+
+// Questions 2 to 6.
+fn read_sheet(s: &[u8]) -> End
+    ensures { λ r. ⌜ ending r ≡ ended (readSheet (now (s .entry))) ⌝ }
+{
+    let count = byte_below(s, 0, 33);
+    let NumberRead::Found(free) = count else {
+        return End::Refused(refusal(count));
+    };
+    let types = free_types(s, free.next, free.value);
+    let End::At(start) = types else {
+        return types;
+    };
+    let read = read_system(s, start, 64, free.value, paths::empty(), 0);
+    let NumberRead::Found(system) = read else {
+        return End::Refused(refusal(read));
+    };
+    let next = system.next;
+    if next == s.len() {
+        End::At(next)
+    } else {
+        End::Refused(Refusal { question: 3, at: next })
+    }
+}
+
+// Questions 1 to 6 of document 01, for a sheet and a charter of any bytes.
+pub fn read(sheet: &[u8], charter: &[u8]) -> End
+    ensures { λ r. ⌜ ending r ≡ ended (sheetOf (now (sheet .entry)) (now (charter .entry))) ⌝ }
+{
+    if 4096 < sheet.len() {
+        return End::Refused(Refusal { question: 1, at: 4096 });
+    }
+    if 4096 < charter.len() {
+        return End::Refused(Refusal { question: 1, at: 4096 });
+    }
+    read_sheet(sheet)
+}
