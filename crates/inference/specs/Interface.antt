@@ -1,0 +1,92 @@
+-- The interface (document 01, "What an act needs"), as entries and as bytes.
+use Prim.Native.Nat.{ℕ, _+_, _/_, _%_}
+use mathlib.Core.List.{List, [], _∷_, _++_, map}
+use mathlib.Core.Bool.{Bool, true, false, cond, not, _||_}
+use lib.ListN.{length}
+use Rattle.reading.specs.Syntax.{Sheet}
+use Rattle.inference.specs.Lists.{any, only, gather, rising}
+use Rattle.inference.specs.Counts.{Count, isZero, countNumber}
+use Rattle.inference.specs.Acts.{Component, Act, actsOf, Located, located}
+use Rattle.inference.specs.Needs.{needOf, isRead, isWrite, isAccess, disclosed}
+
+-- A group disclosed to, and how often.
+pub record Disclosure : Type 0 where
+  pub group : ℕ
+  pub count : Count
+
+-- "An entry: kind, path length, path, then a permission map (bit 0 read, 1 write, 2 access, 3 nondisclose, 4 disclose list),
+-- and only if bit 4 stands a list". "Bit 3 is never inferred."
+pub record Entry : Type 0 where
+  pub component : Component
+  pub kind : ℕ
+  pub read : Bool
+  pub write : Bool
+  pub access : Bool
+  pub disclose : List Disclosure
+
+-- A permission of an entry.
+pub data Permission : Type 0 where
+  reading writing accessing : Permission
+  disclosing : ℕ → Count → Permission
+
+-- The groups disclosed to, "groups strictly rising".
+unfoldable pub disclosuresOf : ℕ → List Act → List Disclosure
+disclosuresOf kind acts =
+    only (λ d. not (isZero (d .count))) (map (λ g. record { group = g; count = disclosed kind g acts }) (rising 0 64))
+
+unfoldable pub entryOf : Component → List Act → ℕ → Entry
+entryOf c acts kind = record {
+    component = c;
+    kind = kind;
+    read = any (λ a. isRead kind (needOf a)) acts;
+    write = any (λ a. isWrite kind (needOf a)) acts;
+    access = any (λ a. isAccess kind (needOf a)) acts;
+    disclose = disclosuresOf kind acts }
+
+unfoldable pub isEmpty : {A : Type 0} → List A → Bool
+isEmpty [] = true
+isEmpty (x ∷ xs) = false
+
+-- "with at least one permission"
+unfoldable pub holdsAny : Entry → Bool
+holdsAny e = (e .read || e .write) || (e .access || not (isEmpty (e .disclose)))
+
+-- "The interface has an entry for each post and kind with at least one permission: by post, then rising kind."
+unfoldable pub entriesOf : Located → List Entry
+entriesOf l = only holdsAny (map (entryOf (l .component) (actsOf l)) (rising 0 16))
+
+unfoldable pub interface : Sheet → List Entry
+interface sheet = gather entriesOf (located sheet)
+
+-- An entry's permissions in the order of its map and list.
+unfoldable pub flagged : Bool → Permission → List Permission
+flagged true p = p ∷ []
+flagged false p = []
+
+unfoldable pub permissions : Entry → List Permission
+permissions e =
+    flagged (e .read) reading ++ (flagged (e .write) writing ++ (flagged (e .access) accessing
+    ++ map (λ d. disclosing (d .group) (d .count)) (e .disclose)))
+
+unfoldable pub bit : Bool → ℕ → ℕ
+bit true value = value
+bit false value = 0
+
+unfoldable pub mapOf : Entry → ℕ
+mapOf e = bit (e .read) 1 + (bit (e .write) 2 + (bit (e .access) 4 + bit (not (isEmpty (e .disclose))) 16))
+
+-- "group and two-byte count", the low byte first
+unfoldable pub disclosureBytes : Disclosure → List ℕ
+disclosureBytes d = d .group ∷ countNumber (d .count) % 256 ∷ countNumber (d .count) / 256 % 256 ∷ []
+
+-- "a list: how many (1 to 64), then group and two-byte count", only where there is one
+unfoldable pub listBytes : List Disclosure → List ℕ
+listBytes [] = []
+listBytes (d ∷ ds) = length (d ∷ ds) ∷ gather disclosureBytes (d ∷ ds)
+
+unfoldable pub entryBytes : Entry → List ℕ
+entryBytes e =
+    e .kind ∷ length (e .component .path) ∷ (e .component .path ++ (mapOf e ∷ listBytes (e .disclose)))
+
+unfoldable pub interfaceBytes : List Entry → List ℕ
+interfaceBytes es = gather entryBytes es

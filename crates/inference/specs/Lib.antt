@@ -1,0 +1,8 @@
+-- What the contracts of typing and inference cite: a component's path and number, questions 7 to 10, "What an act needs", and
+-- the interface.
+pub mod Lists
+pub mod Counts
+pub mod Acts
+pub mod Typing
+pub mod Needs
+pub mod Interface

@@ -1,0 +1,77 @@
+-- Question 11: "does the charter read, in its ranges, to its end?" Every fault of the stored form is question 11.
+use Prim.Native.Nat.{ℕ, zero, suc, _+_, _*_}
+use mathlib.Core.List.{List, [], _∷_}
+use mathlib.Core.Bool.{Bool, true, false, cond, _&&_, _||_}
+use lib.ListN.{length}
+use lib.Dec.{ltb, leb, eqb}
+use Rattle.reading.specs.Read.{Read, got, refused, andThen, byteAt, below}
+use Rattle.reading.specs.System.{toItsEnd}
+use Rattle.policy.specs.Syntax.{Granted, Permissions, Node, Nodes, none, more, Tree, hasBit, heads}
+
+unfoldable pub asEleven : {A : Type 0} → Read A → Read A
+asEleven (got a next) = got a next
+asEleven (refused question at) = refused 11 at
+
+-- what must hold of what was read at a place
+unfoldable pub must : {A : Type 0} → Bool → ℕ → Read A → Read A
+must true at r = r
+must false at r = refused 11 at
+
+-- "two-byte numbers have the low byte first"
+unfoldable pub twoBytes : List ℕ → ℕ → Read ℕ
+twoBytes s at = andThen (byteAt s at) (λ low m. andThen (byteAt s m) (λ high k. got (low + 256 * high) k))
+
+-- "Finite counts are 1 to 4,095; 65,535 is unlimited."
+unfoldable pub isCount : ℕ → Bool
+isCount n = (leb 1 n && leb n 4095) || eqb n 65535
+
+-- "group and two-byte count, groups strictly rising": no group below `lowest`
+unfoldable pub readList : ℕ → List ℕ → ℕ → ℕ → Read (List Granted)
+readList zero s lowest at = got [] at
+readList (suc n) s lowest at =
+    andThen (below 64 s at) (λ g m. must (leb lowest g) at
+    (andThen (twoBytes s m) (λ c k. must (isCount c) m
+    (andThen (readList n s (g + 1) k) (λ rest e. got (record { group = g; count = c } ∷ rest) e)))))
+
+-- "a list: how many (1 to 64), then group and two-byte count"
+unfoldable pub countedList : List ℕ → ℕ → Read (List Granted)
+countedList s at = andThen (below 65 s at) (λ n m. must (ltb 0 n) at (readList n s 0 m))
+
+-- "a permission map .., and only if bit 4 stands a list"; "map bits 5 to 7 zero"
+unfoldable pub readPermissions : List ℕ → ℕ → Read Permissions
+readPermissions s at =
+    andThen (below 32 s at) (λ map m.
+    andThen (cond (hasBit 16 map) (countedList s m) (got [] m)) (λ list k. got (record { map = map; list = list }) k))
+
+-- `count` children, one after another; `read used at` reads one, where `used` nodes stand before it.
+unfoldable pub children : (ℕ → ℕ → Read Node) → ℕ → ℕ → ℕ → Read Nodes
+children read zero used at = got none at
+children read (suc n) used at =
+    andThen (read used at) (λ first m.
+    andThen (children read n (used + length (heads first)) m) (λ rest k.
+    got (more (first .group) (first .permissions) (first .below) rest) k))
+
+-- "A node: group, permission map with its list, count of children, children. At most 64 nodes in all, nodes nested at most
+-- 8 deep": `depth` more may be nested, and `used` nodes stand before this one.
+unfoldable pub readNode : ℕ → List ℕ → ℕ → ℕ → Read Node
+readNode zero s used at = refused 11 at
+readNode (suc depth) s used at =
+    must (ltb used 64) at
+    (andThen (below 64 s at) (λ g m.
+    andThen (readPermissions s m) (λ p k.
+    andThen (byteAt s k) (λ n e.
+    andThen (children (λ u i. readNode depth s u i) n (used + 1) e) (λ nodes end.
+    got (record { group = g; permissions = p; below = nodes }) end)))))
+
+-- `count` trees, one after another
+unfoldable pub readTrees : ℕ → List ℕ → ℕ → ℕ → Read (List Tree)
+readTrees zero s used at = got [] at
+readTrees (suc n) s used at =
+    andThen (below 16 s at) (λ kind m.
+    andThen (readNode 8 s used m) (λ root k.
+    andThen (readTrees n s (used + length (heads root)) k) (λ rest e. got (record { kind = kind; root = root } ∷ rest) e)))
+
+-- "A count of trees (0 to 16); each tree is a kind and a node", to its end.
+unfoldable pub readPolicy : List ℕ → Read (List Tree)
+readPolicy s =
+    asEleven (andThen (below 17 s 0) (λ n m. andThen (readTrees n s 0 m) (λ trees k. toItsEnd s trees k)))

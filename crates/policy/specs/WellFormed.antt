@@ -1,0 +1,65 @@
+-- Questions 12 to 15, each put to the whole policy.
+use Prim.Native.Nat.{ℕ}
+use mathlib.Core.List.{List, [], _∷_, _++_, map}
+use mathlib.Core.Bool.{Bool, true, false, not, _&&_, _||_}
+use lib.Dec.{eqb}
+use Rattle.reading.specs.Forms.{member}
+use Rattle.inference.specs.Lists.{every, gather}
+use Rattle.policy.specs.Syntax.{Granted, Permissions, Node, Nodes, none, more, Tree, Head, hasBit, alone, heads, headsOf}
+
+unfoldable pub distinct : List ℕ → Bool
+distinct [] = true
+distinct (x ∷ xs) = not (member x xs) && distinct xs
+
+-- 12: "kinds distinct?"
+unfoldable pub kindsDistinct : List Tree → Bool
+kindsDistinct trees = distinct (map (λ t. t .kind) trees)
+
+-- 13: "no node's group at a node above it?"; `above` holds the groups of the nodes above.
+unfoldable pub newBelow : List ℕ → Nodes → Bool
+newBelow above none = true
+newBelow above (more g p below rest) = not (member g above) && (newBelow (g ∷ above) below && newBelow above rest)
+
+unfoldable pub noneAbove : List Tree → Bool
+noneAbove trees = every (λ t. newBelow [] (alone (t .root))) trees
+
+unfoldable pub sameList : List Granted → List Granted → Bool
+sameList [] [] = true
+sameList [] (d ∷ ds) = false
+sameList (c ∷ cs) [] = false
+sameList (c ∷ cs) (d ∷ ds) = (eqb (c .group) (d .group) && eqb (c .count) (d .count)) && sameList cs ds
+
+unfoldable pub samePermissions : Permissions → Permissions → Bool
+samePermissions p q = eqb (p .map) (q .map) && sameList (p .list) (q .list)
+
+-- Two nodes of one group have the same map and list.
+unfoldable pub agree : Head → Head → Bool
+agree a b = not (eqb (a .group) (b .group)) || samePermissions (a .permissions) (b .permissions)
+
+unfoldable pub allAgree : List Head → Bool
+allAgree [] = true
+allAgree (a ∷ later) = every (agree a) later && allAgree later
+
+-- 14: "no node whose group stands at an earlier node of its tree with another map or list?"
+unfoldable pub sameHeads : List Tree → Bool
+sameHeads trees = every (λ t. allAgree (heads (t .root))) trees
+
+-- the groups that nodes disclose to
+unfoldable pub disclosedTo : List Head → List ℕ
+disclosedTo hs = gather (λ h. map (λ d. d .group) (h .permissions .list)) hs
+
+unfoldable pub groupsAt : List Head → List ℕ
+groupsAt hs = map (λ h. h .group) hs
+
+-- 15: "where a node has nondisclose, is every group disclosed to by nodes below it (the node itself not asked) a group of it or
+-- of a node below it?"
+unfoldable pub keepsWithin : ℕ → Permissions → Nodes → Bool
+keepsWithin g p below =
+    not (hasBit 8 (p .map)) || every (λ h. member h (g ∷ groupsAt (headsOf below))) (disclosedTo (headsOf below))
+
+unfoldable pub allKeep : Nodes → Bool
+allKeep none = true
+allKeep (more g p below rest) = keepsWithin g p below && (allKeep below && allKeep rest)
+
+unfoldable pub fenced : List Tree → Bool
+fenced trees = every (λ t. allKeep (alone (t .root))) trees

@@ -1,0 +1,50 @@
+-- What the worked cases share: all definitions that they compute with, under one name (a case says `unfolding computed`), and
+-- the form of a row.
+use Prim.Native.Nat.{ℕ}
+use mathlib.Core.List.{List, _++_}
+use lib.ListN.{length, drop, replicate}
+use Rattle.reading.specs.Read.{andThen, byteAt, below}
+use Rattle.reading.specs.Types.{channel, shape, groupsThenKind, typeAt}
+use Rattle.reading.specs.Syntax.{components}
+use Rattle.reading.specs.Forms.{member, limited, newForm, inputForm, outputForm, freshGroup, groupForm, componentForm, processForm, processAt, systemForm, systemAt}
+use Rattle.reading.specs.System.{processFrom, readProcess, systemFrom, readSystem, freeTypes, header, toItsEnd, readSheet, sheetOf}
+use Rattle.inference.specs.Lists.{every, any, only, gather, rising}
+use Rattle.inference.specs.Counts.{_⊕_, atMost, isZero, repeatedly, countNumber}
+use Rattle.inference.specs.Acts.{locate, located, acts, actsOf, sheetActs}
+use Rattle.inference.specs.Typing.{isKnown, ofShape, ofChannel, isType, inScope, onChannel, carriesObject, inPath}
+use Rattle.inference.specs.Needs.{linkNeed, carriedNeed, channelNeed, need, needOn, needOf, isRead, isWrite, isAccess, disclosures, weigh, total, disclosed}
+use Rattle.inference.specs.Interface.{disclosuresOf, entryOf, isEmpty, holdsAny, entriesOf, interface, flagged, permissions, bit, mapOf, disclosureBytes, listBytes, entryBytes, interfaceBytes}
+use Rattle.policy.specs.Syntax.{hasBit, alone, headsOf, heads}
+use Rattle.policy.specs.Reading.{asEleven, must, twoBytes, isCount, readList, countedList, readPermissions, children, readNode, readTrees, readPolicy}
+use Rattle.policy.specs.WellFormed.{distinct, kindsDistinct, newBelow, noneAbove, sameList, samePermissions, agree, allAgree, sameHeads, disclosedTo, groupsAt, keepsWithin, allKeep, fenced}
+use Rattle.policy.specs.Grants.{reachedAmong, reached, treeFor, reachedIn, reachedFor, givenBy, flagGranted, storedCount, listed, joined, countGranted}
+use Rattle.policy.specs.Satisfies.{isTree, hasTree, pathReached, grantsOne, covered}
+use Rattle.service.specs.Questions.{passed, failed, ask, afterReading, typed, wellFormed, satisfied, judged}
+use Rattle.service.specs.Check.{Outcome, fitting, interfaceFor, written, checked}
+
+unfoldable pub computed : Unit {0}
+unfolding andThen byteAt below channel shape groupsThenKind typeAt components member limited newForm inputForm outputForm freshGroup groupForm componentForm processForm processAt systemForm systemAt processFrom readProcess systemFrom readSystem freeTypes header toItsEnd readSheet sheetOf every any only gather rising _⊕_ atMost isZero repeatedly countNumber locate located acts actsOf sheetActs isKnown ofShape ofChannel isType inScope onChannel carriesObject inPath linkNeed carriedNeed channelNeed need needOn needOf isRead isWrite isAccess disclosures weigh total disclosed disclosuresOf entryOf isEmpty holdsAny entriesOf interface flagged permissions bit mapOf disclosureBytes listBytes entryBytes interfaceBytes hasBit alone headsOf heads asEleven must twoBytes isCount readList countedList readPermissions children readNode readTrees readPolicy distinct kindsDistinct newBelow noneAbove sameList samePermissions agree allAgree sameHeads disclosedTo groupsAt keepsWithin allKeep fenced reachedAmong reached treeFor reachedIn reachedFor givenBy flagGranted storedCount listed joined countGranted isTree hasTree pathReached grantsOne covered ask afterReading typed wellFormed satisfied judged fitting interfaceFor written checked
+computed = tt
+
+-- What a row wants: the bytes written, or the number of the question that fails.
+pub data Wanted : Type 0 where
+  writes : List ℕ → Wanted
+  refuses : ℕ → Wanted
+
+pub data Row : Type 0 where
+  -- sheet, charter, what is wanted
+  row : List ℕ → List ℕ → Wanted → Row
+
+-- sixteen bytes that a call is lent
+abbrev pub output : List ℕ
+output = replicate 16 0xAA
+
+abbrev pub got : Row → Outcome
+got (row sheet charter want) = checked sheet charter output
+
+abbrev pub outcome : Wanted → Outcome
+outcome (writes bytes) = record { answer = passed (length bytes); lent = bytes ++ drop (length bytes) output }
+outcome (refuses number) = record { answer = failed number; lent = output }
+
+abbrev pub wanted : Row → Outcome
+wanted (row sheet charter want) = outcome want

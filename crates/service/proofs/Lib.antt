@@ -1,0 +1,4 @@
+-- The worked cases, on the definitions of specs/.
+pub mod Computed
+pub mod Table
+pub mod Cases

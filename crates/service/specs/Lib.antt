@@ -1,0 +1,3 @@
+-- What the contracts of the services cite: document 01's "Questions, in order".
+pub mod Questions
+pub mod Check

@@ -1,0 +1,1 @@
+// The services over encoded systems and policies.
