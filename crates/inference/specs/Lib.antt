@@ -6,3 +6,7 @@ pub mod Acts
 pub mod Typing
 pub mod Needs
 pub mod Interface
+pub mod Told
+pub mod Rows
+pub mod Writes
+pub mod Walks

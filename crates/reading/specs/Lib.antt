@@ -4,4 +4,5 @@ pub mod Types
 pub mod Syntax
 pub mod Forms
 pub mod System
+pub mod Total
 pub mod Told

@@ -1,0 +1,77 @@
+-- What the walk over a sheet finds and writes, in terms of the acts of the tree that it walks.
+use Prim.Native.Nat.{ℕ, _+_, _≤_, min}
+use mathlib.Core.Path.{_≡_}
+use mathlib.Core.List.{List, [], _∷_}
+use mathlib.Core.Bool.{Bool, true, false, cond, _&&_}
+use mathlib.Core.Option.{Option, some, none}
+use lib.ListN.{take}
+use Rattle.reading.specs.Read.{got}
+use Rattle.reading.specs.Syntax.{Process, System, Sheet, components}
+use Rattle.reading.specs.System.{freeTypes}
+use Rattle.reading.specs.declared.Number.{Number}
+use Rattle.reading.specs.Forms.{member}
+use Rattle.reading.specs.Total.{Grown}
+use Rattle.inference.specs.declared.Walk.{Walk}
+use Rattle.inference.specs.declared.SystemWalk.{SystemWalk}
+use Rattle.inference.specs.Acts.{Act, Component, Located, acts, actsOf, locate, located}
+use Rattle.inference.specs.Typing.{isKnown, ofChannel, isType}
+use Rattle.inference.specs.Needs.{needOf}
+use Rattle.inference.specs.Rows.{charge, withPath}
+
+-- The first of questions 7 to 10 that an act fails, or 11: the tests of Typing.antt, one after another.
+unfoldable pub fault : Option ℕ → Option ℕ → List ℕ → ℕ
+fault channel object path =
+    cond (isKnown channel && isKnown object)
+    (cond (ofChannel (λ g t. true) channel)
+    (cond (ofChannel (λ g t. isType t object) channel)
+    (cond (ofChannel (λ g t. member g path) channel) 11 10) 9) 8) 7
+
+unfoldable pub faultOf : Act → ℕ
+faultOf a = fault (a .channel) (a .object) (a .component .path)
+
+-- The first question that any of the acts fails, or 11.
+unfoldable pub worst : List Act → ℕ
+worst [] = 11
+worst (a ∷ rest) = min (faultOf a) (worst rest)
+
+-- The table after acts.
+unfoldable pub charged : List ℕ → List Act → List ℕ
+charged table [] = table
+charged table (a ∷ rest) = charged (charge table (a .component .number) (needOf a) (a .repeated)) rest
+
+-- The table after components: each one's path, then its acts.
+unfoldable pub chargedAll : List ℕ → List Located → List ℕ
+chargedAll table [] = table
+chargedAll table (l ∷ rest) =
+    chargedAll (charged (withPath table (l .component .number) (l .component .path)) (actsOf l)) rest
+
+-- The first question that any of the components' acts fails, or 11.
+unfoldable pub worstAll : List Located → ℕ
+worstAll [] = 11
+worstAll (l ∷ rest) = min (worst (actsOf l)) (worstAll rest)
+
+-- A walk over a process: `walked` are its acts.
+pub record Inferred (t : Grown Process) (walked : List Act) (names : ℕ) (scope scope′ table table′ : List ℕ) (r : Walk) : Type 0 where
+  pub place : r .next ≡ t .next
+  pub first : r .fault ≡ worst walked
+  pub counted : table′ ≡ charged table walked
+  pub kept : take names scope′ ≡ take names scope
+
+-- A walk over a system: `ls` are its components, `before` the number of those before it.
+pub record InferredSystem (t : Grown System) (ls : List Located) (before names : ℕ) (scope scope′ table table′ : List ℕ) (r : SystemWalk) : Type 0 where
+  pub place : r .next ≡ t .next
+  pub first : r .fault ≡ worstAll ls
+  pub number : r .components ≡ before + components (t .tree)
+  pub counted : table′ ≡ chargedAll table ls
+  pub kept : take names scope′ ≡ take names scope
+
+-- What a whole sheet's walk finds and writes.
+pub record InferredSheet (sheet : Sheet) (table table′ : List ℕ) (r : SystemWalk) : Type 0 where
+  pub first : r .fault ≡ worstAll (located sheet)
+  pub number : r .components ≡ components (sheet .system)
+  pub counted : table′ ≡ chargedAll table (located sheet)
+
+-- Stored types that were bound from level 0 on, where they can be read.
+pub record LoadedTypes (count : ℕ) (s : List ℕ) (at : ℕ) (scope : List ℕ) (r : Number) : Type 0 where
+  pub loaded : (ts : List ℕ) (next : ℕ) → count ≤ 64 → freeTypes count s at ≡ got ts next
+      → (r .value ≡ count) × (r .next ≡ next) × (take count scope ≡ ts)

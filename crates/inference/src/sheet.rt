@@ -1,0 +1,63 @@
+// Typing and inference of a whole sheet.
+ghost use mathlib.Core.Path.{_≡_};
+ghost use Prim.Native.Nat.{ℕ};
+ghost use lib.ListN.{length, take};
+ghost use Rattle.reading.specs.Syntax.{Sheet};
+ghost use Rattle.reading.specs.Read.{got};
+ghost use Rattle.reading.specs.System.{readSheet, header};
+ghost use Rattle.inference.specs.Walks.{InferredSheet, LoadedTypes};
+
+use crate::scope::bind;
+use crate::walk::infer_system;
+use crate::Spot;
+use crate::SystemWalk;
+use reading::bytes::byte_below;
+use reading::paths;
+use reading::types::type_at;
+use reading::Number;
+use reading::NumberRead;
+
+// Binds the types that stand from a place on, `count` of them; the number bound and the place after them.
+fn load_types(s: &[u8], at: usize, count: usize, scope: &mut [usize]) -> Number
+    requires { ⌜ length (now scope) ≡ 64 ⌝ }
+    ensures { λ r. ⌜ LoadedTypes count (now (s .entry)) at (now (scope .exit)) r ⌝ }
+{
+    let mut next = at;
+    let mut names: usize = 0;
+    while names < count {
+        let read = type_at(s, next);
+        let NumberRead::Found(t) = read else {
+            return Number { value: names, next };
+        };
+        bind(scope, names, t.value);
+        next = t.next;
+        names += 1;
+    }
+    Number { value: names, next }
+}
+
+// Binds the free names of a sheet.
+fn load_free(s: &[u8], scope: &mut [usize]) -> Number
+    requires { ⌜ length (now scope) ≡ 64 ⌝ }
+    ensures { λ r. ⌜ ((free : List ℕ) (at : ℕ) → header (now (s .entry)) ≡ got free at → (r .value ≡ length free) × (r .next ≡ at) × (take (length free) (now (scope .exit)) ≡ free)) ⌝ }
+{
+    let read = byte_below(s, 0, 33);
+    let NumberRead::Found(count) = read else {
+        return Number { value: 0, next: 0 };
+    };
+    load_types(s, count.next, count.value, scope)
+}
+
+// Types and infers a sheet that passes questions 1 to 6; the table must be clear.
+pub fn infer(s: &[u8], table: &mut [u16]) -> SystemWalk
+    ensures { λ r. ⌜ ((sheet : Sheet) (end : ℕ) → readSheet (now (s .entry)) ≡ got sheet end → InferredSheet sheet (now (table .entry)) (now (table .exit)) r) ⌝ }
+{
+    let mut scope = [0usize; 64];
+    let free = load_free(s, &mut scope);
+    let spot = Spot {
+        at: free.next,
+        nest: 64,
+        names: free.value,
+    };
+    infer_system(s, spot, paths::empty(), 0, &mut scope, table)
+}

@@ -1,0 +1,102 @@
+// Questions 16 to 18: does the policy satisfy the interface that a table of components holds?
+use crate::grants::all_given;
+use crate::grants::count_granted;
+use crate::grants::flag_granted;
+use crate::grants::givers;
+use crate::grants::root_for;
+use crate::Givers;
+use crate::Total;
+use inference::interface::count_at;
+use inference::interface::map_at;
+use inference::rows::path_of;
+
+fn within(needed: usize, granted: Total) -> bool {
+    if granted.unlimited {
+        return true;
+    }
+    if needed == 65535 {
+        return false;
+    }
+    needed <= granted.sum
+}
+
+fn flag_covered(needed: usize, nodes: &[usize], givers: Givers, value: usize) -> bool {
+    if needed == 0 {
+        return true;
+    }
+    flag_granted(nodes, givers, value)
+}
+
+fn flags_covered(table: &[u16], component: usize, kind: usize, nodes: &[usize], givers: Givers) -> bool {
+    if !flag_covered(count_at(table, component, kind, 64), nodes, givers, 1) {
+        return false;
+    }
+    if !flag_covered(count_at(table, component, kind, 65), nodes, givers, 2) {
+        return false;
+    }
+    flag_covered(count_at(table, component, kind, 66), nodes, givers, 4)
+}
+
+fn counts_covered(c: &[u8], table: &[u16], component: usize, kind: usize, nodes: &[usize], givers: Givers) -> bool {
+    let mut group: usize = 0;
+    while group < 64 {
+        let needed = count_at(table, component, kind, group);
+        if needed != 0 {
+            if !within(needed, count_granted(c, nodes, givers, group)) {
+                return false;
+            }
+        }
+        group += 1;
+    }
+    true
+}
+
+// The first of questions 16 to 18 that the entry of a component and a kind fails, or 19.
+fn entry_fault(c: &[u8], nodes: &[usize], count: usize, table: &[u16], component: usize, kind: usize) -> usize {
+    if map_at(table, component, kind) == 0 {
+        return 19;
+    }
+    let root = root_for(nodes, count, kind);
+    if root == count {
+        return 16;
+    }
+    let found = givers(nodes, count, root, path_of(table, component));
+    if !all_given(found) {
+        return 17;
+    }
+    if !flags_covered(table, component, kind, nodes, found) {
+        return 18;
+    }
+    if counts_covered(c, table, component, kind, nodes, found) {
+        19
+    } else {
+        18
+    }
+}
+
+fn row_fault(c: &[u8], nodes: &[usize], count: usize, table: &[u16], component: usize) -> usize {
+    let mut first: usize = 19;
+    let mut kind: usize = 0;
+    while kind < 16 {
+        let fault = entry_fault(c, nodes, count, table, component, kind);
+        if fault < first {
+            first = fault;
+        }
+        kind += 1;
+    }
+    first
+}
+
+// The first of questions 16 to 18 that any entry fails, or 19.
+pub fn fit(c: &[u8], nodes: &[usize], count: usize, table: &[u16], components: usize) -> usize {
+    let mut first: usize = 19;
+    let mut component: usize = 0;
+    while component < components {
+        let fault = row_fault(c, nodes, count, table, component);
+        if fault < first {
+            first = fault;
+        }
+        component += 1;
+    }
+    first
+}
