@@ -4,3 +4,5 @@ pub mod Reading
 pub mod WellFormed
 pub mod Grants
 pub mod Satisfies
+pub mod Rows
+pub mod Loads

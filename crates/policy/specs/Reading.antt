@@ -25,13 +25,17 @@ twoBytes s at = andThen (byteAt s at) (λ low m. andThen (byteAt s m) (λ high k
 unfoldable pub isCount : ℕ → Bool
 isCount n = (leb 1 n && leb n 4095) || eqb n 65535
 
--- "group and two-byte count, groups strictly rising": no group below `lowest`
+-- "group and two-byte count", the group not below `lowest`
+unfoldable pub itemAt : List ℕ → ℕ → ℕ → Read Granted
+itemAt s lowest at =
+    andThen (below 64 s at) (λ g m. must (leb lowest g) at
+    (andThen (twoBytes s m) (λ c k. must (isCount c) m (got (record { group = g; count = c }) k))))
+
+-- "groups strictly rising"
 unfoldable pub readList : ℕ → List ℕ → ℕ → ℕ → Read (List Granted)
 readList zero s lowest at = got [] at
 readList (suc n) s lowest at =
-    andThen (below 64 s at) (λ g m. must (leb lowest g) at
-    (andThen (twoBytes s m) (λ c k. must (isCount c) m
-    (andThen (readList n s (g + 1) k) (λ rest e. got (record { group = g; count = c } ∷ rest) e)))))
+    andThen (itemAt s lowest at) (λ d m. andThen (readList n s (d .group + 1) m) (λ rest k. got (d ∷ rest) k))
 
 -- "a list: how many (1 to 64), then group and two-byte count"
 unfoldable pub countedList : List ℕ → ℕ → Read (List Granted)

@@ -1,15 +1,20 @@
 // Questions 16 to 18: does the policy satisfy the interface that a table of components holds?
+ghost use mathlib.Core.Path.{_≡_};
+
 use crate::grants::all_given;
 use crate::grants::count_granted;
 use crate::grants::flag_granted;
 use crate::grants::givers;
-use crate::grants::root_for;
+use crate::grants::tree_for;
+use crate::wellformed::span_of;
 use crate::Givers;
 use crate::Total;
+use crate::Trees;
 use inference::interface::count_at;
 use inference::interface::map_at;
 use inference::rows::path_of;
 
+// Is a needed count at most a granted sum?
 fn within(needed: usize, granted: Total) -> bool {
     if granted.unlimited {
         return true;
@@ -52,15 +57,15 @@ fn counts_covered(c: &[u8], table: &[u16], component: usize, kind: usize, nodes:
 }
 
 // The first of questions 16 to 18 that the entry of a component and a kind fails, or 19.
-fn entry_fault(c: &[u8], nodes: &[usize], count: usize, table: &[u16], component: usize, kind: usize) -> usize {
+fn entry_fault(c: &[u8], nodes: &[usize], trees: Trees, table: &[u16], component: usize, kind: usize) -> usize {
     if map_at(table, component, kind) == 0 {
         return 19;
     }
-    let root = root_for(nodes, count, kind);
-    if root == count {
+    let t = tree_for(trees, kind);
+    if trees.len <= t {
         return 16;
     }
-    let found = givers(nodes, count, root, path_of(table, component));
+    let found = givers(nodes, span_of(trees, t), path_of(table, component));
     if !all_given(found) {
         return 17;
     }
@@ -74,28 +79,27 @@ fn entry_fault(c: &[u8], nodes: &[usize], count: usize, table: &[u16], component
     }
 }
 
-fn row_fault(c: &[u8], nodes: &[usize], count: usize, table: &[u16], component: usize) -> usize {
+fn least(a: usize, b: usize) -> usize {
+    if a < b { a } else { b }
+}
+
+// The first that an entry of a component fails, or 19.
+fn row_fault(c: &[u8], nodes: &[usize], trees: Trees, table: &[u16], component: usize) -> usize {
     let mut first: usize = 19;
     let mut kind: usize = 0;
     while kind < 16 {
-        let fault = entry_fault(c, nodes, count, table, component, kind);
-        if fault < first {
-            first = fault;
-        }
+        first = least(first, entry_fault(c, nodes, trees, table, component, kind));
         kind += 1;
     }
     first
 }
 
 // The first of questions 16 to 18 that any entry fails, or 19.
-pub fn fit(c: &[u8], nodes: &[usize], count: usize, table: &[u16], components: usize) -> usize {
+pub fn fit(c: &[u8], nodes: &[usize], trees: Trees, table: &[u16], components: usize) -> usize {
     let mut first: usize = 19;
     let mut component: usize = 0;
     while component < components {
-        let fault = row_fault(c, nodes, count, table, component);
-        if fault < first {
-            first = fault;
-        }
+        first = least(first, row_fault(c, nodes, trees, table, component));
         component += 1;
     }
     first

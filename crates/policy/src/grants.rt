@@ -1,69 +1,65 @@
 // What a policy grants a component: the nodes that its path reaches in the tree of a kind, and what they give together.
+ghost use mathlib.Core.Path.{_≡_};
+
+use crate::nodes::byte_in;
 use crate::nodes::node_at;
-use crate::read::two_bytes;
+use crate::nodes::word_in;
+use crate::wellformed::has_bit;
 use crate::Givers;
-use crate::Node;
 use crate::Permissions;
+use crate::Span;
 use crate::Total;
+use crate::Trees;
 use reading::paths;
-use reading::NumberRead;
 use reading::Path;
 
-// The row of the root of a kind's tree, or `count` where there is none.
-pub fn root_for(nodes: &[usize], count: usize, kind: usize) -> usize {
-    let mut i: usize = 0;
-    while i < count {
+// The tree of a kind: its number, or the number of trees where there is none.
+pub fn tree_for(trees: Trees, kind: usize) -> usize {
+    let kinds = trees.kinds;
+    let mut t: usize = 0;
+    while t < trees.len {
+        if kinds[t] == kind {
+            return t;
+        }
+        t += 1;
+    }
+    t
+}
+
+// The row of the first node of a group that a path reaches in a tree, or 64.
+fn giver(nodes: &[usize], tree: Span, path: Path, group: usize) -> usize {
+    let mut limit: usize = 0;
+    let mut i = tree.from;
+    while i < tree.to {
         let node = node_at(nodes, i);
-        if node.depth == 0 {
-            if node.kind == kind {
-                return i;
+        if node.depth <= limit {
+            if paths::has(path, node.group) {
+                if node.group == group {
+                    return i;
+                }
+                limit = node.depth + 1;
+            } else {
+                limit = node.depth;
             }
         }
         i += 1;
     }
-    count
+    64
 }
 
-// A row for a group of the path, where none is given yet.
-fn given(givers: Givers, path: Path, group: usize, row: usize) -> Givers {
+// What gives to a path in a tree.
+pub fn givers(nodes: &[usize], tree: Span, path: Path) -> Givers {
     let groups = path.groups;
-    let mut rows = givers.rows;
+    let len = path.len;
+    let mut rows = [64usize; 8];
     let mut i: usize = 0;
     while i < 8 {
-        if groups[i] == group {
-            if rows[i] == 64 {
-                rows[i] = row;
-            }
+        if i < len {
+            rows[i] = giver(nodes, tree, path, groups[i]);
         }
         i += 1;
     }
-    Givers { rows, len: path.len }
-}
-
-// The rows that give to a path: for each of its groups the first reached node of the tree that begins at `root`.
-pub fn givers(nodes: &[usize], count: usize, root: usize, path: Path) -> Givers {
-    let mut found = Givers { rows: [64; 8], len: path.len };
-    let mut limit: usize = 0;
-    let mut i = root;
-    while i < count {
-        let node = node_at(nodes, i);
-        let depth = node.depth;
-        if depth == 0 {
-            if root < i {
-                return found;
-            }
-        }
-        if depth <= limit {
-            if paths::has(path, node.group) {
-                found = given(found, path, node.group, i);
-                limit = depth + 1;
-            } else {
-                limit = depth;
-            }
-        }
-        i += 1;
-    }
-    found
+    Givers { rows, len }
 }
 
 // Is each group of the path at a reached node?
@@ -75,12 +71,25 @@ pub fn all_given(givers: Givers) -> bool {
         if len <= i {
             return true;
         }
-        if rows[i] == 64 {
+        if 64 <= rows[i] {
             return false;
         }
         i += 1;
     }
     true
+}
+
+// What a row gives; nothing at 64.
+fn given_at(nodes: &[usize], row: usize) -> Permissions {
+    if row < 64 {
+        node_at(nodes, row).permissions
+    } else {
+        Permissions {
+            map: 0,
+            list: 0,
+            count: 0,
+        }
+    }
 }
 
 // Is a flag granted?
@@ -92,36 +101,27 @@ pub fn flag_granted(nodes: &[usize], givers: Givers, value: usize) -> bool {
         if len <= i {
             return false;
         }
-        let row = rows[i];
-        if row < 64 {
-            if node_at(nodes, row).permissions.map / value % 2 != 0 {
-                return true;
-            }
+        if has_bit(given_at(nodes, rows[i]).map, value) {
+            return true;
         }
         i += 1;
     }
     false
 }
 
-// The count for a group in a list, 0 where it is absent.
+// The stored count for a group in a list, 0 where it is absent.
 fn listed(c: &[u8], p: Permissions, group: usize) -> usize {
     let mut i: usize = 0;
     while i < p.count {
-        let at = p.list + 3 * i;
-        if at < c.len() {
-            if c[at] as usize == group {
-                let read = two_bytes(c, at + 1);
-                let NumberRead::Found(n) = read else {
-                    return 0;
-                };
-                return n.value;
-            }
+        if byte_in(c, p.list + 3 * i) == group {
+            return word_in(c, p.list + 3 * i + 1);
         }
         i += 1;
     }
     0
 }
 
+// A stored count joined to a sum; 65,535 is unlimited.
 fn join(total: Total, count: usize) -> Total {
     if count == 65535 {
         Total {
@@ -149,11 +149,7 @@ pub fn count_granted(c: &[u8], nodes: &[usize], givers: Givers, group: usize) ->
         if len <= i {
             return total;
         }
-        let row = rows[i];
-        if row < 64 {
-            let node = node_at(nodes, row);
-            total = join(total, listed(c, node.permissions, group));
-        }
+        total = join(total, listed(c, given_at(nodes, rows[i]), group));
         i += 1;
     }
     total

@@ -1,5 +1,5 @@
 // Policies (document 01: charters): their reading, questions 11 to 15, and whether they satisfy an interface, questions 16 to
-// 18. A policy that is read stands in a table of nodes, in reading order.
+// 18. The nodes of a policy that is read stand in a table, in reading order.
 pub mod fit;
 pub mod grants;
 pub mod nodes;
@@ -26,12 +26,26 @@ pub enum PermissionsRead {
     Refused(Refusal),
 }
 
-// A node of the table: its group, its permissions, how many nodes stand above it, and the kind of its tree.
+// A node of the table: its group, its permissions, and how many nodes stand above it.
 pub struct Node {
     pub group: usize,
     pub permissions: Permissions,
     pub depth: usize,
-    pub kind: usize,
+}
+
+// The trees of a policy: how many, and for each its kind and the table's row after its last node. Where the policy does not
+// read, `reads` is false.
+pub struct Trees {
+    pub reads: bool,
+    pub len: usize,
+    pub kinds: [usize; 16],
+    pub ends: [usize; 16],
+}
+
+// The rows of one tree: from its root's row up to `to`.
+pub struct Span {
+    pub from: usize,
+    pub to: usize,
 }
 
 // A sum of counts.
@@ -40,7 +54,7 @@ pub struct Total {
     pub sum: usize,
 }
 
-// For each group of a path the table's row of its first reached node, or 64.
+// What gives to a path: for each of its groups the row of the group's first reached node, or 64.
 pub struct Givers {
     pub rows: [usize; 8],
     pub len: usize,

@@ -1,15 +1,24 @@
-// The table of a policy's nodes, in lent memory: a row of six cells for each node, at most 64 rows.
+// The table of a policy's nodes, in lent memory: a row of five cells for each node, at most 64 rows.
+ghost use mathlib.Core.Path.{_≡_};
+ghost use Prim.Native.Nat.{_<_, _≤_, _+_, _*_};
+ghost use lib.ListN.{getD, set};
+ghost use Rattle.policy.specs.Rows.{nodeAt, withNode, wordIn};
+
 use crate::Node;
 use crate::Permissions;
 
-fn cell(nodes: &[usize], at: usize) -> usize {
+fn cell(nodes: &[usize], at: usize) -> usize
+    ensures { λ r. ⌜ r ≡ getD (now (nodes .entry)) at 0 ⌝ }
+{
     if at < nodes.len() { nodes[at] } else { 0 }
 }
 
 // The node in a row.
 pub fn node_at(nodes: &[usize], row: usize) -> Node
+    requires { ⌜ row ≤ 64 ⌝ }
+    ensures { λ r. ⌜ r ≡ nodeAt (now (nodes .entry)) row ⌝ }
 {
-    let base = row * 6;
+    let base = row * 5;
     let permissions = Permissions {
         map: cell(nodes, base + 1),
         list: cell(nodes, base + 2),
@@ -19,23 +28,50 @@ pub fn node_at(nodes: &[usize], row: usize) -> Node
         group: cell(nodes, base),
         permissions,
         depth: cell(nodes, base + 4),
-        kind: cell(nodes, base + 5),
     }
 }
 
-fn put(nodes: &mut [usize], at: usize, value: usize) {
+fn put(nodes: &mut [usize], at: usize, value: usize)
+    ensures { λ r. ⌜ now (nodes .exit) ≡ set (now (nodes .entry)) at value ⌝ }
+{
     if at < nodes.len() {
         nodes[at] = value;
     }
 }
 
 // Stores a node in a row.
-pub fn store_node(nodes: &mut [usize], row: usize, node: Node) {
-    let base = row * 6;
+pub fn store_node(nodes: &mut [usize], row: usize, node: Node)
+    requires { ⌜ row < 64 ⌝ }
+    ensures { λ r. ⌜ now (nodes .exit) ≡ withNode (now (nodes .entry)) row node ⌝ }
+{
+    let base = row * 5;
+    let permissions = node.permissions;
     put(nodes, base, node.group);
-    put(nodes, base + 1, node.permissions.map);
-    put(nodes, base + 2, node.permissions.list);
-    put(nodes, base + 3, node.permissions.count);
+    put(nodes, base + 1, permissions.map);
+    put(nodes, base + 2, permissions.list);
+    put(nodes, base + 3, permissions.count);
     put(nodes, base + 4, node.depth);
-    put(nodes, base + 5, node.kind);
+}
+
+fn wide(b: u8) -> usize
+    ensures { λ r. ⌜ r ≡ b ⌝ }
+{
+    b as usize
+}
+
+// The byte at a place of a policy, 0 past its end.
+pub fn byte_in(c: &[u8], at: usize) -> usize
+    ensures { λ r. ⌜ r ≡ getD (now (c .entry)) at 0 ⌝ }
+    ensures { λ r. ⌜ r < 256 ⌝ }
+{
+    if at < c.len() { wide(c[at]) } else { 0 }
+}
+
+// The two-byte number at a place of a policy, the low byte first.
+pub fn word_in(c: &[u8], at: usize) -> usize
+    requires { ⌜ at < 1000000 ⌝ }
+    ensures { λ r. ⌜ r ≡ wordIn (now (c .entry)) at ⌝ }
+    ensures { λ r. ⌜ r < 65536 ⌝ }
+{
+    byte_in(c, at) + 256 * byte_in(c, at + 1)
 }

@@ -1,23 +1,36 @@
 // Reads a policy into the table of nodes: question 11.
+ghost use mathlib.Core.Path.{_≡_};
+ghost use mathlib.Core.List.{List};
+ghost use Prim.Native.Nat.{ℕ, _≤_, _<_, _-_};
+ghost use lib.ListN.{length, take};
+ghost use mathlib.Core.Bool.{false};
+ghost use Rattle.reading.specs.Told.{number, refusalOf};
+ghost use Rattle.policy.specs.Reading.{twoBytes, isCount, itemAt, readList, countedList, readPermissions, readNode, readPolicy};
+ghost use Rattle.policy.specs.Loads.{permissionsRead, whyOf, groupOnly, countOnly, nodeRead, childrenRead, Loaded, LoadedPolicy};
+
 use crate::nodes::store_node;
 use crate::Node;
 use crate::Permissions;
 use crate::PermissionsAt;
 use crate::PermissionsRead;
+use crate::Trees;
 use reading::bytes::byte_at;
 use reading::bytes::byte_below;
 use reading::bytes::refusal;
-use reading::End;
 use reading::Number;
 use reading::NumberRead;
 use reading::Refusal;
 
-fn fault(at: usize) -> NumberRead {
+fn fault(at: usize) -> NumberRead
+    ensures { λ r. ⌜ r ≡ NumberRead.Refused (record { question = 11; at = at }) ⌝ }
+{
     NumberRead::Refused(Refusal { question: 11, at })
 }
 
 // A two-byte number, the low byte first.
-pub fn two_bytes(c: &[u8], at: usize) -> NumberRead {
+fn two_bytes(c: &[u8], at: usize) -> NumberRead
+    ensures { λ r. ⌜ number r ≡ twoBytes (now (c .entry)) at ⌝ }
+{
     let first = byte_at(c, at);
     let NumberRead::Found(low) = first else {
         return first;
@@ -33,7 +46,9 @@ pub fn two_bytes(c: &[u8], at: usize) -> NumberRead {
 }
 
 // 1 to 4,095, or 65,535 for unlimited.
-fn is_count(n: usize) -> bool {
+fn is_count(n: usize) -> bool
+    ensures { λ r. ⌜ r ≡ isCount n ⌝ }
+{
     if n == 65535 {
         return true;
     }
@@ -44,7 +59,9 @@ fn is_count(n: usize) -> bool {
 }
 
 // An item of a disclose list, whose group is at least `lowest`; the number found is its group.
-fn item_at(c: &[u8], at: usize, lowest: usize) -> NumberRead {
+fn item_at(c: &[u8], at: usize, lowest: usize) -> NumberRead
+    ensures { λ r. ⌜ number r ≡ groupOnly (itemAt (now (c .entry)) lowest at) ⌝ }
+{
     let first = byte_below(c, at, 64);
     let NumberRead::Found(group) = first else {
         return first;
@@ -66,8 +83,10 @@ fn item_at(c: &[u8], at: usize, lowest: usize) -> NumberRead {
     }
 }
 
-// Reads past `count` items, groups strictly rising.
-fn read_list(c: &[u8], at: usize, count: usize) -> NumberRead {
+// Reads past `count` items, groups strictly rising; the number found is `count`.
+fn read_list(c: &[u8], at: usize, count: usize) -> NumberRead
+    ensures { λ r. ⌜ number r ≡ countOnly (readList count (now (c .entry)) 0 at) ⌝ }
+{
     let mut next = at;
     let mut lowest: usize = 0;
     let mut left = count;
@@ -84,7 +103,9 @@ fn read_list(c: &[u8], at: usize, count: usize) -> NumberRead {
 }
 
 // A counted list: 1 to 64 items.
-fn counted_list(c: &[u8], at: usize) -> NumberRead {
+fn counted_list(c: &[u8], at: usize) -> NumberRead
+    ensures { λ r. ⌜ number r ≡ countOnly (countedList (now (c .entry)) at) ⌝ }
+{
     let read = byte_below(c, at, 65);
     let NumberRead::Found(count) = read else {
         return read;
@@ -95,12 +116,16 @@ fn counted_list(c: &[u8], at: usize) -> NumberRead {
     read_list(c, count.next, count.value)
 }
 
-fn not_permissions(read: NumberRead) -> PermissionsRead {
+fn not_permissions(read: NumberRead) -> PermissionsRead
+    ensures { λ r. ⌜ r ≡ PermissionsRead.Refused (refusalOf read) ⌝ }
+{
     PermissionsRead::Refused(refusal(read))
 }
 
-// A permission map with its list.
-fn permissions_at(c: &[u8], at: usize) -> PermissionsRead {
+// A permission map with its list: where it stands, not what it holds.
+fn permissions_at(c: &[u8], at: usize) -> PermissionsRead
+    ensures { λ r. ⌜ permissionsRead (now (c .entry)) r ≡ readPermissions (now (c .entry)) at ⌝ }
+{
     let first = byte_below(c, at, 32);
     let NumberRead::Found(map) = first else {
         return not_permissions(first);
@@ -132,7 +157,9 @@ fn permissions_at(c: &[u8], at: usize) -> PermissionsRead {
 }
 
 // Why permissions were not read.
-fn why(read: PermissionsRead) -> Refusal {
+fn why(read: PermissionsRead) -> Refusal
+    ensures { λ r. ⌜ r ≡ whyOf read ⌝ }
+{
     match read {
         PermissionsRead::Found(_) => Refusal { question: 0, at: 0 },
         PermissionsRead::Refused(r) => r,
@@ -140,8 +167,11 @@ fn why(read: PermissionsRead) -> Refusal {
 }
 
 // Reads a node and the nodes below it into the table from row `used` on; the number found is that of the rows then used.
-// `level` more nodes may be nested, and 8 in all.
-fn read_node(c: &[u8], at: usize, level: usize, kind: usize, used: usize, nodes: &mut [usize]) -> NumberRead {
+// `level` more nodes may be nested.
+fn read_node(c: &[u8], at: usize, level: usize, used: usize, nodes: &mut [usize]) -> NumberRead
+    requires { ⌜ (level ≤ 8) × (length (now nodes) ≡ 320) ⌝ }
+    ensures { λ r. ⌜ Loaded (now (c .entry)) (nodeRead (readNode level (now (c .entry)) used at)) (8 - level) used (now (nodes .entry)) (now (nodes .exit)) r ⌝ }
+{
     if level == 0 {
         return fault(at);
     }
@@ -165,65 +195,98 @@ fn read_node(c: &[u8], at: usize, level: usize, kind: usize, used: usize, nodes:
         group: group.value,
         permissions,
         depth: 8 - level,
-        kind,
     };
     store_node(nodes, used, node);
-    read_children(c, count.next, count.value, level - 1, kind, used + 1, nodes)
+    read_children(c, count.next, count.value, level - 1, used + 1, nodes)
 }
 
 // Reads `count` nodes, one after another.
-fn read_children(c: &[u8], at: usize, count: usize, level: usize, kind: usize, used: usize, nodes: &mut [usize]) -> NumberRead {
+fn read_children(c: &[u8], at: usize, count: usize, level: usize, used: usize, nodes: &mut [usize]) -> NumberRead
+    requires { ⌜ (level < 8) × (count < 256) × (length (now nodes) ≡ 320) ⌝ }
+    ensures { λ r. ⌜ Loaded (now (c .entry)) (childrenRead level (now (c .entry)) count used at) (8 - level) used (now (nodes .entry)) (now (nodes .exit)) r ⌝ }
+{
     if count == 0 {
         return NumberRead::Found(Number {
             value: used,
             next: at,
         });
     }
-    let read = read_node(c, at, level, kind, used, nodes);
+    let read = read_node(c, at, level, used, nodes);
     let NumberRead::Found(first) = read else {
         return read;
     };
-    read_children(c, first.next, count - 1, level, kind, first.value, nodes)
+    read_children(c, first.next, count - 1, level, first.value, nodes)
 }
 
-// A tree: its kind and its root.
-fn read_tree(c: &[u8], at: usize, used: usize, nodes: &mut [usize]) -> NumberRead {
-    let read = byte_below(c, at, 16);
-    let NumberRead::Found(kind) = read else {
-        return read;
-    };
-    read_node(c, kind.next, 8, kind.value, used, nodes)
+// No policy.
+fn unread() -> Trees
+    ensures { λ r. ⌜ r .reads ≡ false ⌝ }
+{
+    Trees {
+        reads: false,
+        len: 0,
+        kinds: [0; 16],
+        ends: [0; 16],
+    }
 }
 
-fn read_trees(c: &[u8], at: usize, count: usize, nodes: &mut [usize]) -> NumberRead {
+// One tree more: its kind, and the row after its last node.
+fn with_tree(trees: Trees, kind: usize, end: usize) -> Trees
+    requires { ⌜ trees .len < 16 ⌝ }
+{
+    let at = trees.len;
+    let mut kinds = trees.kinds;
+    let mut ends = trees.ends;
+    kinds[at] = kind;
+    ends[at] = end;
+    Trees {
+        reads: true,
+        len: at + 1,
+        kinds,
+        ends,
+    }
+}
+
+fn no_trees() -> Trees {
+    Trees {
+        reads: true,
+        len: 0,
+        kinds: [0; 16],
+        ends: [0; 16],
+    }
+}
+
+// Reads `count` trees, one after another, to the end of the policy.
+fn read_trees(c: &[u8], at: usize, count: usize, nodes: &mut [usize]) -> Trees
+    requires { ⌜ (count ≤ 16) × (length (now nodes) ≡ 320) ⌝ }
+{
+    let mut trees = no_trees();
     let mut next = at;
     let mut used: usize = 0;
-    let mut left = count;
-    while 0 < left {
-        let read = read_tree(c, next, used, nodes);
-        let NumberRead::Found(tree) = read else {
-            return read;
+    while trees.len < count {
+        let first = byte_below(c, next, 16);
+        let NumberRead::Found(kind) = first else {
+            return unread();
         };
+        let second = read_node(c, kind.next, 8, used, nodes);
+        let NumberRead::Found(tree) = second else {
+            return unread();
+        };
+        trees = with_tree(trees, kind.value, tree.value);
         next = tree.next;
         used = tree.value;
-        left -= 1;
     }
-    NumberRead::Found(Number { value: used, next })
+    if next == c.len() { trees } else { unread() }
 }
 
-// Reads a policy to its end; the number found is that of its nodes.
-pub fn read_policy(c: &[u8], nodes: &mut [usize]) -> NumberRead {
-    let first = byte_below(c, 0, 17);
-    let NumberRead::Found(count) = first else {
-        return fault(0);
+// Reads a policy to its end.
+pub fn read_policy(c: &[u8], nodes: &mut [usize]) -> Trees
+    requires { ⌜ length (now nodes) ≡ 320 ⌝ }
+    ensures { λ r. ⌜ LoadedPolicy (now (c .entry)) (readPolicy (now (c .entry))) (now (nodes .exit)) r ⌝ }
+{
+    let read = byte_below(c, 0, 17);
+    let NumberRead::Found(count) = read else {
+        return unread();
     };
-    let second = read_trees(c, count.next, count.value, nodes);
-    let NumberRead::Found(trees) = second else {
-        return fault(0);
-    };
-    if trees.next == c.len() {
-        NumberRead::Found(trees)
-    } else {
-        fault(0)
-    }
+    read_trees(c, count.next, count.value, nodes)
 }

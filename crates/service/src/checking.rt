@@ -5,40 +5,22 @@ use inference::interface::write_interface;
 use inference::sheet::infer;
 use policy::fit::fit;
 use policy::read::read_policy;
-use policy::wellformed::fenced;
-use policy::wellformed::kinds_distinct;
-use policy::wellformed::none_above;
-use policy::wellformed::same_heads;
+use policy::wellformed::policy_fault;
 use reading::system::read;
 use reading::End;
-use reading::NumberRead;
-
-// Questions 12 to 15: the first that fails, or 16.
-fn policy_fault(charter: &[u8], nodes: &[usize], count: usize) -> usize {
-    if !kinds_distinct(nodes, count) {
-        return 12;
-    }
-    if !none_above(nodes, count) {
-        return 13;
-    }
-    if !same_heads(charter, nodes, count) {
-        return 14;
-    }
-    if fenced(charter, nodes, count) { 16 } else { 15 }
-}
 
 // Questions 11 to 18 of a table of components: the first that fails, or 19.
 fn judge(charter: &[u8], table: &[u16], components: usize) -> usize {
-    let mut nodes = [0usize; 384];
-    let read = read_policy(charter, &mut nodes);
-    let NumberRead::Found(policy) = read else {
+    let mut nodes = [0usize; 320];
+    let trees = read_policy(charter, &mut nodes);
+    if !trees.reads {
         return 11;
-    };
-    let fault = policy_fault(charter, &nodes, policy.value);
+    }
+    let fault = policy_fault(charter, &nodes, trees);
     if fault < 16 {
         return fault;
     }
-    fit(charter, &nodes, policy.value, table, components)
+    fit(charter, &nodes, trees, table, components)
 }
 
 // Question 19, and the interface.

@@ -1,0 +1,81 @@
+-- What the policy's reader answers and what it leaves in the table of nodes.
+use Prim.Native.Nat.{ℕ, zero, suc, _+_, _-_, _≤_, _<_}
+use mathlib.Core.Path.{_≡_}
+use mathlib.Core.List.{List, [], _∷_, _++_, map}
+use mathlib.Core.Bool.{Bool, true, false}
+use lib.ListN.{length, getD, take}
+use Rattle.reading.specs.Read.{Read, got, refused}
+use Rattle.reading.specs.Told.{number}
+use Rattle.reading.specs.declared.NumberRead.{NumberRead}
+use Rattle.reading.specs.declared.Refusal.{Refusal}
+use Rattle.policy.specs.declared.PermissionsRead.{PermissionsRead}
+use Rattle.policy.specs.declared.PermissionsRead.the-variants as permissions-read
+use Rattle.policy.specs.declared.Trees.{Trees}
+use Rattle.policy.specs.declared.Span.{Span}
+use Rattle.policy.specs.Syntax.{Granted, Permissions, Node, Nodes, alone, headsOf, Tree}
+use Rattle.policy.specs.Reading.{children, readNode}
+use Rattle.policy.specs.Rows.{permissionsOf, Flat, flats, flatten}
+
+-- permissions that were read, by where they stand
+abbrev pub permissionsRead : List ℕ → PermissionsRead → Read Permissions
+permissionsRead c (permissions-read.Found p) = got (permissionsOf c (p .permissions)) (p .next)
+permissionsRead c (permissions-read.Refused r) = refused (r .question) (r .at)
+
+abbrev pub whyOf : PermissionsRead → Refusal
+whyOf (permissions-read.Found p) = record { question = 0; at = 0 }
+whyOf (permissions-read.Refused r) = r
+
+-- an item of which only the group is kept
+unfoldable pub groupOnly : Read Granted → Read ℕ
+groupOnly (got d next) = got (d .group) next
+groupOnly (refused question at) = refused question at
+
+-- a list of which only the length is kept
+unfoldable pub countOnly : Read (List Granted) → Read ℕ
+countOnly (got ds next) = got (length ds) next
+countOnly (refused question at) = refused question at
+
+-- a node as nodes that stand side by side
+unfoldable pub nodeRead : Read Node → Read Nodes
+nodeRead (got n next) = got (alone n) next
+nodeRead (refused question at) = refused question at
+
+-- `count` nodes one after another, where `level` more may be nested
+unfoldable pub childrenRead : ℕ → List ℕ → ℕ → ℕ → ℕ → Read Nodes
+childrenRead level c count used at = children (λ u i. readNode level c u i) count used at
+
+-- nodes of which only the number of rows then used is kept
+unfoldable pub rowsOnly : ℕ → Read Nodes → Read ℕ
+rowsOnly used (got ns next) = got (used + length (headsOf ns)) next
+rowsOnly used (refused question at) = refused question at
+
+-- Nodes that were read into the table from row `used` on, the first at a depth: where they read, the table's rows are those
+-- before and then theirs.
+pub record Loaded (c : List ℕ) (read : Read Nodes) (depth used : ℕ) (nodes nodes′ : List ℕ) (r : NumberRead) : Type 0 where
+  pub answer : number r ≡ rowsOnly used read
+  pub rows : (ns : Nodes) (next : ℕ) → read ≡ got ns next
+      → flats c nodes′ 0 (used + length (headsOf ns)) ≡ flats c nodes 0 used ++ flatten depth ns
+
+-- The row where a tree begins.
+unfoldable pub startOf : Trees → ℕ → ℕ
+startOf trees zero = 0
+startOf trees (suc t) = getD (trees .ends) t 0
+
+-- A tree's rows hold it.
+pub record Holds (c nodes : List ℕ) (trees : Trees) (t : ℕ) (tree : Tree) : Type 0 where
+  pub kind : getD (trees .kinds) t 0 ≡ tree .kind
+  pub low : startOf trees t ≤ getD (trees .ends) t 0
+  pub high : getD (trees .ends) t 0 ≤ 64
+  pub rows : flats c nodes (startOf trees t) (getD (trees .ends) t 0 - startOf trees t) ≡ flatten 0 (alone (tree .root))
+
+-- The trees from the t-th on are those of a list.
+pub data AllHeld (c nodes : List ℕ) (trees : Trees) : ℕ → List Tree → Type 0 where
+  held-none : {t : ℕ} → t ≡ trees .len → AllHeld c nodes trees t []
+  held-more : {t : ℕ} {tree : Tree} {rest : List Tree} → Holds c nodes trees t tree → AllHeld c nodes trees (suc t) rest
+      → AllHeld c nodes trees t (tree ∷ rest)
+
+-- What the reading of a whole policy answers: it reads exactly where the definition does, and then the table holds its trees.
+pub data LoadedPolicy (c : List ℕ) (read : Read (List Tree)) (nodes : List ℕ) (trees : Trees) : Type 0 where
+  unread : {question at : ℕ} → read ≡ refused question at → trees .reads ≡ false → LoadedPolicy c read nodes trees
+  loaded : {policy : List Tree} {end : ℕ} → read ≡ got policy end → trees .reads ≡ true → trees .len ≤ 16
+      → AllHeld c nodes trees 0 policy → LoadedPolicy c read nodes trees

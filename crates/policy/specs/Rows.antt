@@ -1,0 +1,111 @@
+-- The table of a policy's nodes (src/nodes.rt): rows of five cells, in reading order, each node with the number of nodes above
+-- it. A tree's rows hold that tree (`flatten`).
+use Prim.Native.Nat.{ℕ, zero, suc, _+_, _*_}
+use mathlib.Core.List.{List, [], _∷_, _++_, map}
+use mathlib.Core.Bool.{Bool, true, false, cond, not, _&&_, _||_}
+use lib.ListN.{getD, set, take}
+use lib.Dec.{ltb, eqb}
+use Rattle.reading.specs.Forms.{member}
+use Rattle.inference.specs.Lists.{every, any, rising}
+use Rattle.inference.specs.Counts.{Count, fin, unlimited, _⊕_}
+use Rattle.policy.specs.Syntax.{Granted, Permissions, Nodes, none, more, Head, hasBit}
+use Rattle.policy.specs.WellFormed.{disclosedTo, groupsAt}
+use Rattle.policy.specs.Grants.{listed}
+use Rattle.policy.specs.declared.Node.{Node}
+use Rattle.policy.specs.declared.Permissions.{Permissions as Stored}
+use Rattle.policy.specs.declared.Total.{Total}
+
+unfoldable pub nodeAt : List ℕ → ℕ → Node
+nodeAt nodes row = record {
+    group = getD nodes (row * 5) 0;
+    permissions = record { map = getD nodes (row * 5 + 1) 0; list = getD nodes (row * 5 + 2) 0; count = getD nodes (row * 5 + 3) 0 };
+    depth = getD nodes (row * 5 + 4) 0 }
+
+unfoldable pub withNode : List ℕ → ℕ → Node → List ℕ
+withNode nodes row n =
+    set (set (set (set (set nodes (row * 5) (n .group)) (row * 5 + 1) (n .permissions .map)) (row * 5 + 2) (n .permissions .list))
+    (row * 5 + 3) (n .permissions .count)) (row * 5 + 4) (n .depth)
+
+-- the two-byte number at a place
+unfoldable pub wordIn : List ℕ → ℕ → ℕ
+wordIn c at = getD c at 0 + 256 * getD c (at + 1) 0
+
+-- the items of a disclose list that was read before
+unfoldable pub itemsAt : ℕ → List ℕ → ℕ → List Granted
+itemsAt zero c at = []
+itemsAt (suc n) c at = record { group = getD c at 0; count = wordIn c (at + 1) } ∷ itemsAt n c (at + 3)
+
+-- the permissions that a row points to
+unfoldable pub permissionsOf : List ℕ → Stored → Permissions
+permissionsOf c p = record { map = p .map; list = itemsAt (p .count) c (p .list) }
+
+-- A node of the table: its head, and how many nodes stand above it.
+pub record Flat : Type 0 where
+  pub head : Head
+  pub depth : ℕ
+
+unfoldable pub flatOf : List ℕ → Node → Flat
+flatOf c n = record { head = record { group = n .group; permissions = permissionsOf c (n .permissions) }; depth = n .depth }
+
+-- The nodes of `len` rows.
+unfoldable pub flats : List ℕ → List ℕ → ℕ → ℕ → List Flat
+flats c nodes start len = map (λ row. flatOf c (nodeAt nodes row)) (rising start len)
+
+-- Nodes in reading order, the first at a depth.
+unfoldable pub flatten : ℕ → Nodes → List Flat
+flatten depth none = []
+flatten depth (more g p below rest) =
+    record { head = record { group = g; permissions = p }; depth = depth } ∷ (flatten (depth + 1) below ++ flatten depth rest)
+
+-- 13 over a tree's rows: `above` holds by depth the groups on the way down.
+unfoldable pub freshBelow : List ℕ → List Flat → Bool
+freshBelow above [] = true
+freshBelow above (f ∷ later) =
+    not (member (f .head .group) (take (f .depth) above)) && freshBelow (set above (f .depth) (f .head .group)) later
+
+unfoldable pub headsIn : List Flat → List Head
+headsIn fs = map (λ f. f .head) fs
+
+-- The nodes below one at a depth: those that follow it, as long as they stand deeper.
+unfoldable pub belowIn : ℕ → List Flat → List Flat
+belowIn depth [] = []
+belowIn depth (f ∷ later) = cond (ltb depth (f .depth)) (f ∷ belowIn depth later) []
+
+-- 15 over a tree's rows.
+unfoldable pub keptIn : Flat → List Flat → Bool
+keptIn f below =
+    not (hasBit 8 (f .head .permissions .map))
+    || every (λ h. member h (f .head .group ∷ groupsAt (headsIn below))) (disclosedTo (headsIn below))
+
+unfoldable pub allKept : List Flat → Bool
+allKept [] = true
+allKept (f ∷ later) = keptIn f (belowIn (f .depth) later) && allKept later
+
+-- The nodes of a tree's rows that a path reaches: a node at a depth above `limit` stands below one that is not reached.
+unfoldable pub reachedIn : List ℕ → ℕ → List Flat → List Head
+reachedIn path limit [] = []
+reachedIn path limit (f ∷ later) =
+    cond (ltb limit (f .depth)) (reachedIn path limit later)
+    (cond (member (f .head .group) path) (f .head ∷ reachedIn path (f .depth + 1) later) (reachedIn path (f .depth) later))
+
+-- The row of the first reached node of a group, or 64; `row` is that of the first of the nodes.
+unfoldable pub giverIn : List ℕ → ℕ → ℕ → ℕ → List Flat → ℕ
+giverIn path g limit row [] = 64
+giverIn path g limit row (f ∷ later) =
+    cond (ltb limit (f .depth)) (giverIn path g limit (row + 1) later)
+    (cond (member (f .head .group) path)
+    (cond (eqb (f .head .group) g) row (giverIn path g (f .depth + 1) (row + 1) later))
+    (giverIn path g (f .depth) (row + 1) later))
+
+-- What a giver gives: the permissions of its row, nothing at 64.
+unfoldable pub givenAt : List ℕ → List ℕ → ℕ → Permissions
+givenAt c nodes row = cond (ltb row 64) (permissionsOf c (nodeAt nodes row .permissions)) (record { map = 0; list = [] })
+
+-- A sum of counts as a count.
+unfoldable pub totalOf : Total → Count
+totalOf t = cond (t .unlimited) unlimited (fin (t .sum))
+
+-- the counts for group h that rows give, joined
+unfoldable pub joinedAt : ℕ → List ℕ → List ℕ → List ℕ → Count
+joinedAt h c nodes [] = fin 0
+joinedAt h c nodes (row ∷ rest) = listed h (givenAt c nodes row .list) ⊕ joinedAt h c nodes rest
