@@ -1,8 +1,8 @@
 -- What the policy's reader answers and what it leaves in the table of nodes.
-use Prim.Native.Nat.{ℕ, zero, suc, _+_, _-_, _≤_, _<_}
+use Prim.Native.Nat.{ℕ, zero, suc, _+_, _-_, _≤_, min}
 use mathlib.Core.Path.{_≡_}
 use mathlib.Core.List.{List, [], _∷_, _++_, map}
-use mathlib.Core.Bool.{Bool, true, false}
+use mathlib.Core.Bool.{Bool, true, false, cond}
 use lib.ListN.{length, getD, take}
 use Rattle.reading.specs.Read.{Read, got, refused}
 use Rattle.reading.specs.Told.{number}
@@ -14,6 +14,9 @@ use Rattle.policy.specs.declared.Trees.{Trees}
 use Rattle.policy.specs.declared.Span.{Span}
 use Rattle.policy.specs.Syntax.{Granted, Permissions, Node, Nodes, alone, headsOf, Tree}
 use Rattle.policy.specs.Reading.{children, readNode}
+use Rattle.policy.specs.WellFormed.{kindsDistinct, noneAbove, sameHeads, fenced}
+use Rattle.policy.specs.Satisfies.{hasTree, pathReached, covered}
+use Rattle.inference.specs.Interface.{Entry, holdsAny}
 use Rattle.policy.specs.Rows.{permissionsOf, Flat, flats, flatten}
 
 -- permissions that were read, by where they stand
@@ -74,8 +77,29 @@ pub data AllHeld (c nodes : List ℕ) (trees : Trees) : ℕ → List Tree → Ty
   held-more : {t : ℕ} {tree : Tree} {rest : List Tree} → Holds c nodes trees t tree → AllHeld c nodes trees (suc t) rest
       → AllHeld c nodes trees t (tree ∷ rest)
 
+-- The trees' rows are rows of the table.
+pub record Bounded (trees : Trees) : Type 0 where
+  pub few : trees .len ≤ 16
+  pub rows : (t : ℕ) → getD (trees .ends) t 0 ≤ 64
+
 -- What the reading of a whole policy answers: it reads exactly where the definition does, and then the table holds its trees.
 pub data LoadedPolicy (c : List ℕ) (read : Read (List Tree)) (nodes : List ℕ) (trees : Trees) : Type 0 where
   unread : {question at : ℕ} → read ≡ refused question at → trees .reads ≡ false → LoadedPolicy c read nodes trees
-  loaded : {policy : List Tree} {end : ℕ} → read ≡ got policy end → trees .reads ≡ true → trees .len ≤ 16
+  loaded : {policy : List Tree} {end : ℕ} → read ≡ got policy end → trees .reads ≡ true → Bounded trees
       → AllHeld c nodes trees 0 policy → LoadedPolicy c read nodes trees
+
+-- The first of questions 12 to 15 that a policy fails, or 16.
+unfoldable pub policyFault : List Tree → ℕ
+policyFault policy =
+    cond (kindsDistinct policy) (cond (noneAbove policy) (cond (sameHeads policy) (cond (fenced policy) 16 15) 14) 13) 12
+
+-- The first of questions 16 to 18 that an entry fails, or 19; an entry without a permission is none and fails none.
+unfoldable pub entryFault : List Tree → Entry → ℕ
+entryFault policy e =
+    cond (holdsAny e)
+    (cond (hasTree policy e) (cond (pathReached policy e) (cond (covered policy e) 19 18) 17) 16) 19
+
+-- The first that any entry fails, or 19.
+unfoldable pub entriesFault : List Tree → List Entry → ℕ
+entriesFault policy [] = 19
+entriesFault policy (e ∷ rest) = min (entryFault policy e) (entriesFault policy rest)

@@ -1,25 +1,30 @@
 -- The table of a policy's nodes (src/nodes.rt): rows of five cells, in reading order, each node with the number of nodes above
--- it. A tree's rows hold that tree (`flatten`).
-use Prim.Native.Nat.{ℕ, zero, suc, _+_, _*_}
+-- it. A cell is read within its range, so that no fact about the table has to be carried along. A tree's rows hold that tree
+-- (`flatten`).
+use Prim.Native.Nat.{ℕ, zero, suc, _+_, _*_, _%_}
 use mathlib.Core.List.{List, [], _∷_, _++_, map}
 use mathlib.Core.Bool.{Bool, true, false, cond, not, _&&_, _||_}
-use lib.ListN.{getD, set, take}
+use lib.ListN.{getD, set, take, replicate}
 use lib.Dec.{ltb, eqb}
 use Rattle.reading.specs.Forms.{member}
 use Rattle.inference.specs.Lists.{every, any, rising}
 use Rattle.inference.specs.Counts.{Count, fin, unlimited, _⊕_}
 use Rattle.policy.specs.Syntax.{Granted, Permissions, Nodes, none, more, Head, hasBit}
-use Rattle.policy.specs.WellFormed.{disclosedTo, groupsAt}
+use Rattle.policy.specs.WellFormed.{allAgree, disclosedTo, groupsAt}
 use Rattle.policy.specs.Grants.{listed}
 use Rattle.policy.specs.declared.Node.{Node}
 use Rattle.policy.specs.declared.Permissions.{Permissions as Stored}
 use Rattle.policy.specs.declared.Total.{Total}
+use Rattle.policy.specs.declared.Givers.{Givers}
 
 unfoldable pub nodeAt : List ℕ → ℕ → Node
 nodeAt nodes row = record {
-    group = getD nodes (row * 5) 0;
-    permissions = record { map = getD nodes (row * 5 + 1) 0; list = getD nodes (row * 5 + 2) 0; count = getD nodes (row * 5 + 3) 0 };
-    depth = getD nodes (row * 5 + 4) 0 }
+    group = getD nodes (row * 5) 0 % 64;
+    permissions = record {
+        map = getD nodes (row * 5 + 1) 0 % 32;
+        list = getD nodes (row * 5 + 2) 0 % 8192;
+        count = getD nodes (row * 5 + 3) 0 % 128 };
+    depth = getD nodes (row * 5 + 4) 0 % 16 }
 
 unfoldable pub withNode : List ℕ → ℕ → Node → List ℕ
 withNode nodes row n =
@@ -81,6 +86,19 @@ unfoldable pub allKept : List Flat → Bool
 allKept [] = true
 allKept (f ∷ later) = keptIn f (belowIn (f .depth) later) && allKept later
 
+-- The groups of the first node and of the nodes below it.
+unfoldable pub fenceOf : List Flat → List ℕ
+fenceOf [] = []
+fenceOf (f ∷ later) = f .head .group ∷ groupsAt (headsIn (belowIn (f .depth) later))
+
+unfoldable pub isMarked : List ℕ → ℕ → Bool
+isMarked marks h = not (eqb (getD marks h 0) 0)
+
+-- Questions 13, 14 and 15 over a tree's rows.
+unfoldable pub passesIn : ℕ → List Flat → Bool
+passesIn question fs =
+    cond (eqb question 13) (freshBelow (replicate 8 0) fs) (cond (eqb question 14) (allAgree (headsIn fs)) (allKept fs))
+
 -- The nodes of a tree's rows that a path reaches: a node at a depth above `limit` stands below one that is not reached.
 unfoldable pub reachedIn : List ℕ → ℕ → List Flat → List Head
 reachedIn path limit [] = []
@@ -97,6 +115,10 @@ giverIn path g limit row (f ∷ later) =
     (cond (eqb (f .head .group) g) row (giverIn path g (f .depth + 1) (row + 1) later))
     (giverIn path g (f .depth) (row + 1) later))
 
+-- the rows that give to a path
+abbrev pub givenRows : Givers → List ℕ
+givenRows g = take (g .len) (g .rows)
+
 -- What a giver gives: the permissions of its row, nothing at 64.
 unfoldable pub givenAt : List ℕ → List ℕ → ℕ → Permissions
 givenAt c nodes row = cond (ltb row 64) (permissionsOf c (nodeAt nodes row .permissions)) (record { map = 0; list = [] })
@@ -109,3 +131,8 @@ totalOf t = cond (t .unlimited) unlimited (fin (t .sum))
 unfoldable pub joinedAt : ℕ → List ℕ → List ℕ → List ℕ → Count
 joinedAt h c nodes [] = fin 0
 joinedAt h c nodes (row ∷ rest) = listed h (givenAt c nodes row .list) ⊕ joinedAt h c nodes rest
+
+-- which of a list of kinds is the first to be k; their number where none is
+unfoldable pub indexOf : ℕ → List ℕ → ℕ
+indexOf k [] = 0
+indexOf k (x ∷ xs) = cond (eqb x k) 0 (suc (indexOf k xs))

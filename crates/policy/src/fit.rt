@@ -1,5 +1,12 @@
 // Questions 16 to 18: does the policy satisfy the interface that a table of components holds?
 ghost use mathlib.Core.Path.{_≡_};
+ghost use mathlib.Core.List.{List};
+ghost use Prim.Native.Nat.{ℕ, _<_, _≤_, min};
+ghost use Rattle.inference.specs.Counts.{atMost};
+ghost use Rattle.inference.specs.Rows.{countOf, entryAt, rowEntries, tableEntries};
+ghost use Rattle.policy.specs.Syntax.{Tree};
+ghost use Rattle.policy.specs.Rows.{totalOf};
+ghost use Rattle.policy.specs.Loads.{Bounded, AllHeld, entryFault, entriesFault};
 
 use crate::grants::all_given;
 use crate::grants::count_granted;
@@ -15,7 +22,9 @@ use inference::interface::map_at;
 use inference::rows::path_of;
 
 // Is a needed count at most a granted sum?
-fn within(needed: usize, granted: Total) -> bool {
+fn within(needed: usize, granted: Total) -> bool
+    ensures { λ r. ⌜ r ≡ atMost (countOf needed) (totalOf granted) ⌝ }
+{
     if granted.unlimited {
         return true;
     }
@@ -57,7 +66,11 @@ fn counts_covered(c: &[u8], table: &[u16], component: usize, kind: usize, nodes:
 }
 
 // The first of questions 16 to 18 that the entry of a component and a kind fails, or 19.
-fn entry_fault(c: &[u8], nodes: &[usize], trees: Trees, table: &[u16], component: usize, kind: usize) -> usize {
+fn entry_fault(c: &[u8], nodes: &[usize], trees: Trees, table: &[u16], component: usize, kind: usize) -> usize
+    requires { ⌜ (component < 32) × (kind < 16) × Bounded trees ⌝ }
+    ensures { λ r. ⌜ ((policy : List Tree) → AllHeld (now (c .entry)) (now (nodes .entry)) trees 0 policy
+        → r ≡ entryFault policy (entryAt (now (table .entry)) component kind)) ⌝ }
+{
     if map_at(table, component, kind) == 0 {
         return 19;
     }
@@ -79,12 +92,18 @@ fn entry_fault(c: &[u8], nodes: &[usize], trees: Trees, table: &[u16], component
     }
 }
 
-fn least(a: usize, b: usize) -> usize {
+fn least(a: usize, b: usize) -> usize
+    ensures { λ r. ⌜ r ≡ min a b ⌝ }
+{
     if a < b { a } else { b }
 }
 
 // The first that an entry of a component fails, or 19.
-fn row_fault(c: &[u8], nodes: &[usize], trees: Trees, table: &[u16], component: usize) -> usize {
+fn row_fault(c: &[u8], nodes: &[usize], trees: Trees, table: &[u16], component: usize) -> usize
+    requires { ⌜ (component < 32) × Bounded trees ⌝ }
+    ensures { λ r. ⌜ ((policy : List Tree) → AllHeld (now (c .entry)) (now (nodes .entry)) trees 0 policy
+        → r ≡ entriesFault policy (rowEntries (now (table .entry)) component)) ⌝ }
+{
     let mut first: usize = 19;
     let mut kind: usize = 0;
     while kind < 16 {
@@ -95,7 +114,11 @@ fn row_fault(c: &[u8], nodes: &[usize], trees: Trees, table: &[u16], component: 
 }
 
 // The first of questions 16 to 18 that any entry fails, or 19.
-pub fn fit(c: &[u8], nodes: &[usize], trees: Trees, table: &[u16], components: usize) -> usize {
+pub fn fit(c: &[u8], nodes: &[usize], trees: Trees, table: &[u16], components: usize) -> usize
+    requires { ⌜ (components ≤ 32) × Bounded trees ⌝ }
+    ensures { λ r. ⌜ ((policy : List Tree) → AllHeld (now (c .entry)) (now (nodes .entry)) trees 0 policy
+        → r ≡ entriesFault policy (tableEntries (now (table .entry)) components)) ⌝ }
+{
     let mut first: usize = 19;
     let mut component: usize = 0;
     while component < components {

@@ -1,5 +1,15 @@
 // What a policy grants a component: the nodes that its path reaches in the tree of a kind, and what they give together.
 ghost use mathlib.Core.Path.{_≡_};
+ghost use mathlib.Core.List.{List, map};
+ghost use Prim.Native.Nat.{ℕ, _<_, _≤_, _+_, _-_};
+ghost use Rattle.inference.specs.Counts.{_⊕_};
+ghost use lib.ListN.{take};
+ghost use lib.Dec.{ltb};
+ghost use Rattle.reading.specs.Told.{pathOf};
+ghost use Rattle.inference.specs.Lists.{every, any};
+ghost use Rattle.policy.specs.Syntax.{hasBit};
+ghost use Rattle.policy.specs.Grants.{storedCount, listed as listedIn};
+ghost use Rattle.policy.specs.Rows.{itemsAt, permissionsOf, flats, indexOf, giverIn, givenRows, givenAt, totalOf, joinedAt};
 
 use crate::nodes::byte_in;
 use crate::nodes::node_at;
@@ -14,7 +24,10 @@ use reading::paths;
 use reading::Path;
 
 // The tree of a kind: its number, or the number of trees where there is none.
-pub fn tree_for(trees: Trees, kind: usize) -> usize {
+pub fn tree_for(trees: Trees, kind: usize) -> usize
+    requires { ⌜ trees .len ≤ 16 ⌝ }
+    ensures { λ r. ⌜ r ≡ indexOf kind (take (trees .len) (trees .kinds)) ⌝ }
+{
     let kinds = trees.kinds;
     let mut t: usize = 0;
     while t < trees.len {
@@ -27,7 +40,10 @@ pub fn tree_for(trees: Trees, kind: usize) -> usize {
 }
 
 // The row of the first node of a group that a path reaches in a tree, or 64.
-fn giver(nodes: &[usize], tree: Span, path: Path, group: usize) -> usize {
+fn giver(nodes: &[usize], tree: Span, path: Path, group: usize) -> usize
+    requires { ⌜ tree .to ≤ 64 ⌝ }
+    ensures { λ r. ⌜ ((c : List ℕ) → r ≡ giverIn (pathOf path) group 0 (tree .from) (flats c (now (nodes .entry)) (tree .from) (tree .to - tree .from))) ⌝ }
+{
     let mut limit: usize = 0;
     let mut i = tree.from;
     while i < tree.to {
@@ -48,7 +64,11 @@ fn giver(nodes: &[usize], tree: Span, path: Path, group: usize) -> usize {
 }
 
 // What gives to a path in a tree.
-pub fn givers(nodes: &[usize], tree: Span, path: Path) -> Givers {
+pub fn givers(nodes: &[usize], tree: Span, path: Path) -> Givers
+    requires { ⌜ tree .to ≤ 64 ⌝ }
+    ensures { λ r. ⌜ ((c : List ℕ) → givenRows r
+        ≡ map (λ g. giverIn (pathOf path) g 0 (tree .from) (flats c (now (nodes .entry)) (tree .from) (tree .to - tree .from))) (pathOf path)) ⌝ }
+{
     let groups = path.groups;
     let len = path.len;
     let mut rows = [64usize; 8];
@@ -63,7 +83,9 @@ pub fn givers(nodes: &[usize], tree: Span, path: Path) -> Givers {
 }
 
 // Is each group of the path at a reached node?
-pub fn all_given(givers: Givers) -> bool {
+pub fn all_given(givers: Givers) -> bool
+    ensures { λ r. ⌜ r ≡ every (λ row. ltb row 64) (givenRows givers) ⌝ }
+{
     let rows = givers.rows;
     let len = givers.len;
     let mut i: usize = 0;
@@ -80,7 +102,10 @@ pub fn all_given(givers: Givers) -> bool {
 }
 
 // What a row gives; nothing at 64.
-fn given_at(nodes: &[usize], row: usize) -> Permissions {
+fn given_at(nodes: &[usize], row: usize) -> Permissions
+    ensures { λ r. ⌜ ((c : List ℕ) → permissionsOf c r ≡ givenAt c (now (nodes .entry)) row) ⌝ }
+    ensures { λ r. ⌜ (r .list < 8192) × (r .count < 128) ⌝ }
+{
     if row < 64 {
         node_at(nodes, row).permissions
     } else {
@@ -93,7 +118,10 @@ fn given_at(nodes: &[usize], row: usize) -> Permissions {
 }
 
 // Is a flag granted?
-pub fn flag_granted(nodes: &[usize], givers: Givers, value: usize) -> bool {
+pub fn flag_granted(nodes: &[usize], givers: Givers, value: usize) -> bool
+    requires { ⌜ 0 < value ⌝ }
+    ensures { λ r. ⌜ ((c : List ℕ) → r ≡ any (λ row. hasBit value (givenAt c (now (nodes .entry)) row .map)) (givenRows givers)) ⌝ }
+{
     let rows = givers.rows;
     let len = givers.len;
     let mut i: usize = 0;
@@ -110,7 +138,11 @@ pub fn flag_granted(nodes: &[usize], givers: Givers, value: usize) -> bool {
 }
 
 // The stored count for a group in a list, 0 where it is absent.
-fn listed(c: &[u8], p: Permissions, group: usize) -> usize {
+fn listed(c: &[u8], p: Permissions, group: usize) -> usize
+    requires { ⌜ (p .list < 8192) × (p .count < 128) ⌝ }
+    ensures { λ r. ⌜ storedCount r ≡ listedIn group (itemsAt (p .count) (now (c .entry)) (p .list)) ⌝ }
+    ensures { λ r. ⌜ r < 65536 ⌝ }
+{
     let mut i: usize = 0;
     while i < p.count {
         if byte_in(c, p.list + 3 * i) == group {
@@ -122,7 +154,11 @@ fn listed(c: &[u8], p: Permissions, group: usize) -> usize {
 }
 
 // A stored count joined to a sum; 65,535 is unlimited.
-fn join(total: Total, count: usize) -> Total {
+fn join(total: Total, count: usize) -> Total
+    requires { ⌜ (total .sum < 1000000) × (count < 65536) ⌝ }
+    ensures { λ r. ⌜ totalOf r ≡ totalOf total ⊕ storedCount count ⌝ }
+    ensures { λ r. ⌜ r .sum ≤ total .sum + count ⌝ }
+{
     if count == 65535 {
         Total {
             unlimited: true,
@@ -137,7 +173,9 @@ fn join(total: Total, count: usize) -> Total {
 }
 
 // The sum of what the path's groups grant for a group.
-pub fn count_granted(c: &[u8], nodes: &[usize], givers: Givers, group: usize) -> Total {
+pub fn count_granted(c: &[u8], nodes: &[usize], givers: Givers, group: usize) -> Total
+    ensures { λ r. ⌜ totalOf r ≡ joinedAt group (now (c .entry)) (now (nodes .entry)) (givenRows givers) ⌝ }
+{
     let rows = givers.rows;
     let len = givers.len;
     let mut total = Total {

@@ -1,6 +1,6 @@
 // The table of a policy's nodes, in lent memory: a row of five cells for each node, at most 64 rows.
 ghost use mathlib.Core.Path.{_≡_};
-ghost use Prim.Native.Nat.{_<_, _≤_, _+_, _*_};
+ghost use Prim.Native.Nat.{_<_, _≤_};
 ghost use lib.ListN.{getD, set};
 ghost use Rattle.policy.specs.Rows.{nodeAt, withNode, wordIn};
 
@@ -13,21 +13,21 @@ fn cell(nodes: &[usize], at: usize) -> usize
     if at < nodes.len() { nodes[at] } else { 0 }
 }
 
-// The node in a row.
+// The node in a row, each cell within its range.
 pub fn node_at(nodes: &[usize], row: usize) -> Node
     requires { ⌜ row ≤ 64 ⌝ }
     ensures { λ r. ⌜ r ≡ nodeAt (now (nodes .entry)) row ⌝ }
 {
     let base = row * 5;
     let permissions = Permissions {
-        map: cell(nodes, base + 1),
-        list: cell(nodes, base + 2),
-        count: cell(nodes, base + 3),
+        map: cell(nodes, base + 1) % 32,
+        list: cell(nodes, base + 2) % 8192,
+        count: cell(nodes, base + 3) % 128,
     };
     Node {
-        group: cell(nodes, base),
+        group: cell(nodes, base) % 64,
         permissions,
-        depth: cell(nodes, base + 4),
+        depth: cell(nodes, base + 4) % 16,
     }
 }
 

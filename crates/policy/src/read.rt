@@ -169,7 +169,7 @@ fn why(read: PermissionsRead) -> Refusal
 // Reads a node and the nodes below it into the table from row `used` on; the number found is that of the rows then used.
 // `level` more nodes may be nested.
 fn read_node(c: &[u8], at: usize, level: usize, used: usize, nodes: &mut [usize]) -> NumberRead
-    requires { ⌜ (level ≤ 8) × (length (now nodes) ≡ 320) ⌝ }
+    requires { ⌜ (level ≤ 8) × (length (now nodes) ≡ 320) × (length (now c) ≤ 4096) ⌝ }
     ensures { λ r. ⌜ Loaded (now (c .entry)) (nodeRead (readNode level (now (c .entry)) used at)) (8 - level) used (now (nodes .entry)) (now (nodes .exit)) r ⌝ }
 {
     if level == 0 {
@@ -202,7 +202,7 @@ fn read_node(c: &[u8], at: usize, level: usize, used: usize, nodes: &mut [usize]
 
 // Reads `count` nodes, one after another.
 fn read_children(c: &[u8], at: usize, count: usize, level: usize, used: usize, nodes: &mut [usize]) -> NumberRead
-    requires { ⌜ (level < 8) × (count < 256) × (length (now nodes) ≡ 320) ⌝ }
+    requires { ⌜ (level < 8) × (count < 256) × (length (now nodes) ≡ 320) × (length (now c) ≤ 4096) ⌝ }
     ensures { λ r. ⌜ Loaded (now (c .entry)) (childrenRead level (now (c .entry)) count used at) (8 - level) used (now (nodes .entry)) (now (nodes .exit)) r ⌝ }
 {
     if count == 0 {
@@ -258,7 +258,7 @@ fn no_trees() -> Trees {
 
 // Reads `count` trees, one after another, to the end of the policy.
 fn read_trees(c: &[u8], at: usize, count: usize, nodes: &mut [usize]) -> Trees
-    requires { ⌜ (count ≤ 16) × (length (now nodes) ≡ 320) ⌝ }
+    requires { ⌜ (count ≤ 16) × (length (now nodes) ≡ 320) × (length (now c) ≤ 4096) ⌝ }
 {
     let mut trees = no_trees();
     let mut next = at;
@@ -281,7 +281,7 @@ fn read_trees(c: &[u8], at: usize, count: usize, nodes: &mut [usize]) -> Trees
 
 // Reads a policy to its end.
 pub fn read_policy(c: &[u8], nodes: &mut [usize]) -> Trees
-    requires { ⌜ length (now nodes) ≡ 320 ⌝ }
+    requires { ⌜ (length (now nodes) ≡ 320) × (length (now c) ≤ 4096) ⌝ }
     ensures { λ r. ⌜ LoadedPolicy (now (c .entry)) (readPolicy (now (c .entry))) (now (nodes .exit)) r ⌝ }
 {
     let read = byte_below(c, 0, 17);

@@ -1,12 +1,16 @@
 // Questions 12 to 15, over the table of a policy's nodes.
 ghost use mathlib.Core.Path.{_≡_};
-ghost use Prim.Native.Nat.{_<_, _≤_, _-_, _*_, suc};
-ghost use lib.ListN.{length, take, replicate};
-ghost use mathlib.Core.Bool.{Bool};
+ghost use mathlib.Core.List.{List};
+ghost use mathlib.Core.Bool.{_&&_};
+ghost use Prim.Native.Nat.{ℕ, _<_, _≤_, _+_, _-_};
+ghost use lib.ListN.{getD, take, drop, replicate};
+ghost use lib.Dec.{ltb};
+ghost use Rattle.reading.specs.Forms.{member};
 ghost use Rattle.inference.specs.Lists.{every};
-ghost use Rattle.policy.specs.Syntax.{hasBit};
-ghost use Rattle.policy.specs.WellFormed.{distinct, samePermissions, sameList, agree, allAgree};
-ghost use Rattle.policy.specs.Rows.{itemsAt, permissionsOf, flats, freshBelow, headsIn, keptIn, belowIn, allKept};
+ghost use Rattle.policy.specs.Syntax.{Tree, alone, hasBit};
+ghost use Rattle.policy.specs.WellFormed.{distinct, sameList, samePermissions, agree, allAgree, disclosedTo};
+ghost use Rattle.policy.specs.Rows.{nodeAt, itemsAt, permissionsOf, flatOf, flats, flatten, freshBelow, headsIn, belowIn, keptIn, allKept, isMarked, fenceOf, passesIn};
+ghost use Rattle.policy.specs.Loads.{startOf, Bounded, AllHeld, policyFault};
 
 use crate::nodes::byte_in;
 use crate::nodes::node_at;
@@ -28,6 +32,7 @@ pub fn has_bit(map: usize, value: usize) -> bool
 // Does a kind stand among the trees after the t-th?
 fn kind_after(trees: Trees, t: usize) -> bool
     requires { ⌜ (t < trees .len) × (trees .len ≤ 16) ⌝ }
+    ensures { λ r. ⌜ r ≡ member (getD (trees .kinds) t 0) (drop (t + 1) (take (trees .len) (trees .kinds))) ⌝ }
 {
     let kinds = trees.kinds;
     let mut i = t + 1;
@@ -56,7 +61,9 @@ pub fn kinds_distinct(trees: Trees) -> bool
 }
 
 // 13 in one tree: no node's group at a node above it?
-pub fn none_above(nodes: &[usize], tree: Span) -> bool
+fn none_above(nodes: &[usize], tree: Span) -> bool
+    requires { ⌜ tree .to ≤ 64 ⌝ }
+    ensures { λ r. ⌜ ((c : List ℕ) → r ≡ freshBelow (replicate 8 0) (flats c (now (nodes .entry)) (tree .from) (tree .to - tree .from))) ⌝ }
 {
     let mut groups = [0usize; 8];
     let mut i = tree.from;
@@ -76,7 +83,7 @@ pub fn none_above(nodes: &[usize], tree: Span) -> bool
 
 // The same items in two lists?
 fn same_items(c: &[u8], a: usize, b: usize, count: usize) -> bool
-    requires { ⌜ (a < 5000) × (b < 5000) × (count ≤ 64) ⌝ }
+    requires { ⌜ (a < 8192) × (b < 8192) × (count < 128) ⌝ }
     ensures { λ r. ⌜ r ≡ sameList (itemsAt count (now (c .entry)) a) (itemsAt count (now (c .entry)) b) ⌝ }
 {
     let mut i: usize = 0;
@@ -94,6 +101,8 @@ fn same_items(c: &[u8], a: usize, b: usize, count: usize) -> bool
 
 // The same map and list?
 fn same_permissions(c: &[u8], p: Permissions, q: Permissions) -> bool
+    requires { ⌜ (p .list < 8192) × (q .list < 8192) × (p .count < 128) ⌝ }
+    ensures { λ r. ⌜ r ≡ samePermissions (permissionsOf (now (c .entry)) p) (permissionsOf (now (c .entry)) q) ⌝ }
 {
     if p.map != q.map {
         return false;
@@ -106,6 +115,9 @@ fn same_permissions(c: &[u8], p: Permissions, q: Permissions) -> bool
 
 // Do all nodes after a row agree with the row's: another group, or the same map and list?
 fn agrees_after(c: &[u8], nodes: &[usize], row: usize, to: usize) -> bool
+    requires { ⌜ (row < to) × (to ≤ 64) ⌝ }
+    ensures { λ r. ⌜ r ≡ every (agree (flatOf (now (c .entry)) (nodeAt (now (nodes .entry)) row) .head))
+        (headsIn (flats (now (c .entry)) (now (nodes .entry)) (row + 1) (to - (row + 1)))) ⌝ }
 {
     let node = node_at(nodes, row);
     let mut i = row + 1;
@@ -122,7 +134,9 @@ fn agrees_after(c: &[u8], nodes: &[usize], row: usize, to: usize) -> bool
 }
 
 // 14 in one tree: no node whose group stands at an earlier node with another map or list?
-pub fn same_heads(c: &[u8], nodes: &[usize], tree: Span) -> bool
+fn same_heads(c: &[u8], nodes: &[usize], tree: Span) -> bool
+    requires { ⌜ tree .to ≤ 64 ⌝ }
+    ensures { λ r. ⌜ r ≡ allAgree (headsIn (flats (now (c .entry)) (now (nodes .entry)) (tree .from) (tree .to - tree .from))) ⌝ }
 {
     let mut i = tree.from;
     while i < tree.to {
@@ -136,13 +150,13 @@ pub fn same_heads(c: &[u8], nodes: &[usize], tree: Span) -> bool
 
 // The groups of a node and of the nodes below it, marked by 1.
 fn marked(nodes: &[usize], row: usize, to: usize) -> [usize; 64]
+    requires { ⌜ (row < to) × (to ≤ 64) ⌝ }
+    ensures { λ r. ⌜ ((c : List ℕ) (h : ℕ) → h < 64 → isMarked r h ≡ member h (fenceOf (flats c (now (nodes .entry)) row (to - row)))) ⌝ }
 {
     let mut marks = [0usize; 64];
     let node = node_at(nodes, row);
     let own = node.group;
-    if own < 64 {
-        marks[own] = 1;
-    }
+    marks[own] = 1;
     let mut i = row + 1;
     while i < to {
         let below = node_at(nodes, i);
@@ -150,9 +164,7 @@ fn marked(nodes: &[usize], row: usize, to: usize) -> [usize; 64]
             return marks;
         }
         let group = below.group;
-        if group < 64 {
-            marks[group] = 1;
-        }
+        marks[group] = 1;
         i += 1;
     }
     marks
@@ -160,6 +172,8 @@ fn marked(nodes: &[usize], row: usize, to: usize) -> [usize; 64]
 
 // Is each group of a list marked?
 fn list_marked(c: &[u8], p: Permissions, marks: [usize; 64]) -> bool
+    requires { ⌜ (p .list < 8192) × (p .count < 128) ⌝ }
+    ensures { λ r. ⌜ r ≡ every (λ d. ltb (d .group) 64 && isMarked marks (d .group)) (itemsAt (p .count) (now (c .entry)) (p .list)) ⌝ }
 {
     let mut i: usize = 0;
     while i < p.count {
@@ -177,6 +191,9 @@ fn list_marked(c: &[u8], p: Permissions, marks: [usize; 64]) -> bool
 
 // Is every group disclosed to by the nodes below a row marked?
 fn kept_below(c: &[u8], nodes: &[usize], row: usize, to: usize, marks: [usize; 64]) -> bool
+    requires { ⌜ (row < to) × (to ≤ 64) ⌝ }
+    ensures { λ r. ⌜ r ≡ every (λ h. ltb h 64 && isMarked marks h)
+        (disclosedTo (headsIn (belowIn (nodeAt (now (nodes .entry)) row .depth) (flats (now (c .entry)) (now (nodes .entry)) (row + 1) (to - (row + 1)))))) ⌝ }
 {
     let depth = node_at(nodes, row).depth;
     let mut i = row + 1;
@@ -193,15 +210,28 @@ fn kept_below(c: &[u8], nodes: &[usize], row: usize, to: usize, marks: [usize; 6
     true
 }
 
-// 15 in one tree: where a node has nondisclose, is every group disclosed to below it a group of it or of a node below it?
-pub fn fenced(c: &[u8], nodes: &[usize], tree: Span) -> bool
+// Where a row's node has nondisclose: is every group disclosed to below it a group of it or of a node below it?
+fn keeps_within(c: &[u8], nodes: &[usize], row: usize, to: usize) -> bool
+    requires { ⌜ (row < to) × (to ≤ 64) ⌝ }
+    ensures { λ r. ⌜ r ≡ keptIn (flatOf (now (c .entry)) (nodeAt (now (nodes .entry)) row))
+        (belowIn (nodeAt (now (nodes .entry)) row .depth) (flats (now (c .entry)) (now (nodes .entry)) (row + 1) (to - (row + 1)))) ⌝ }
+{
+    if has_bit(node_at(nodes, row).permissions.map, 8) {
+        kept_below(c, nodes, row, to, marked(nodes, row, to))
+    } else {
+        true
+    }
+}
+
+// 15 in one tree.
+fn fenced(c: &[u8], nodes: &[usize], tree: Span) -> bool
+    requires { ⌜ tree .to ≤ 64 ⌝ }
+    ensures { λ r. ⌜ r ≡ allKept (flats (now (c .entry)) (now (nodes .entry)) (tree .from) (tree .to - tree .from)) ⌝ }
 {
     let mut i = tree.from;
     while i < tree.to {
-        if has_bit(node_at(nodes, i).permissions.map, 8) {
-            if !kept_below(c, nodes, i, tree.to, marked(nodes, i, tree.to)) {
-                return false;
-            }
+        if !keeps_within(c, nodes, i, tree.to) {
+            return false;
         }
         i += 1;
     }
@@ -211,6 +241,7 @@ pub fn fenced(c: &[u8], nodes: &[usize], tree: Span) -> bool
 // The rows of the t-th tree.
 pub fn span_of(trees: Trees, t: usize) -> Span
     requires { ⌜ t < 16 ⌝ }
+    ensures { λ r. ⌜ (r .from ≡ startOf trees t) × (r .to ≡ getD (trees .ends) t 0) ⌝ }
 {
     let ends = trees.ends;
     if t == 0 {
@@ -226,11 +257,27 @@ pub fn span_of(trees: Trees, t: usize) -> Span
     }
 }
 
-// 13 over all trees.
-fn all_none_above(nodes: &[usize], trees: Trees) -> bool {
+// Does a tree pass question 13, 14 or 15?
+fn tree_passes(question: usize, c: &[u8], nodes: &[usize], tree: Span) -> bool
+    requires { ⌜ tree .to ≤ 64 ⌝ }
+    ensures { λ r. ⌜ r ≡ passesIn question (flats (now (c .entry)) (now (nodes .entry)) (tree .from) (tree .to - tree .from)) ⌝ }
+{
+    match question {
+        13 => none_above(nodes, tree),
+        14 => same_heads(c, nodes, tree),
+        _ => fenced(c, nodes, tree),
+    }
+}
+
+// Do all trees pass question 13, 14 or 15?
+fn all_pass(question: usize, c: &[u8], nodes: &[usize], trees: Trees) -> bool
+    requires { ⌜ Bounded trees ⌝ }
+    ensures { λ r. ⌜ ((policy : List Tree) → AllHeld (now (c .entry)) (now (nodes .entry)) trees 0 policy
+        → r ≡ every (λ t. passesIn question (flatten 0 (alone (t .root)))) policy) ⌝ }
+{
     let mut t: usize = 0;
     while t < trees.len {
-        if !none_above(nodes, span_of(trees, t)) {
+        if !tree_passes(question, c, nodes, span_of(trees, t)) {
             return false;
         }
         t += 1;
@@ -238,40 +285,19 @@ fn all_none_above(nodes: &[usize], trees: Trees) -> bool {
     true
 }
 
-// 14 over all trees.
-fn all_same_heads(c: &[u8], nodes: &[usize], trees: Trees) -> bool {
-    let mut t: usize = 0;
-    while t < trees.len {
-        if !same_heads(c, nodes, span_of(trees, t)) {
-            return false;
-        }
-        t += 1;
-    }
-    true
-}
-
-// 15 over all trees.
-fn all_fenced(c: &[u8], nodes: &[usize], trees: Trees) -> bool {
-    let mut t: usize = 0;
-    while t < trees.len {
-        if !fenced(c, nodes, span_of(trees, t)) {
-            return false;
-        }
-        t += 1;
-    }
-    true
-}
-
-// The first of questions 12 to 15 that fails, or 16.
-pub fn policy_fault(c: &[u8], nodes: &[usize], trees: Trees) -> usize {
+// The first of questions 12 to 15 that a policy fails, or 16.
+pub fn policy_fault(c: &[u8], nodes: &[usize], trees: Trees) -> usize
+    requires { ⌜ Bounded trees ⌝ }
+    ensures { λ r. ⌜ ((policy : List Tree) → AllHeld (now (c .entry)) (now (nodes .entry)) trees 0 policy → r ≡ policyFault policy) ⌝ }
+{
     if !kinds_distinct(trees) {
         return 12;
     }
-    if !all_none_above(nodes, trees) {
+    if !all_pass(13, c, nodes, trees) {
         return 13;
     }
-    if !all_same_heads(c, nodes, trees) {
+    if !all_pass(14, c, nodes, trees) {
         return 14;
     }
-    if all_fenced(c, nodes, trees) { 16 } else { 15 }
+    if all_pass(15, c, nodes, trees) { 16 } else { 15 }
 }
