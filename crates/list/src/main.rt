@@ -1,8 +1,11 @@
-// The program `list`: reads sheet.bin and charter.bin, and prints the interface or the refusal.
+// The program `list`: reads `sheet.bin` and `charter.bin` in the folder it is run in (an absent file as empty), and prints
+// `accepted` and the interface, an entry a line, or `refused N`.
 use libc::STDOUT_FILENO;
+use listing::entry_line;
 use service::checking::check;
 use service::Answer;
 
+// Reads a file into a buffer, as much as fits; an absent file has no bytes.
 fn load(path: &[u8], buf: &mut [u8]) -> usize {
     let fd = os::open_read(path);
     if fd < 0 {
@@ -13,17 +16,30 @@ fn load(path: &[u8], buf: &mut [u8]) -> usize {
     n
 }
 
+// Prints an interface, an entry a line. Each entry has at least four bytes, so the turns suffice.
+fn print_entries(interface: &[u8]) {
+    let mut text = [0u8; 1024];
+    let mut at: usize = 0;
+    let mut turns: usize = 4096;
+    while at < interface.len() && 0 < turns {
+        let line = entry_line(interface, at, &mut text);
+        io::write_all(STDOUT_FILENO, &text[..line.len]);
+        at = line.next;
+        turns -= 1;
+    }
+}
+
 fn main() {
     let mut sheet = [0u8; 4097];
     let mut charter = [0u8; 4097];
-    let mut output = [0u8; 8192];
+    let mut output = [0u8; 16384];
     let s = load(b"sheet.bin", &mut sheet);
     let c = load(b"charter.bin", &mut charter);
     let answer = check(&sheet[..s], &charter[..c], &mut output);
     match answer {
         Answer::Accepted(n) => {
             io::write_all(STDOUT_FILENO, b"accepted\n");
-            io::write_all(STDOUT_FILENO, &output[..n]);
+            print_entries(&output[..n]);
         }
         Answer::Refused(n) => {
             io::write_all(STDOUT_FILENO, b"refused ");
