@@ -1,4 +1,5 @@
--- The worked cases, on the definitions of specs/.
+-- The worked cases, on the definitions of specs/, and the laws that join the code's answers to document 01's questions.
 pub mod Computed
 pub mod Table
 pub mod Cases
+pub mod JudgeLaws

@@ -1,0 +1,2 @@
+-- What the composer's contracts cite: the text of an entry.
+pub mod Text

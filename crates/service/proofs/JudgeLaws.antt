@@ -1,0 +1,234 @@
+-- The first question that fails, as the code finds it, is the number with which document 01's questions in order end.
+use Prim.Native.Nat.{ℕ, _<_, _≤_, min}
+use mathlib.Core.Path.{_≡_, refl, sym, ap, ap₂, _∙_}
+use mathlib.Core.List.{List, [], _∷_, _++_, map}
+use mathlib.Core.Bool.{Bool, true, false, cond, not, _&&_}
+use native.Mathlib.Omega.{arith}
+use lib.Dec.{ltb}
+use borrow.Author.Tests.{lt-ltb, le-ltb, ltb-true}
+use Rattle.reading.specs.Read.{Read, got, refused}
+use Rattle.reading.specs.Syntax.{Sheet}
+use Rattle.reading.specs.System.{sheetOf}
+use Rattle.inference.specs.Lists.{every, only, gather, rising}
+use Rattle.inference.specs.Acts.{Act, Located, actsOf, sheetActs, located}
+use Rattle.inference.specs.Typing.{inScope, onChannel, carriesObject, inPath}
+use Rattle.inference.specs.Interface.{Entry, entryOf, interface, entriesOf, holdsAny}
+use Rattle.inference.specs.Walks.{worstAll}
+use Rattle.inference.proofs.FaultLaws.{firstNo, sheet-fault}
+use Rattle.policy.specs.Syntax.{Tree}
+use Rattle.policy.specs.Reading.{readPolicy, asEleven}
+use Rattle.policy.specs.WellFormed.{kindsDistinct, noneAbove, sameHeads, fenced}
+use Rattle.policy.specs.Satisfies.{hasTree, pathReached, covered}
+use Rattle.policy.specs.Loads.{policyFault, entryFault, entriesFault}
+use Rattle.service.specs.Questions.{Asked, passed, failed, ask, afterReading, typed, wellFormed, satisfied, Accepted, judged}
+use Rattle.service.specs.Later.{policyThenEntries, afterPolicy, laterFault}
+
+-- a number below a bound ends the questions, any other lets them go on
+unfoldable pub endsBelow : {A : Type 0} → ℕ → ℕ → Asked A → Asked A
+endsBelow bound number rest = cond (ltb number bound) (failed number) rest
+
+asked-four : {A : Type 0} (a b c d : Bool) (rest : Asked A)
+    → ask 7 a (ask 8 b (ask 9 c (ask 10 d rest))) ≡ endsBelow 11 (firstNo a b c d) rest
+unfolding ask endsBelow firstNo
+asked-four false b c d rest = refl
+asked-four true false c d rest = refl
+asked-four true true false d rest = refl
+asked-four true true true false rest = refl
+asked-four true true true true rest = refl
+
+pub typed-ends : {A : Type 0} (sheet : Sheet) (rest : Asked A) → typed (sheetActs sheet) rest ≡ endsBelow 11 (worstAll (located sheet)) rest
+unfolding typed
+typed-ends sheet rest =
+    asked-four (every inScope (sheetActs sheet)) (every onChannel (sheetActs sheet)) (every carriesObject (sheetActs sheet)) (every inPath (sheetActs sheet)) rest
+    ∙ ap (λ (n : ℕ). endsBelow 11 n rest) (sym (sheet-fault sheet))
+
+asked-policy : {A : Type 0} (a b c d : Bool) (rest : Asked A)
+    → ask 12 a (ask 13 b (ask 14 c (ask 15 d rest))) ≡ endsBelow 16 (cond a (cond b (cond c (cond d 16 15) 14) 13) 12) rest
+unfolding ask endsBelow
+asked-policy false b c d rest = refl
+asked-policy true false c d rest = refl
+asked-policy true true false d rest = refl
+asked-policy true true true false rest = refl
+asked-policy true true true true rest = refl
+
+policy-ends : {A : Type 0} (policy : List Tree) (rest : Asked A) → wellFormed policy rest ≡ endsBelow 16 (policyFault policy) rest
+unfolding wellFormed policyFault
+policy-ends policy rest = asked-policy (kindsDistinct policy) (noneAbove policy) (sameHeads policy) (fenced policy) rest
+
+-- the first of three questions that is answered no
+unfoldable firstOf : Bool → Bool → Bool → ℕ
+firstOf a b c = cond a (cond b (cond c 19 18) 17) 16
+
+least-16 : (a b c : Bool) → 16 ≤ firstOf a b c
+unfolding firstOf
+least-16 false b c = omega arith
+least-16 true false c = omega arith
+least-16 true true false = omega arith
+least-16 true true true = omega arith
+
+least-17 : (b c : Bool) → 17 ≤ firstOf true b c
+unfolding firstOf
+least-17 false c = omega arith
+least-17 true false = omega arith
+least-17 true true = omega arith
+
+first-both : (a b c d e f : Bool) → min (firstOf a b c) (firstOf d e f) ≡ firstOf (a && d) (b && e) (c && f)
+unfolding firstOf
+first-both false b c d e f = omega (arith, least-16 d e f)
+first-both true b c false e f = omega (arith, least-16 true b c)
+first-both true false c true e f = omega (arith, least-17 e f)
+first-both true true c true false f = omega (arith, least-17 true c)
+first-both true true false true true false = refl
+first-both true true false true true true = refl
+first-both true true true true true false = refl
+first-both true true true true true true = refl
+
+-- Entries that hold a permission each.
+pub data AllHold : List Entry → Type 0 where
+  hold-none : AllHold []
+  hold-more : {e : Entry} {rest : List Entry} → holdsAny e ≡ true → AllHold rest → AllHold (e ∷ rest)
+
+entry-first : (policy : List Tree) (e : Entry) → holdsAny e ≡ true
+    → entryFault policy e ≡ firstOf (hasTree policy e) (pathReached policy e) (covered policy e)
+unfolding entryFault firstOf
+entry-first policy e h = rw h refl
+
+entries-first : (policy : List Tree) {es : List Entry} → AllHold es
+    → entriesFault policy es ≡ firstOf (every (hasTree policy) es) (every (pathReached policy) es) (every (covered policy) es)
+unfolding entriesFault every
+entries-first policy hold-none = unfold firstOf in refl
+entries-first policy (hold-more {e = e} {rest = rest} h more) =
+    ap₂ min (entry-first policy e h) (entries-first policy more)
+    ∙ first-both (hasTree policy e) (pathReached policy e) (covered policy e)
+    (every (hasTree policy) rest) (every (pathReached policy) rest) (every (covered policy) rest)
+
+asked-three : {A : Type 0} (a b c : Bool) (rest : Asked A) → ask 16 a (ask 17 b (ask 18 c rest)) ≡ endsBelow 19 (firstOf a b c) rest
+unfolding ask endsBelow firstOf
+asked-three false b c rest = refl
+asked-three true false c rest = refl
+asked-three true true false rest = refl
+asked-three true true true rest = refl
+
+entries-end : {A : Type 0} (policy : List Tree) (es : List Entry) → AllHold es → (rest : Asked A)
+    → satisfied policy es rest ≡ endsBelow 19 (entriesFault policy es) rest
+unfolding satisfied
+entries-end policy es h rest =
+    asked-three (every (hasTree policy) es) (every (pathReached policy) es) (every (covered policy) es) rest
+    ∙ ap (λ (n : ℕ). endsBelow 19 n rest) (sym (entries-first policy h))
+
+-- the entries of an interface hold a permission each
+hold-append : {xs ys : List Entry} → AllHold xs → AllHold ys → AllHold (xs ++ ys)
+hold-append hold-none h = h
+hold-append (hold-more e more) h = hold-more e (hold-append more h)
+
+hold-cond : (e : Entry) (rest : List Entry) → AllHold rest → (b : Bool) → holdsAny e ≡ b → AllHold (cond b (e ∷ rest) rest)
+hold-cond e rest more true h = hold-more h more
+hold-cond e rest more false h = more
+
+hold-only : (es : List Entry) → AllHold (only holdsAny es)
+unfolding only
+hold-only [] = hold-none
+hold-only (e ∷ rest) = hold-cond e (only holdsAny rest) (hold-only rest) (holdsAny e) refl
+
+hold-gather : (ls : List Located) → AllHold (gather entriesOf ls)
+unfolding gather entriesOf
+hold-gather [] = hold-none
+hold-gather (l ∷ rest) = hold-append (hold-only (map (entryOf (l .component) (actsOf l)) (rising 0 16))) (hold-gather rest)
+
+interface-holds : (sheet : Sheet) → AllHold (interface sheet)
+unfolding interface
+interface-holds sheet = hold-gather (located sheet)
+
+-- a charter that does not read fails question 11
+eleven : {A : Type 0} (r : Read A) (q at : ℕ) → asEleven r ≡ refused q at → q ≡ 11
+unfolding asEleven
+eleven (got a next) q at e = let z : _≡_ {A = ℕ} 0 1 = cc in absurd (omega arith)
+eleven (refused p m) q at e = cc
+
+policy-eleven : (c : List ℕ) (q at : ℕ) → readPolicy c ≡ refused q at → q ≡ 11
+unfolding readPolicy
+policy-eleven c q at e = eleven _ q at e
+
+ends-now : {A : Type 0} (bound number : ℕ) (rest : Asked A) → number < bound → endsBelow bound number rest ≡ failed number
+unfolding endsBelow
+ends-now bound number rest h = rw (lt-ltb number bound h) refl
+
+goes-on : {A : Type 0} (bound number : ℕ) (rest : Asked A) → bound ≤ number → endsBelow bound number rest ≡ rest
+unfolding endsBelow
+goes-on bound number rest h = rw (le-ltb number bound h) refl
+
+-- Questions 11 to 18 after a sheet that passes 1 to 10.
+unfoldable later : Sheet → Read (List Tree) → Asked Accepted
+later sheet read =
+    afterReading read (λ policy. wellFormed policy (satisfied policy (interface sheet) (passed (record { sheet = sheet; policy = policy }))))
+
+judged-by : (c : List ℕ) (r : Read Sheet) (sheet : Sheet) (k : ℕ) → r ≡ got sheet k
+    → afterReading r (λ sh. typed (sheetActs sh) (later sh (readPolicy c))) ≡ typed (sheetActs sheet) (later sheet (readPolicy c))
+unfolding afterReading
+judged-by c r sheet k e = rw e refl
+
+judged-from : (s c : List ℕ) (sheet : Sheet) (k : ℕ) → sheetOf s c ≡ got sheet k
+    → judged s c ≡ typed (sheetActs sheet) (later sheet (readPolicy c))
+unfolding judged later
+judged-from s c sheet k e = judged-by c (sheetOf s c) sheet k e
+
+judged-read : (s c : List ℕ) (sheet : Sheet) (k : ℕ) → sheetOf s c ≡ got sheet k
+    → judged s c ≡ endsBelow 11 (worstAll (located sheet)) (later sheet (readPolicy c))
+judged-read s c sheet k e = judged-from s c sheet k e ∙ typed-ends sheet (later sheet (readPolicy c))
+
+later-policy : (sheet : Sheet) (policy : List Tree) (rest : Asked Accepted)
+    → wellFormed policy (satisfied policy (interface sheet) rest) ≡ endsBelow 19 (policyThenEntries policy (interface sheet)) rest
+later-policy sheet policy rest =
+    policy-ends policy (satisfied policy (interface sheet) rest)
+    ∙ ap (endsBelow 16 (policyFault policy)) (entries-end policy (interface sheet) (interface-holds sheet) rest)
+    ∙ go (ltb (policyFault policy) 16) refl
+  where
+    go : (b : Bool) → ltb (policyFault policy) 16 ≡ b
+        → endsBelow 16 (policyFault policy) (endsBelow 19 (entriesFault policy (interface sheet)) rest)
+        ≡ endsBelow 19 (policyThenEntries policy (interface sheet)) rest
+    go true e = unfold endsBelow policyThenEntries in rw (e, lt-ltb (policyFault policy) 19 (omega (arith, ltb-true (policyFault policy) 16 e))) refl
+    go false e = unfold endsBelow policyThenEntries in rw e refl
+
+-- The verdict on a sheet that reads: by the walk's answer, then by the charter's.
+pub judged-typing : (s c : List ℕ) (sheet : Sheet) (k : ℕ) → sheetOf s c ≡ got sheet k → worstAll (located sheet) < 11
+    → judged s c ≡ failed (worstAll (located sheet))
+judged-typing s c sheet k e h = judged-read s c sheet k e ∙ ends-now 11 (worstAll (located sheet)) (later sheet (readPolicy c)) h
+
+later-number : (sheet : Sheet) (c : List ℕ) (r : Read (List Tree)) → readPolicy c ≡ r → afterPolicy r (interface sheet) < 19
+    → later sheet r ≡ failed (afterPolicy r (interface sheet))
+unfolding later afterPolicy afterReading
+later-number sheet c (got policy next) e h =
+    later-policy sheet policy (passed (record { sheet = sheet; policy = policy }))
+    ∙ ends-now 19 (policyThenEntries policy (interface sheet)) (passed (record { sheet = sheet; policy = policy })) h
+later-number sheet c (refused q at) e h = ap failed (policy-eleven c q at e)
+
+pub judged-policy : (s c : List ℕ) (sheet : Sheet) (k : ℕ) → sheetOf s c ≡ got sheet k → 11 ≤ worstAll (located sheet)
+    → laterFault c (interface sheet) < 19 → judged s c ≡ failed (laterFault c (interface sheet))
+unfolding laterFault
+judged-policy s c sheet k e h l =
+    judged-read s c sheet k e ∙ goes-on 11 (worstAll (located sheet)) (later sheet (readPolicy c)) h
+    ∙ later-number sheet c (readPolicy c) refl l
+
+-- A sheet that passes questions 1 to 18 is accepted under some policy.
+pub record Passes (s c : List ℕ) (sheet : Sheet) : Type 0 where
+  pub policy : List Tree
+  pub accepted : judged s c ≡ passed (record { sheet = sheet; policy = policy })
+
+later-passes : (s c : List ℕ) (sheet : Sheet) (r : Read (List Tree)) → judged s c ≡ later sheet r → 19 ≤ afterPolicy r (interface sheet) → Passes s c sheet
+unfolding later afterPolicy afterReading
+later-passes s c sheet (got policy next) e h = record {
+    policy = policy;
+    accepted = e ∙ later-policy sheet policy (passed (record { sheet = sheet; policy = policy }))
+        ∙ goes-on 19 (policyThenEntries policy (interface sheet)) (passed (record { sheet = sheet; policy = policy })) h }
+later-passes s c sheet (refused q at) e h = absurd (omega arith)
+
+pub judged-accepts : (s c : List ℕ) (sheet : Sheet) (k : ℕ) → sheetOf s c ≡ got sheet k → 11 ≤ worstAll (located sheet)
+    → 19 ≤ laterFault c (interface sheet) → Passes s c sheet
+unfolding laterFault
+judged-accepts s c sheet k e h l =
+    later-passes s c sheet (readPolicy c) (judged-read s c sheet k e ∙ goes-on 11 (worstAll (located sheet)) (later sheet (readPolicy c)) h) l
+
+-- A sheet that does not read is refused by the reading's question.
+pub judged-unread : (s c : List ℕ) (q at : ℕ) → sheetOf s c ≡ refused q at → judged s c ≡ failed q
+unfolding judged
+judged-unread s c q at e = rw e (unfold afterReading in refl)
