@@ -29,6 +29,10 @@ readProcess zero s names at = andThen (processAt s at 0 names) (λ form next. re
 readProcess (suc n) s names at =
     andThen (processAt s at (suc n) names) (λ form next. processFrom (λ ns m. readProcess n s ns m) at names form next)
 
+-- A component: its group, and its process as it is read.
+unfoldable pub component : ℕ → Read Process → Read System
+component g process = andThen process (λ p k. got (compₛ g p) k)
+
 -- The system that begins with a form. The right part of a parallel form counts on from the components of the left.
 unfoldable pub systemFrom : (ℕ → List ℕ → ℕ → ℕ → Read System) → (ℕ → Read Process) → ℕ → ℕ → List ℕ → ℕ → Form → ℕ → Read System
 systemFrom read process at names path posts Nil next = got nilₛ next
@@ -36,7 +40,7 @@ systemFrom read process at names path posts Par next =
     andThen (read names path posts next) (λ l m. andThen (read names path (posts + components l) m) (λ r k. got (parₛ l r) k))
 systemFrom read process at names path posts (Group g) next = andThen (read names (path ++ (g ∷ [])) posts next) (λ p k. got (groupₛ g p) k)
 systemFrom read process at names path posts (New t) next = andThen (read (names + 1) path posts next) (λ p k. got (newₛ t p) k)
-systemFrom read process at names path posts (Component g) next = andThen (process next) (λ p k. got (compₛ g p) k)
+systemFrom read process at names path posts (Component g) next = component g (process next)
 systemFrom read process at names path posts (Input a) next = refused 4 at
 systemFrom read process at names path posts (Output a) next = refused 4 at
 systemFrom read process at names path posts Replicate next = refused 4 at

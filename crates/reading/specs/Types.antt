@@ -1,6 +1,6 @@
 -- Types (document 01, "Types and sheets"): "A type is plain data of some kind or a channel G[T]: group G, carrying T."
--- A type is a number, and every number is exactly one type (`shape-number` and `number-shape` of proofs/TypeLaws.antt),
--- so that types are compared as numbers.
+-- A type is a number, and every number is exactly one type (`number-shape`, `shape-plain` and `shape-channel` of
+-- proofs/TypeLaws.antt), so that types are compared as numbers.
 use Prim.Native.Nat.{ℕ, zero, suc, _+_, _-_, _*_, _/_, _%_}
 use mathlib.Core.List.{List}
 use mathlib.Core.Bool.{cond}

@@ -2,7 +2,6 @@
 ghost use mathlib.Core.Path.{_≡_};
 ghost use Rattle.reading.specs.Read.{byteAt, below};
 ghost use Rattle.reading.specs.Told.{number, refusalOf};
-
 use crate::Number;
 use crate::NumberRead;
 use crate::Refusal;

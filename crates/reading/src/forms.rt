@@ -1,15 +1,10 @@
 // What stands at a place: the form's code byte (questions 2, 4 and 5), then its fields (questions 2, 4 and 6).
 ghost use mathlib.Core.Path.{_≡_};
 ghost use mathlib.Core.Bool.{_&&_};
+ghost use lib.Dec.{ltb};
 ghost use Rattle.reading.specs.Read.{got, refused};
 ghost use Rattle.reading.specs.Forms.{limited, newForm, inputForm, outputForm, freshGroup, groupForm, componentForm, processAt, systemAt};
 ghost use Rattle.reading.specs.Told.{number, form as told, refusalOf, pathOf};
-
-use crate::bytes::byte_at;
-use crate::bytes::byte_below;
-use crate::bytes::refusal;
-use crate::paths;
-use crate::types::type_at;
 use crate::Act;
 use crate::Form;
 use crate::FormRead;
@@ -18,6 +13,11 @@ use crate::NumberRead;
 use crate::Path;
 use crate::Place;
 use crate::Refusal;
+use crate::bytes::byte_at;
+use crate::bytes::byte_below;
+use crate::bytes::refusal;
+use crate::paths;
+use crate::types::type_at;
 
 fn both(a: bool, b: bool) -> bool
     ensures { λ r. ⌜ r ≡ (a && b) ⌝ }
@@ -36,6 +36,20 @@ fn too_many(at: usize) -> FormRead
     ensures { λ r. ⌜ told r ≡ refused 5 at ⌝ }
 {
     FormRead::Refused(Refusal { question: 5, at })
+}
+
+// Question 4 fails at a code byte that no form has.
+fn no_form(at: usize) -> FormRead
+    ensures { λ r. ⌜ told r ≡ refused 4 at ⌝ }
+{
+    FormRead::Refused(Refusal { question: 4, at })
+}
+
+// Is there room for a form that binds a name?
+fn binds(nest: usize, names: usize) -> bool
+    ensures { λ r. ⌜ r ≡ (ltb 0 nest && ltb names 64) ⌝ }
+{
+    both(0 < nest, names < 64)
 }
 
 // A form without fields.
@@ -175,7 +189,7 @@ pub fn process_at(s: &[u8], at: usize, nest: usize, names: usize) -> FormRead
     };
     let next = byte.next;
     let level = 0 < nest;
-    let binder = both(level, names < 64);
+    let binder = binds(nest, names);
     let code = byte.value;
     match code {
         0 => bare(Form::Nil, at, next, level),
@@ -184,12 +198,19 @@ pub fn process_at(s: &[u8], at: usize, nest: usize, names: usize) -> FormRead
         5 => input_form(s, at, next, binder),
         6 => output_form(s, at, next, level),
         7 => bare(Form::Replicate, at, next, level),
-        _ => FormRead::Refused(Refusal { question: 4, at }),
+        _ => no_form(at),
     }
 }
 
 // What stands at a place of a system; beside a process's limits, the path so far and the number of components so far.
-pub fn system_at(s: &[u8], at: usize, nest: usize, names: usize, path: Path, components: usize) -> FormRead
+pub fn system_at(
+    s: &[u8],
+    at: usize,
+    nest: usize,
+    names: usize,
+    path: Path,
+    components: usize,
+) -> FormRead
     ensures { λ r. ⌜ told r ≡ systemAt (now (s .entry)) at nest names (pathOf path) components ⌝ }
 {
     let read = byte_at(s, at);
@@ -198,7 +219,7 @@ pub fn system_at(s: &[u8], at: usize, nest: usize, names: usize, path: Path, com
     };
     let next = byte.next;
     let level = 0 < nest;
-    let binder = both(level, names < 64);
+    let binder = binds(nest, names);
     let deeper = both(level, paths::room(path));
     let code = byte.value;
     match code {
@@ -207,6 +228,6 @@ pub fn system_at(s: &[u8], at: usize, nest: usize, names: usize, path: Path, com
         2 => group_form(s, at, next, path, deeper),
         3 => new_form(s, at, next, binder),
         4 => component_form(s, at, next, path, both(deeper, components < 32)),
-        _ => FormRead::Refused(Refusal { question: 4, at }),
+        _ => no_form(at),
     }
 }

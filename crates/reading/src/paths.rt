@@ -6,7 +6,6 @@ ghost use lib.Dec.{ltb};
 ghost use lib.ListN.{length};
 ghost use Rattle.reading.specs.Forms.{member};
 ghost use Rattle.reading.specs.Told.{pathOf};
-
 use crate::Path;
 
 pub fn empty() -> Path

@@ -1,14 +1,8 @@
 // A whole encoded system: the free names, one system, and nothing after it.
 ghost use mathlib.Core.Path.{_≡_};
-ghost use Rattle.reading.specs.System.{readProcess, readSystem, freeTypes, header, sheetOf, readSheet};
+ghost use Prim.Native.Nat.{ℕ, _<_};
+ghost use Rattle.reading.specs.System.{component, readProcess, readSystem, freeTypes, sheetOf, readSheet};
 ghost use Rattle.reading.specs.Told.{number, ending, ended, counted, whyOf, pathOf};
-
-use crate::bytes::byte_below;
-use crate::bytes::refusal;
-use crate::forms::process_at;
-use crate::forms::system_at;
-use crate::paths;
-use crate::types::type_at;
 use crate::End;
 use crate::Form;
 use crate::FormRead;
@@ -16,6 +10,12 @@ use crate::Number;
 use crate::NumberRead;
 use crate::Path;
 use crate::Refusal;
+use crate::bytes::byte_below;
+use crate::bytes::refusal;
+use crate::forms::process_at;
+use crate::forms::system_at;
+use crate::paths;
+use crate::types::type_at;
 
 // Why a form was not read.
 fn why(read: FormRead) -> Refusal
@@ -55,8 +55,11 @@ pub fn read_process(s: &[u8], at: usize, nest: usize, names: usize) -> End
     }
 }
 
-// Reads past a component's process and counts the component.
-fn read_component(s: &[u8], at: usize, nest: usize, names: usize, components: usize) -> NumberRead {
+// Reads past a component's process and counts the component, whatever its group.
+fn read_component(s: &[u8], at: usize, nest: usize, names: usize, components: usize) -> NumberRead
+    requires { ⌜ components < 32 ⌝ }
+    ensures { λ r. ⌜ ((g : ℕ) → number r ≡ counted components (component g (readProcess nest (now (s .entry)) names at))) ⌝ }
+{
     let end = read_process(s, at, nest, names);
     match end {
         End::At(next) => NumberRead::Found(Number {
@@ -68,7 +71,14 @@ fn read_component(s: &[u8], at: usize, nest: usize, names: usize, components: us
 }
 
 // Reads past a system. The number found is that of the components so far, those of this system included.
-pub fn read_system(s: &[u8], at: usize, nest: usize, names: usize, path: Path, components: usize) -> NumberRead
+pub fn read_system(
+    s: &[u8],
+    at: usize,
+    nest: usize,
+    names: usize,
+    path: Path,
+    components: usize,
+) -> NumberRead
     ensures { λ r. ⌜ number r ≡ counted components (readSystem nest (now (s .entry)) names (pathOf path) components at) ⌝ }
 {
     let read = system_at(s, at, nest, names, path, components);
@@ -135,7 +145,10 @@ fn read_sheet(s: &[u8]) -> End
     if next == s.len() {
         End::At(next)
     } else {
-        End::Refused(Refusal { question: 3, at: next })
+        End::Refused(Refusal {
+            question: 3,
+            at: next,
+        })
     }
 }
 
@@ -144,10 +157,16 @@ pub fn read(sheet: &[u8], charter: &[u8]) -> End
     ensures { λ r. ⌜ ending r ≡ ended (sheetOf (now (sheet .entry)) (now (charter .entry))) ⌝ }
 {
     if 4096 < sheet.len() {
-        return End::Refused(Refusal { question: 1, at: 4096 });
+        return End::Refused(Refusal {
+            question: 1,
+            at: 4096,
+        });
     }
     if 4096 < charter.len() {
-        return End::Refused(Refusal { question: 1, at: 4096 });
+        return End::Refused(Refusal {
+            question: 1,
+            at: 4096,
+        });
     }
     read_sheet(sheet)
 }

@@ -3,11 +3,10 @@ ghost use mathlib.Core.Path.{_≡_};
 ghost use Prim.Native.Nat.{_≤_};
 ghost use Rattle.reading.specs.Types.{shape, groupsThenKind, typeAt};
 ghost use Rattle.reading.specs.Told.{number};
-
-use crate::bytes::byte_below;
 use crate::Number;
 use crate::NumberRead;
 use crate::Shape;
+use crate::bytes::byte_below;
 
 // The shape of a type.
 pub fn shape_of(t: usize) -> Shape

@@ -1,9 +1,43 @@
--- Which number and values of document 01 each case of a service's answer is.
+-- Which number and values of document 01 each case of a service's answer is, and what a call of `check` promises.
 use Prim.Native.Nat.{ℕ}
+use mathlib.Core.Path.{_≡_}
+use mathlib.Core.List.{List}
+use lib.ListN.{getD}
+use Rattle.reading.specs.Read.{got}
+use Rattle.reading.specs.Syntax.{Sheet}
+use Rattle.reading.specs.System.{sheetOf}
+use Rattle.reading.specs.declared.End.{End}
+use Rattle.reading.specs.declared.End.the-variants as end-case
 use Rattle.service.specs.Questions.{Asked, passed, failed}
+use Rattle.service.specs.Check.{fitting, written, checked}
 use Rattle.service.specs.declared.Answer.{Answer}
 use Rattle.service.specs.declared.Answer.the-variants as answer-case
 
 abbrev pub told : Answer → Asked ℕ
 told (answer-case.Accepted n) = passed n
 told (answer-case.Refused n) = failed n
+
+-- What `check` promises: its answer and the final bytes of the lent output are those of the definition.
+pub record Checked (sheet charter output output′ : List ℕ) (r : Answer) : Type 0 where
+  pub answer : told r ≡ checked sheet charter output .answer
+  pub lent : output′ ≡ checked sheet charter output .lent
+
+-- the question that a reading fails
+abbrev pub questionOf : End → ℕ
+questionOf (end-case.At next) = 0
+questionOf (end-case.Refused r) = r .question
+
+-- A sheet that passes questions 1 to 6 beside a charter.
+pub record Reads (s charter : List ℕ) : Type 0 where
+  pub tree : Sheet
+  pub end : ℕ
+  pub reads : sheetOf s charter ≡ got tree end
+
+-- Memory without a count.
+pub record Clear (table : List ℕ) : Type 0 where
+  pub zeros : (i : ℕ) → getD table i 0 ≡ 0
+
+-- Bytes that are written where there is room for them.
+pub record Delivered (bytes output output′ : List ℕ) (r : Answer) : Type 0 where
+  pub answer : told r ≡ written output (fitting output bytes) .answer
+  pub lent : output′ ≡ written output (fitting output bytes) .lent

@@ -1,0 +1,119 @@
+-- What a form that was read tells of the limits: there was room for it, and a process has only the forms of processes.
+use Prim.Native.Nat.{ℕ, _<_}
+use mathlib.Core.Bool.{Bool, true, false, _&&_}
+use mathlib.Core.List.{List}
+use mathlib.Core.Path.{_≡_, refl}
+use native.Mathlib.Omega.{arith}
+use borrow.Author.Tests.{ltb-true}
+use lib.Dec.{ltb, eqb}
+use lib.ListN.{length}
+use Rattle.reading.proofs.Parts.{Every, of-found, every-then, every-cond, every-limited}
+use Rattle.reading.specs.Read.{got, byteAt}
+use Rattle.reading.specs.Types.{typeAt}
+use Rattle.reading.specs.Forms.{newForm, inputForm, outputForm, freshGroup, groupForm, componentForm, processForm, processAt, systemForm, systemAt}
+use Rattle.reading.specs.declared.Form.{Form}
+use Rattle.reading.specs.declared.Form.the-variants.{Nil, Par, Group, New, Component, Input, Output, Replicate}
+
+pub both-true : (a b : Bool) → (a && b) ≡ true → (a ≡ true) × (b ≡ true)
+both-true true b e = (refl, e)
+both-true false b e = let z : _≡_ {A = ℕ} 0 1 = cc in absurd (omega arith)
+
+-- In a process, where `nest` more forms may be nested and `names` names are in scope.
+unfoldable pub FitsProcess : ℕ → ℕ → Form → Type 0
+FitsProcess nest names Nil = 0 < nest
+FitsProcess nest names Par = 0 < nest
+FitsProcess nest names (Group g) = ⊥
+FitsProcess nest names (New t) = (0 < nest) × (names < 64)
+FitsProcess nest names (Component g) = ⊥
+FitsProcess nest names (Input a) = (0 < nest) × (names < 64)
+FitsProcess nest names (Output a) = 0 < nest
+FitsProcess nest names Replicate = 0 < nest
+
+-- In a system, with `long` groups in the path and `posts` components before.
+unfoldable pub FitsSystem : ℕ → ℕ → ℕ → ℕ → Form → Type 0
+FitsSystem nest names long posts Nil = 0 < nest
+FitsSystem nest names long posts Par = 0 < nest
+FitsSystem nest names long posts (Group g) = (0 < nest) × (long < 8)
+FitsSystem nest names long posts (New t) = (0 < nest) × (names < 64)
+FitsSystem nest names long posts (Component g) = (0 < nest) × (long < 8) × (posts < 32)
+FitsSystem nest names long posts (Input a) = ⊥
+FitsSystem nest names long posts (Output a) = ⊥
+FitsSystem nest names long posts Replicate = ⊥
+
+both-below : (a b c d : ℕ) → (ltb a b && ltb c d) ≡ true → (a < b) × (c < d)
+both-below a b c d e = let h = both-true (ltb a b) (ltb c d) e in (ltb-true a b (h .0), ltb-true c d (h .1))
+
+module _ (s : List ℕ) (at nest names : ℕ) where
+  process-every : Every (FitsProcess nest names) (processAt s at nest names)
+  unfolding Every FitsProcess processAt processForm newForm inputForm outputForm
+  process-every = every-then P (byteAt s at) _ (λ code next _.
+      every-cond P (eqb code 0) _ _ (every-limited P _ at _ (λ e. ltb-true 0 nest e))
+      (every-cond P (eqb code 1) _ _ (every-limited P _ at _ (λ e. ltb-true 0 nest e))
+      (every-cond P (eqb code 3) _ _ (every-limited P _ at _ (λ e. every-then P (typeAt s next) _ (λ t m _. both-below 0 nest names 64 e)))
+      (every-cond P (eqb code 5) _ _ (every-limited P _ at _ (λ e. every-then P (byteAt s next) _ (λ x m _. every-then P (typeAt s m) _ (λ t k _. both-below 0 nest names 64 e))))
+      (every-cond P (eqb code 6) _ _ (every-limited P _ at _ (λ e. every-then P (byteAt s next) _ (λ x m _. every-then P (byteAt s m) _ (λ t k _. ltb-true 0 nest e))))
+      (every-cond P (eqb code 7) _ _ (every-limited P _ at _ (λ e. ltb-true 0 nest e)) tt))))))
+    where
+      P : Form → Type 0
+      P = FitsProcess nest names
+
+  -- Nothing is read as a form of a process for which there is no room.
+  pub process-room : {f : Form} {next : ℕ} → processAt s at nest names ≡ got f next → FitsProcess nest names f
+  process-room e = of-found (FitsProcess nest names) (processAt s at nest names) process-every e
+
+module _ (s : List ℕ) (at nest names : ℕ) (path : List ℕ) (posts : ℕ) where
+  fits : Form → Type 0
+  fits = FitsSystem nest names (length path) posts
+
+  group-every : (next : ℕ) → (0 < nest) × (length path < 8) → Every fits (groupForm s next path)
+  unfolding fits Every FitsSystem groupForm
+  group-every next h = every-then fits (freshGroup s next path) _ (λ g m _. h)
+
+  component-every : (next : ℕ) → (0 < nest) × (length path < 8) × (posts < 32) → Every fits (componentForm s next path)
+  unfolding fits Every FitsSystem componentForm
+  component-every next h = every-then fits (freshGroup s next path) _ (λ g m _. h)
+
+  new-every : (next : ℕ) → (0 < nest) × (names < 64) → Every fits (newForm s next)
+  unfolding fits Every FitsSystem newForm
+  new-every next h = every-then fits (typeAt s next) _ (λ t m _. h)
+
+  all-three : ((ltb 0 nest && ltb (length path) 8) && ltb posts 32) ≡ true → (0 < nest) × (length path < 8) × (posts < 32)
+  all-three e =
+      let h = both-true (ltb 0 nest && ltb (length path) 8) (ltb posts 32) e in
+      let g = both-below 0 nest (length path) 8 (h .0) in
+      (g .0, g .1, ltb-true posts 32 (h .1))
+
+  system-every : Every fits (systemAt s at nest names path posts)
+  unfolding fits Every FitsSystem systemAt systemForm
+  system-every = every-then fits (byteAt s at) _ (λ code next _.
+      every-cond fits (eqb code 0) _ _ (every-limited fits _ at _ (λ e. ltb-true 0 nest e))
+      (every-cond fits (eqb code 1) _ _ (every-limited fits _ at _ (λ e. ltb-true 0 nest e))
+      (every-cond fits (eqb code 2) _ _ (every-limited fits _ at _ (λ e. group-every next (both-below 0 nest (length path) 8 e)))
+      (every-cond fits (eqb code 3) _ _ (every-limited fits _ at _ (λ e. new-every next (both-below 0 nest names 64 e)))
+      (every-cond fits (eqb code 4) _ _ (every-limited fits _ at _ (λ e. component-every next (all-three e))) tt)))))
+
+  pub system-room : {f : Form} {next : ℕ} → systemAt s at nest names path posts ≡ got f next → FitsSystem nest names (length path) posts f
+  unfolding fits
+  system-room e = of-found fits (systemAt s at nest names path posts) system-every e
+
+pub process-level : (nest names : ℕ) (f : Form) → FitsProcess nest names f → 0 < nest
+unfolding FitsProcess
+process-level nest names Nil h = h
+process-level nest names Par h = h
+process-level nest names (Group g) h = absurd h
+process-level nest names (New t) h = h .0
+process-level nest names (Component g) h = absurd h
+process-level nest names (Input a) h = h .0
+process-level nest names (Output a) h = h
+process-level nest names Replicate h = h
+
+pub system-level : (nest names long posts : ℕ) (f : Form) → FitsSystem nest names long posts f → 0 < nest
+unfolding FitsSystem
+system-level nest names long posts Nil h = h
+system-level nest names long posts Par h = h
+system-level nest names long posts (Group g) h = h .0
+system-level nest names long posts (New t) h = h .0
+system-level nest names long posts (Component g) h = h .0
+system-level nest names long posts (Input a) h = absurd h
+system-level nest names long posts (Output a) h = absurd h
+system-level nest names long posts Replicate h = absurd h

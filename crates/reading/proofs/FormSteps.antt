@@ -1,0 +1,90 @@
+-- The arms of the matches on a code byte: what stands at a place, from the byte there and from what the arm's function answers.
+use Prim.Native.Nat.{ℕ}
+use mathlib.Core.Bool.{Bool, true, false, cond, _&&_}
+use mathlib.Core.List.{List}
+use mathlib.Core.Path.{_≡_}
+use borrow.Author.Tests.{ne-eqb}
+use Rattle.reading.proofs.Steps.{steps}
+use Rattle.reading.specs.Read.{Read, got, refused}
+use Rattle.reading.specs.Forms.{limited, newForm, inputForm, outputForm, groupForm, componentForm, processForm, systemForm}
+use Rattle.reading.specs.declared.Form.{Form}
+use Rattle.reading.specs.declared.Form.the-variants.{Nil, Par, Replicate}
+
+-- A test whose value b the code has as a flag.
+pub flag-true : {A : Type 0} {y : A} (b m : Bool) (x z : A) → b ≡ m → b ≡ true → y ≡ x → y ≡ cond m x z
+flag-true b m x z e h p = rw (← e, h) p
+
+pub flag-false : {A : Type 0} {y : A} (b m : Bool) (x z : A) → b ≡ m → b ≡ false → y ≡ z → y ≡ cond m x z
+flag-false b m x z e h p = rw (← e, h) p
+
+pub ruleset flag-steps = (steps, flag-true, flag-false)
+
+-- Processes: `b` is the code's flag for a form that binds a name.
+module _ (s : List ℕ) (at next : ℕ) (level binder : Bool) (code : ℕ) where
+  abbrev pub process : Read Form
+  process = processForm s at next level binder code
+
+  module _ {y : Read Form} where
+    pub process-nil : code ≡ 0 → y ≡ limited level at (got Nil next) → y ≡ process
+    unfolding processForm
+    process-nil e h = rw e h
+
+    pub process-par : code ≡ 1 → y ≡ limited level at (got Par next) → y ≡ process
+    unfolding processForm
+    process-par e h = rw e h
+
+    pub process-new : (b : Bool) → code ≡ 3 → b ≡ binder → y ≡ limited b at (newForm s next) → y ≡ process
+    unfolding processForm
+    process-new b e f h = rw (e, ← f) h
+
+    pub process-input : (b : Bool) → code ≡ 5 → b ≡ binder → y ≡ limited b at (inputForm s next) → y ≡ process
+    unfolding processForm
+    process-input b e f h = rw (e, ← f) h
+
+    pub process-output : code ≡ 6 → y ≡ limited level at (outputForm s next) → y ≡ process
+    unfolding processForm
+    process-output e h = rw e h
+
+    pub process-replicate : code ≡ 7 → y ≡ limited level at (got Replicate next) → y ≡ process
+    unfolding processForm
+    process-replicate e h = rw e h
+
+    pub process-other : (code ≡ 0 → ⊥) → (code ≡ 1 → ⊥) → (code ≡ 3 → ⊥) → (code ≡ 5 → ⊥) → (code ≡ 6 → ⊥) → (code ≡ 7 → ⊥)
+        → y ≡ refused 4 at → y ≡ process
+    unfolding processForm
+    process-other a b c d e f h = rw (ne-eqb code 0 a, ne-eqb code 1 b, ne-eqb code 3 c, ne-eqb code 5 d, ne-eqb code 6 e, ne-eqb code 7 f) h
+
+pub ruleset process-forms = (steps, process-nil, process-par, process-new, process-input, process-output, process-replicate, process-other)
+
+-- Systems: `b` is the code's flag for a form that binds a name, `r` and `d` those for room in the path, `a` that for a component.
+module _ (s : List ℕ) (at next : ℕ) (path : List ℕ) (level binder room more : Bool) (code : ℕ) where
+  abbrev pub system : Read Form
+  system = systemForm s at next path level binder (level && room) ((level && room) && more) code
+
+  module _ {y : Read Form} where
+    pub system-nil : code ≡ 0 → y ≡ limited level at (got Nil next) → y ≡ system
+    unfolding systemForm
+    system-nil e h = rw e h
+
+    pub system-par : code ≡ 1 → y ≡ limited level at (got Par next) → y ≡ system
+    unfolding systemForm
+    system-par e h = rw e h
+
+    pub system-group : (r d : Bool) → code ≡ 2 → r ≡ room → d ≡ (level && r) → y ≡ limited d at (groupForm s next path) → y ≡ system
+    unfolding systemForm
+    system-group r d e f g h = rw (e, ← f, ← g) h
+
+    pub system-new : (b : Bool) → code ≡ 3 → b ≡ binder → y ≡ limited b at (newForm s next) → y ≡ system
+    unfolding systemForm
+    system-new b e f h = rw (e, ← f) h
+
+    pub system-component : (r d a : Bool) → code ≡ 4 → r ≡ room → d ≡ (level && r) → a ≡ (d && more)
+        → y ≡ limited a at (componentForm s next path) → y ≡ system
+    unfolding systemForm
+    system-component r d a e f g i h = rw (e, ← f, ← g, ← i) h
+
+    pub system-other : (code ≡ 0 → ⊥) → (code ≡ 1 → ⊥) → (code ≡ 2 → ⊥) → (code ≡ 3 → ⊥) → (code ≡ 4 → ⊥) → y ≡ refused 4 at → y ≡ system
+    unfolding systemForm
+    system-other a b c d e h = rw (ne-eqb code 0 a, ne-eqb code 1 b, ne-eqb code 2 c, ne-eqb code 3 d, ne-eqb code 4 e) h
+
+pub ruleset system-forms = (steps, system-nil, system-par, system-group, system-new, system-component, system-other)

@@ -1,0 +1,15 @@
+-- Laws of the reader's definitions, and the lemmas that its functions' proofs share.
+pub mod Tests
+pub mod Steps
+pub mod PathLaws
+pub mod FormSteps
+pub mod Parts
+pub mod TypeLaws
+pub mod TypeSteps
+pub mod FormLaws
+pub mod TreeLaws
+pub mod ProcessSteps
+pub mod SystemSteps
+pub mod SheetSteps
+pub mod Local
+pub mod ReadLaws

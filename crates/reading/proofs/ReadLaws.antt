@@ -1,0 +1,240 @@
+-- The bytes read determine what is read: every reader of a sheet's parts is local (Local.antt), and reads at least one byte,
+-- but for a list of no types. A sheet that reads, reads as one syntax tree.
+use Prim.Native.Nat.{ℕ, zero, suc, _+_, _<_, _≤_}
+use mathlib.Core.Bool.{Bool, true, false, cond}
+use mathlib.Core.List.{List, [], _∷_, _++_}
+use mathlib.Core.Path.{_≡_, refl, sym, ap, _∙_}
+use native.Mathlib.Omega.{arith}
+use borrow.Author.Tests.{ltb-true, ltb-false, eqb-false, lt-ltb, le-ltb, ne-eqb}
+use lib.Dec.{ltb, eqb}
+use lib.ListN.{length, take, getD, length-take}
+use lib.Seq.{take-take, getD-take}
+use Rattle.reading.proofs.FormLaws.{FitsProcess, FitsSystem, process-room, process-level, system-room, system-level}
+use Rattle.reading.proofs.Local.{ends, Local, same-bytes, same-refusal, from-earlier, got-local, refused-local, cond-local, limited-local, then-local}
+use Rattle.reading.proofs.Parts.{never, parts, passed, byte-found}
+use Rattle.reading.specs.Read.{Read, got, refused, andThen, byteAt, below}
+use Rattle.reading.specs.Types.{channel, groupsThenKind, typeAt}
+use Rattle.reading.specs.Syntax.{Process, nil, par, new, input, output, repl, System, nilₛ, parₛ, groupₛ, newₛ, compₛ, Sheet, components}
+use Rattle.reading.specs.Forms.{member, newForm, inputForm, outputForm, freshGroup, groupForm, componentForm, processForm, processAt, systemForm, systemAt}
+use Rattle.reading.specs.System.{processFrom, readProcess, component, systemFrom, readSystem, freeTypes, header, toItsEnd, readSheet, sheetOf}
+use Rattle.reading.specs.declared.Form.{Form}
+use Rattle.reading.specs.declared.Form.the-variants.{Nil, Par, Group, New, Component, Input, Output, Replicate}
+
+-- A byte.
+pub byte-place : (s : List ℕ) (at : ℕ) {b k : ℕ} → byteAt s at ≡ got b k → k ≡ at + 1
+byte-place s at {b} {k} e = let h = byte-found s at e .then in cc
+
+byte-ends : (s : List ℕ) (at : ℕ) → ends (byteAt s at) ≡ at + 1
+unfolding ends byteAt
+byte-ends s at = go (ltb at (length s))
+  where
+    go : (t : Bool) → ends (cond t (got (getD s at 0) (at + 1)) (refused 2 at)) ≡ at + 1
+    go true = refl
+    go false = refl
+
+-- Two lists that agree up to a byte have it both or neither, and the same one.
+byte-same : (s s′ : List ℕ) (at : ℕ) → take (at + 1) s ≡ take (at + 1) s′ → byteAt s′ at ≡ byteAt s at
+unfolding byteAt
+byte-same s s′ at h = go (ltb at (length s)) refl
+  where
+    long : length (take (at + 1) s) ≡ length (take (at + 1) s′)
+    long = ap length h
+
+    go : (t : Bool) → ltb at (length s) ≡ t
+        → cond (ltb at (length s′)) (got (getD s′ at 0) (at + 1)) (refused 2 at) ≡ cond t (got (getD s at 0) (at + 1)) (refused 2 at)
+    go true e =
+        let k : at < length s′ = omega (arith, ltb-true at (length s) e, long, length-take (at + 1) s, length-take (at + 1) s′) in
+        let v : getD s′ at 0 ≡ getD s at 0 = sym (getD-take (at + 1) s′ at 0 (omega arith)) ∙ ap (λ (l : List ℕ). getD l at 0) (sym h) ∙ getD-take (at + 1) s at 0 (omega arith) in
+        rw (lt-ltb at (length s′) k, v)
+    go false e = rw (le-ltb at (length s′) (omega (arith, ltb-false at (length s) e, long, length-take (at + 1) s, length-take (at + 1) s′)))
+
+pub byte-local : (at : ℕ) → Local (at + 1) (λ s. byteAt s at)
+byte-local at = record { later = λ s. omega (arith, byte-ends s at); same = λ s s′ h. byte-same s s′ at (rw byte-ends at h) }
+
+-- A byte below a bound, and so a type.
+pub below-place : (n : ℕ) (s : List ℕ) (at : ℕ) {b k : ℕ} → below n s at ≡ got b k → k ≡ at + 1
+unfolding below
+below-place n s at {b} {k} e =
+    let h = parts (byteAt s at) (λ b next. cond (ltb b n) (got b next) (refused 4 at)) e in
+    let g = passed (ltb (h .value) n) (got (h .value) (h .place)) 4 at (h .rest) in
+    let v : h .place ≡ k = cc in
+    omega (arith, byte-place s at (h .first))
+
+pub below-local : (n at : ℕ) → Local (at + 1) (λ s. below n s at)
+unfolding below
+below-local n at = then-local _ _ (byte-local at) (λ s b next e.
+    let h = byte-place s at e in
+    cond-local (ltb b n) _ _ (got-local b next (omega arith)) (refused-local 4 at (omega arith)))
+
+pub groups-local : (n at : ℕ) → Local (at + 1) (λ s. groupsThenKind n s at)
+unfolding groupsThenKind
+groups-local zero at = below-local 16 at
+groups-local (suc n) at = then-local _ _ (below-local 64 at) (λ s g next e.
+    then-local _ _ (from-earlier (omega arith) (groups-local n next)) (λ s′ t m f. got-local (channel g t) m (omega arith)))
+
+pub type-local : (at : ℕ) → Local (at + 1) (λ s. typeAt s at)
+unfolding typeAt
+type-local at = then-local _ _ (below-local 5 at) (λ s n next e. from-earlier (omega arith) (groups-local n next))
+
+-- The fields of forms.
+pub new-local : (at : ℕ) → Local (at + 1) (λ s. newForm s at)
+unfolding newForm
+new-local at = then-local _ _ (type-local at) (λ s t next e. got-local (New t) next (omega arith))
+
+pub input-local : (at : ℕ) → Local (at + 1) (λ s. inputForm s at)
+unfolding inputForm
+input-local at = then-local _ _ (byte-local at) (λ s x next e.
+    then-local _ _ (from-earlier (omega arith) (type-local next)) (λ s′ t m f. got-local (Input (record { channel = x; object = t })) m (omega arith)))
+
+pub output-local : (at : ℕ) → Local (at + 1) (λ s. outputForm s at)
+unfolding outputForm
+output-local at = then-local _ _ (byte-local at) (λ s x next e.
+    then-local _ _ (from-earlier (omega arith) (byte-local next)) (λ s′ y m f. got-local (Output (record { channel = x; object = y })) m (omega arith)))
+
+pub fresh-local : (at : ℕ) (path : List ℕ) → Local (at + 1) (λ s. freshGroup s at path)
+unfolding freshGroup
+fresh-local at path = then-local _ _ (below-local 64 at) (λ s g next e.
+    let h = below-place 64 s at e in
+    cond-local (member g path) _ _ (refused-local 6 at (omega arith)) (got-local g next (omega arith)))
+
+pub group-local : (at : ℕ) (path : List ℕ) → Local (at + 1) (λ s. groupForm s at path)
+unfolding groupForm
+group-local at path = then-local _ _ (fresh-local at path) (λ s g next e. got-local (Group g) next (omega arith))
+
+pub component-local : (at : ℕ) (path : List ℕ) → Local (at + 1) (λ s. componentForm s at path)
+unfolding componentForm
+component-local at path = then-local _ _ (fresh-local at path) (λ s g next e. got-local (Component g) next (omega arith))
+
+-- Forms.
+pub process-local : (at nest names : ℕ) → Local (at + 1) (λ s. processAt s at nest names)
+unfolding processAt processForm
+process-local at nest names = then-local _ _ (byte-local at) (λ s code next e.
+    let h = byte-place s at e in
+    let k : next ≤ at + 1 = omega arith in
+    cond-local (eqb code 0) _ _ (limited-local _ at _ k (got-local Nil next (omega arith)))
+    (cond-local (eqb code 1) _ _ (limited-local _ at _ k (got-local Par next (omega arith)))
+    (cond-local (eqb code 3) _ _ (limited-local _ at _ k (from-earlier (omega arith) (new-local next)))
+    (cond-local (eqb code 5) _ _ (limited-local _ at _ k (from-earlier (omega arith) (input-local next)))
+    (cond-local (eqb code 6) _ _ (limited-local _ at _ k (from-earlier (omega arith) (output-local next)))
+    (cond-local (eqb code 7) _ _ (limited-local _ at _ k (got-local Replicate next (omega arith))) (refused-local 4 at k)))))))
+
+pub system-local : (at nest names : ℕ) (path : List ℕ) (posts : ℕ) → Local (at + 1) (λ s. systemAt s at nest names path posts)
+unfolding systemAt systemForm
+system-local at nest names path posts = then-local _ _ (byte-local at) (λ s code next e.
+    let h = byte-place s at e in
+    let k : next ≤ at + 1 = omega arith in
+    cond-local (eqb code 0) _ _ (limited-local _ at _ k (got-local Nil next (omega arith)))
+    (cond-local (eqb code 1) _ _ (limited-local _ at _ k (got-local Par next (omega arith)))
+    (cond-local (eqb code 2) _ _ (limited-local _ at _ k (from-earlier (omega arith) (group-local next path)))
+    (cond-local (eqb code 3) _ _ (limited-local _ at _ k (from-earlier (omega arith) (new-local next)))
+    (cond-local (eqb code 4) _ _ (limited-local _ at _ k (from-earlier (omega arith) (component-local next path))) (refused-local 4 at k))))))
+
+-- Processes: the forms that a process has not are never found there.
+map-local : {A B : Type 0} {from : ℕ} (X : List ℕ → Read A) (f : A → B) → Local from X → Local from (λ s. andThen (X s) (λ a k. got (f a) k))
+map-local X f l = then-local _ _ l (λ s a k e. got-local (f a) k (omega arith))
+
+module _ (read : List ℕ → ℕ → ℕ → Read Process) (l : (names at : ℕ) → Local at (λ s. read s names at)) (nest at names : ℕ) where
+  process-from-local : (f : Form) (next : ℕ) → FitsProcess nest names f → Local next (λ s. processFrom (λ ns m. read s ns m) at names f next)
+  unfolding processFrom FitsProcess
+  process-from-local Nil next h = got-local nil next (omega arith)
+  process-from-local Par next h = then-local _ _ (l names next) (λ s p m e. map-local _ (λ q. par p q) (l names m))
+  process-from-local (Group g) next h = absurd h
+  process-from-local (New t) next h = map-local _ (λ p. new t p) (l (names + 1) next)
+  process-from-local (Component g) next h = absurd h
+  process-from-local (Input a) next h = map-local _ (λ p. input (a .channel) (a .object) p) (l (names + 1) next)
+  process-from-local (Output a) next h = map-local _ (λ p. output (a .channel) (a .object) p) (l names next)
+  process-from-local Replicate next h = map-local _ (λ p. repl p) (l names next)
+
+pub read-process-local : (nest names at : ℕ) → Local (at + 1) (λ s. readProcess nest s names at)
+unfolding readProcess
+read-process-local zero names at = then-local _ _ (process-local at 0 names) (λ s f next e.
+    absurd (omega (arith, process-level 0 names f (process-room s at 0 names e))))
+read-process-local (suc n) names at = then-local _ _ (process-local at (suc n) names) (λ s f next e.
+    process-from-local (λ s. readProcess n s) (λ ns m. from-earlier (omega arith) (read-process-local n ns m)) (suc n) at names f next
+    (process-room s at (suc n) names e))
+
+-- Systems.
+module _ (read : List ℕ → ℕ → List ℕ → ℕ → ℕ → Read System) (l : (names : ℕ) (path : List ℕ) (posts at : ℕ) → Local at (λ s. read s names path posts at))
+    (process : List ℕ → ℕ → Read Process) (m : (at : ℕ) → Local at (λ s. process s at)) (nest at names : ℕ) (path : List ℕ) (posts : ℕ) where
+  system-from-local : (f : Form) (next : ℕ) → FitsSystem nest names (length path) posts f
+      → Local next (λ s. systemFrom (λ ns p k i. read s ns p k i) (λ i. process s i) at names path posts f next)
+  unfolding systemFrom component FitsSystem
+  system-from-local Nil next h = got-local nilₛ next (omega arith)
+  system-from-local Par next h = then-local _ _ (l names path posts next) (λ s p k e. map-local _ (λ q. parₛ p q) (l names path (posts + components p) k))
+  system-from-local (Group g) next h = map-local _ (λ p. groupₛ g p) (l names (path ++ (g ∷ [])) posts next)
+  system-from-local (New t) next h = map-local _ (λ p. newₛ t p) (l (names + 1) path posts next)
+  system-from-local (Component g) next h = map-local _ (λ p. compₛ g p) (m next)
+  system-from-local (Input a) next h = absurd h
+  system-from-local (Output a) next h = absurd h
+  system-from-local Replicate next h = absurd h
+
+pub read-system-local : (nest names : ℕ) (path : List ℕ) (posts at : ℕ) → Local (at + 1) (λ s. readSystem nest s names path posts at)
+unfolding readSystem
+read-system-local zero names path posts at = then-local _ _ (system-local at 0 names path posts) (λ s f next e.
+    absurd (omega (arith, system-level 0 names (length path) posts f (system-room s at 0 names path posts e))))
+read-system-local (suc n) names path posts at = then-local _ _ (system-local at (suc n) names path posts) (λ s f next e.
+    system-from-local (λ s. readSystem n s) (λ ns p k i. from-earlier (omega arith) (read-system-local n ns p k i))
+    (λ s i. readProcess n s names i) (λ i. from-earlier (omega arith) (read-process-local n names i)) (suc n) at names path posts f next
+    (system-room s at (suc n) names path posts e))
+
+-- The free names' types, and their count.
+pub types-local : (n at : ℕ) → Local at (λ s. freeTypes n s at)
+unfolding freeTypes
+types-local zero at = got-local [] at (omega arith)
+types-local (suc n) at = then-local _ _ (from-earlier (omega arith) (type-local at)) (λ s t next e. map-local _ (λ ts. t ∷ ts) (types-local n next))
+
+pub header-local : Local 1 (λ s. header s)
+unfolding header
+header-local = then-local _ _ (below-local 33 0) (λ s n next e. types-local n next)
+
+-- A whole sheet: it is refused as each sheet is that has the same bytes up to the one at which it is refused.
+abbrev body : List ℕ → Read Sheet
+body s = andThen (header s) (λ free at. andThen (readSystem 64 s (length free) [] 0 at) (λ system next. got (record { free = free; system = system }) next))
+
+body-local : Local 1 body
+body-local = then-local _ _ header-local (λ s free at e.
+    map-local _ (λ system. record { free = free; system = system }) (from-earlier (omega arith) (read-system-local 64 (length free) [] 0 at)))
+
+sheet-body : (s : List ℕ) → readSheet s ≡ andThen (body s) (λ a next. toItsEnd s a next)
+unfolding readSheet andThen
+sheet-body s = go (header s)
+  where
+    inner : (free : List ℕ) (x : Read System) → andThen {B = Sheet} x (λ system next. toItsEnd s (record { free = free; system = system }) next)
+        ≡ andThen {B = Sheet} (andThen {B = Sheet} x (λ system next. got (record { free = free; system = system }) next)) (λ a next. toItsEnd s a next)
+    inner free (got system next) = refl
+    inner free (refused q p) = refl
+
+    go : (x : Read (List ℕ)) → andThen {B = Sheet} x (λ free at. andThen {B = Sheet} (readSystem 64 s (length free) [] 0 at) (λ system next. toItsEnd s (record { free = free; system = system }) next))
+        ≡ andThen {B = Sheet} (andThen {B = Sheet} x (λ free at. andThen {B = Sheet} (readSystem 64 s (length free) [] 0 at) (λ system next. got (record { free = free; system = system }) next))) (λ a next. toItsEnd s a next)
+    go (got free at) = inner free (readSystem 64 s (length free) [] 0 at)
+    go (refused q p) = refl
+
+-- Bytes are left over in one of two lists that agree up to the first of them if they are in the other.
+left-over : (s s′ : List ℕ) (a : Sheet) (n : ℕ) {q p : ℕ} → toItsEnd s a n ≡ refused q p → take (p + 1) s ≡ take (p + 1) s′
+    → (take n s ≡ take n s′) × (toItsEnd s′ a n ≡ refused q p)
+unfolding toItsEnd
+left-over s s′ a n {q} {p} e h = go (eqb n (length s)) refl e
+  where
+    go : (t : Bool) → eqb n (length s) ≡ t → cond t (got a n) (refused 3 n) ≡ refused q p → (take n s ≡ take n s′) × (toItsEnd s′ a n ≡ refused q p)
+    go true b f = never (sym f)
+    go false b f =
+        let three : 3 ≡ q = cc in
+        let place : n ≡ p = cc in
+        let m : n ≤ p + 1 = omega arith in
+        let apart : n ≡ length s′ → ⊥ = λ z. eqb-false n (length s) b (omega (arith, ap length h, length-take (p + 1) s, length-take (p + 1) s′)) in
+        (sym (take-take n (p + 1) s m) ∙ ap (λ (l : List ℕ). take n l) h ∙ take-take n (p + 1) s′ m, rw (ne-eqb n (length s′) apart, three, place))
+
+pub sheet-refusal : (s : List ℕ) {q p : ℕ} → readSheet s ≡ refused q p → (s′ : List ℕ) → take (p + 1) s ≡ take (p + 1) s′ → readSheet s′ ≡ refused q p
+unfolding andThen
+sheet-refusal s {q} {p} e s′ h = sheet-body s′ ∙ go (body s) refl (sym (sheet-body s) ∙ e)
+  where
+    go : (x : Read Sheet) → body s ≡ x → andThen x (λ a next. toItsEnd s a next) ≡ refused q p → andThen (body s′) (λ a next. toItsEnd s′ a next) ≡ refused q p
+    go (got a n) b f = let o = left-over s s′ a n f h in rw (same-bytes 1 body body-local s b s′ (o .0)) (o .1)
+    go (refused u v) b f =
+        let x : u ≡ q = cc in
+        let y : v ≡ p = cc in
+        rw (same-refusal 1 body body-local s b s′ (rw y h), x, y)
+
+-- A sheet that reads, reads as one syntax tree.
+pub one-tree : (s charter : List ℕ) {a b : Sheet} {k m : ℕ} → sheetOf s charter ≡ got a k → sheetOf s charter ≡ got b m → a ≡ b
+one-tree s charter e f = cc

@@ -1,0 +1,62 @@
+-- Types as numbers: every number is exactly one type, and a type that was read is small.
+use Prim.Native.Nat.{ℕ, zero, suc, _+_, _-_, _*_, _/_, _%_, _^_, _<_, _≤_}
+use mathlib.Core.Bool.{Bool, true, false, cond}
+use mathlib.Core.List.{List}
+use mathlib.Core.Path.{_≡_, refl}
+use native.Mathlib.Nat.{pow-le-pow-right, div-add-mod', mod-lt}
+use native.Mathlib.Omega.{arith}
+use borrow.Author.Tests.{ltb-false, lt-ltb, le-ltb}
+use lib.Dec.{ltb, lit<}
+use Rattle.reading.proofs.Parts.{parts, below-found}
+use Rattle.reading.specs.Read.{got, andThen, below}
+use Rattle.reading.specs.Types.{channel, numberOf, shape, groupsThenKind, typeAt}
+use Rattle.reading.specs.declared.Shape.the-variants.{Plain, Channel}
+
+-- Every number is the number of its shape.
+pub number-shape : (t : ℕ) → numberOf (shape t) ≡ t
+unfolding numberOf shape channel
+number-shape t = go (ltb t 16) refl
+  where
+    go : (b : Bool) → ltb t 16 ≡ b → numberOf (cond b (Plain t) (Channel ((t - 16) % 64) ((t - 16) / 64))) ≡ t
+    go true e = refl
+    go false e = omega (arith, ltb-false t 16 e, div-add-mod' (t - 16) 64)
+
+-- Each shape is that of its number: the base types, and the channels of the 64 groups.
+pub shape-plain : (k : ℕ) → k < 16 → shape k ≡ Plain k
+unfolding shape
+shape-plain k h = rw (lt-ltb k 16 h)
+
+pub shape-channel : (g t : ℕ) → g < 64 → shape (channel g t) ≡ Channel g t
+unfolding shape channel
+shape-channel g t h =
+    let n = t * 64 + g in
+    let m : n % 64 < 64 = mod-lt n (lit< tt) in
+    let i : (16 + n) - 16 ≡ n = omega arith in
+    let r : n % 64 ≡ g = omega (arith, div-add-mod' n 64) in
+    let d : n / 64 ≡ t = omega (arith, div-add-mod' n 64) in
+    rw (le-ltb (16 + n) 16 (omega arith), i, r, d)
+
+-- A channel's number is above that of the type that it carries.
+pub carried-less : (g t : ℕ) → t < channel g t
+unfolding channel
+carried-less g t = omega arith
+
+-- A type read with n groups.
+pub type-bound : (n : ℕ) (s : List ℕ) (at : ℕ) {t m : ℕ} → groupsThenKind n s at ≡ got t m → t + 2 ≤ 17 * 64 ^ n
+unfolding groupsThenKind channel
+type-bound zero s at e = let h = below-found 16 s at e in omega arith
+type-bound (suc n) s at {t} e =
+    let h = parts (below 64 s at) (λ g next. andThen (groupsThenKind n s next) (λ u m. got (channel g u) m)) e in
+    let i = parts (groupsThenKind n s (h .place)) (λ u m. got (channel (h .value) u) m) (h .rest) in
+    let v : 16 + (i .value * 64 + h .value) ≡ t = cc in
+    omega (arith, below-found 64 s at (h .first), type-bound n s (h .place) (i .first))
+
+-- A stored type has at most four groups, so its number fits.
+pub few-groups : (n : ℕ) (s : List ℕ) (at : ℕ) {t m : ℕ} → n ≤ 4 → groupsThenKind n s at ≡ got t m → t < 17 * 64 ^ 4
+few-groups n s at h e = let p : 64 ^ n ≤ 64 ^ 4 = pow-le-pow-right (lit< tt) h in omega (arith, type-bound n s at e)
+
+pub type-fits : (s : List ℕ) (at : ℕ) {t m : ℕ} → typeAt s at ≡ got t m → t < 17 * 64 ^ 4
+unfolding typeAt
+type-fits s at e =
+    let h = parts (below 5 s at) (λ n next. groupsThenKind n s next) e in
+    few-groups (h .value) s (h .place) (omega (arith, below-found 5 s at (h .first))) (h .rest)

@@ -1,0 +1,10 @@
+-- `refusal` gives the refusal that a reading holds, or the empty one.
+use borrow.Author.Needs.{needs}
+use Rattle.reading.proofs.bytes.refusal.Statement.{statement}
+use Rattle.reading.proofs.bytes.refusal.Tie as tie
+
+returns : tie.Need-returns
+returns c = rw (c .enum-told .given .1)
+
+pub refusal-spec : {M : Type 1} → statement M
+refusal-spec = tie.close (tie.spec (λ c. search needs) (λ c. search needs) returns (λ c. search needs))

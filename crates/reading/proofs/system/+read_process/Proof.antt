@@ -1,0 +1,78 @@
+-- `read_process` reads past a process, form by form (ProcessSteps.antt). The measure is the nesting left, which falls since a
+-- form was found only where it is above 0.
+use Rattle.reading.proofs.ProcessSteps.{process-steps}
+use Prim.Native.Nat.{ℕ, _<_}
+use borrow.Fn.Kinds.{In}
+use borrow.Fn.PlainCycle.{Measures, is, falls, and}
+use Rattle.reading.proofs.system.read_process.Reads as read-process
+use Rattle.reading.proofs.system.read_process.Kinds as read-process-kinds
+use Rattle.reading.proofs.system.+read_process.Lts-read_process as read-process-lts
+use Rattle.reading.proofs.forms.process_at.Reads as process-at-reads
+use Rattle.reading.proofs.system.why.Reads as why-reads
+use Rattle.reading.proofs.system.+read_process.{statement}
+use Rattle.reading.proofs.system.+read_process.Tie.{close}
+
+abbrev μ-read-process : Measures 1 read-process-kinds.ps ℕ
+μ-read-process κs a = a .1 .1 .0
+
+abbrev read-process-at : ℕ → In 1 read-process-kinds.ps
+read-process-at t =
+    and 1 read-process-kinds.ps (is 1 read-process-kinds.ps μ-read-process t) read-process.Pre
+
+abbrev read-process-below : ℕ → In 1 read-process-kinds.ps
+read-process-below t =
+    and
+    1
+    read-process-kinds.ps
+    (falls 1 read-process-kinds.ps _<_ μ-read-process t)
+    read-process.Pre
+
+pub +read-process-spec : {M : Type 1} → statement M
++read-process-spec = close μ-read-process λ t. read-process-lts.spec (
+  process-at-reads.Asked,
+  process-at-reads.Learnt,
+  why-reads.Asked,
+  why-reads.Learnt,
+  read-process-below t,
+  read-process.Post,
+)
+    (read-process-at t)
+    read-process.Post
+    (λ c κs. search process-steps)
+    (λ c. search process-steps)
+    (λ c. search process-steps)
+    (λ c κs. search process-steps)
+    (λ c. search process-steps)
+    (λ c. search process-steps)
+    (λ c. search process-steps)
+    (λ c. search process-steps)
+    (λ c κs. search process-steps)
+    (λ c. search process-steps)
+    (λ c. search process-steps)
+    (λ c. search process-steps)
+    (λ c. search process-steps)
+    (λ c κs. search process-steps)
+    (λ c. search process-steps)
+    (λ c. search process-steps)
+    (λ c. search process-steps)
+    (λ c κs. search process-steps)
+    (λ c. search process-steps)
+    (λ c. search process-steps)
+    (λ c. search process-steps)
+    (λ c κs. search process-steps)
+    (λ c. search process-steps)
+    (λ c. search process-steps)
+    (λ c κs. search process-steps)
+    (λ c. search process-steps)
+    (λ c. search process-steps)
+    (λ c κs. search process-steps)
+    (λ c. search process-steps)
+    (λ c. search process-steps)
+    (λ c. search process-steps)
+    (λ c. search process-steps)
+    (λ c. search process-steps)
+    (λ c. search process-steps)
+    (λ c. search process-steps)
+    (λ c. search process-steps)
+    (λ c. search process-steps)
+    (λ c. search process-steps)
