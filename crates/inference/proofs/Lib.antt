@@ -5,3 +5,4 @@ pub mod CellLaws
 pub mod RowLaws
 pub mod TableLaws
 pub mod StoreLaws
+pub mod ByteLaws

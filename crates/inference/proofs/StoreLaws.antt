@@ -238,6 +238,17 @@ store-read (suc n) s names path posts at scope p k e fits few =
     (fits-any (suc n) names (length path) posts (a .value) (system-room s at (suc n) names path posts (a .first)))
     (of-found _ (systemAt s at (suc n) names path posts) (form-group s at (suc n) names path posts) (a .first)) (a .rest) few
 
+-- The components of a sheet that was read can be stored, and there are at most 32.
+pub sheet-storable : (s charter : List ℕ) (sheet : Sheet) (k : ℕ) → SheetParts s charter sheet k → AllStorable 0 (located sheet)
+unfolding located
+sheet-storable s charter sheet k h =
+    store-read 64 s (length (sheet .free)) [] 0 (h .start) (sheet .free) (sheet .system) k (h .body)
+    (record { short = omega arith; groups = λ i p. absurd (omega arith) }) (omega (arith, h .end, h .short))
+
+pub sheet-components : (s charter : List ℕ) (sheet : Sheet) (k : ℕ) → SheetParts s charter sheet k → components (sheet .system) ≤ 32
+sheet-components s charter sheet k h =
+    omega (arith, components-few 64 s (length (sheet .free)) [] 0 (h .start) (omega arith) (h .body))
+
 -- The table that a sheet's walk leaves in clear memory holds the sheet's interface.
 pub sheet-table : (s charter : List ℕ) (sheet : Sheet) (k : ℕ) → SheetParts s charter sheet k
     → (table : List ℕ) → length table ≡ 34592 → Clear 0 table
@@ -247,9 +258,8 @@ sheet-table s charter sheet k h table long clear =
     ap (λ (n : ℕ). gather (rowEntries (chargedAll table (locate 0 [] (sheet .free) (sheet .system)))) (rising 0 n))
     (sym (located-count 0 [] (sheet .free) (sheet .system)))
     ∙ table-from (locate 0 [] (sheet .free) (sheet .system)) 0
-    (store-read 64 s (length (sheet .free)) [] 0 (h .start) (sheet .free) (sheet .system) k (h .body)
-    (record { short = omega arith; groups = λ i p. absurd (omega arith) }) (omega (arith, h .end, h .short)))
-    (omega (arith, located-count 0 [] (sheet .free) (sheet .system), components-few 64 s (length (sheet .free)) [] 0 (h .start) (omega arith) (h .body)))
+    (sheet-storable s charter sheet k h)
+    (omega (arith, located-count 0 [] (sheet .free) (sheet .system), sheet-components s charter sheet k h))
     table long clear
 
 pub clear-zeros : (n : ℕ) → Clear 0 (replicate n 0)
