@@ -1,8 +1,10 @@
--- Laws of the definitions of typing and inference.
+-- The lemmas that the proofs of the functions share, and laws of the definitions.
+pub mod NeedSteps
+pub mod RowSteps
+pub mod PathRows
+pub mod WalkLaws
+pub mod WalkSteps
+pub mod SystemSteps
+pub mod SheetSteps
 pub mod CountLaws
 pub mod FaultLaws
-pub mod CellLaws
-pub mod RowLaws
-pub mod TableLaws
-pub mod StoreLaws
-pub mod ByteLaws

@@ -8,5 +8,4 @@ pub mod Needs
 pub mod Interface
 pub mod Told
 pub mod Rows
-pub mod Writes
 pub mod Walks

@@ -4,13 +4,18 @@ use mathlib.Core.Path.{_≡_}
 use mathlib.Core.List.{List, [], _∷_}
 use mathlib.Core.Bool.{Bool, true, false, cond, _&&_}
 use mathlib.Core.Option.{Option, some, none}
-use lib.ListN.{take}
+use lib.Dec.{ltb}
+use lib.ListN.{length, take}
 use Rattle.reading.specs.Read.{got}
 use Rattle.reading.specs.Syntax.{Process, System, Sheet, components}
-use Rattle.reading.specs.System.{freeTypes}
+use Rattle.reading.specs.System.{freeTypes, header}
+use Rattle.reading.specs.Told.{pathOf}
+use Rattle.reading.specs.declared.Form.{Form}
+use Rattle.reading.specs.declared.Form.the-variants.{Nil, Par, Group, New, Component as Head, Input, Output, Replicate}
 use Rattle.reading.specs.declared.Number.{Number}
 use Rattle.reading.specs.Forms.{member}
 use Rattle.reading.specs.Total.{Grown}
+use Rattle.inference.specs.declared.Context.{Context}
 use Rattle.inference.specs.declared.Walk.{Walk}
 use Rattle.inference.specs.declared.SystemWalk.{SystemWalk}
 use Rattle.inference.specs.Acts.{Act, Component, Located, acts, actsOf, locate, located}
@@ -57,6 +62,22 @@ pub record Inferred (t : Grown Process) (walked : List Act) (names : ℕ) (scope
   pub counted : table′ ≡ charged table walked
   pub kept : take names scope′ ≡ take names scope
 
+-- The same, in a context: whose acts they are, and whether they stand under a repeat.
+abbrev pub InferredIn : Context → Grown Process → ℕ → List ℕ → List ℕ → List ℕ → List ℕ → Walk → Type 0
+InferredIn c t names scope scope′ table table′ r =
+    Inferred t (acts (record { number = c .component; path = pathOf (c .path) }) (c .repeated) (take names scope) (t .tree)) names scope scope′ table table′ r
+
+-- Where a form binds a name, there is room for it.
+unfoldable pub binds : ℕ → Form → Bool
+binds names Nil = true
+binds names Par = true
+binds names (Group g) = true
+binds names (New t) = ltb names 64
+binds names (Head g) = true
+binds names (Input a) = ltb names 64
+binds names (Output a) = true
+binds names Replicate = true
+
 -- A walk over a system: `ls` are its components, `before` the number of those before it.
 pub record InferredSystem (t : Grown System) (ls : List Located) (before names : ℕ) (scope scope′ table table′ : List ℕ) (r : SystemWalk) : Type 0 where
   pub place : r .next ≡ t .next
@@ -64,6 +85,22 @@ pub record InferredSystem (t : Grown System) (ls : List Located) (before names :
   pub number : r .components ≡ before + components (t .tree)
   pub counted : table′ ≡ chargedAll table ls
   pub kept : take names scope′ ≡ take names scope
+
+-- The same, for the components of a tree with a path and a number of components before it.
+abbrev pub InferredAt : ℕ → List ℕ → Grown System → ℕ → List ℕ → List ℕ → List ℕ → List ℕ → SystemWalk → Type 0
+InferredAt before path t names scope scope′ table table′ r =
+    InferredSystem t (locate before path (take names scope) (t .tree)) before names scope scope′ table table′ r
+
+-- Where a form of a system binds a name, opens a group or is a component, there is room for it.
+unfoldable pub opens : ℕ → List ℕ → ℕ → Form → Bool
+opens names path posts Nil = true
+opens names path posts Par = true
+opens names path posts (Group g) = ltb (length path) 8
+opens names path posts (New t) = ltb names 64
+opens names path posts (Head g) = ltb (length path) 8 && ltb posts 32
+opens names path posts (Input a) = true
+opens names path posts (Output a) = true
+opens names path posts Replicate = true
 
 -- What a whole sheet's walk finds and writes.
 pub record InferredSheet (sheet : Sheet) (table table′ : List ℕ) (r : SystemWalk) : Type 0 where
@@ -75,3 +112,8 @@ pub record InferredSheet (sheet : Sheet) (table table′ : List ℕ) (r : System
 pub record LoadedTypes (count : ℕ) (s : List ℕ) (at : ℕ) (scope : List ℕ) (r : Number) : Type 0 where
   pub loaded : (ts : List ℕ) (next : ℕ) → count ≤ 64 → freeTypes count s at ≡ got ts next
       → (r .value ≡ count) × (r .next ≡ next) × (take count scope ≡ ts)
+
+-- The same of a sheet's free names.
+pub record LoadedFree (s scope : List ℕ) (r : Number) : Type 0 where
+  pub loaded : (free : List ℕ) (at : ℕ) → header s ≡ got free at
+      → (r .value ≡ length free) × (r .next ≡ at) × (take (length free) scope ≡ free)

@@ -2,7 +2,7 @@
 // path, cells 1 to 8 its path, and from cell 9 on for each kind 67 counts: of disclosures into groups 0 to 63, of reads, of
 // writes and of accesses. 65,535 is unlimited.
 ghost use mathlib.Core.Path.{_≡_};
-ghost use Prim.Native.Nat.{_<_};
+ghost use Prim.Native.Nat.{_+_, _-_, _%_, _<_, min};
 ghost use Rattle.reading.specs.Told.{pathOf};
 ghost use lib.ListN.{length, getD, set};
 ghost use Rattle.inference.specs.Rows.{bumped, charge, chargeAt, chargeCell, pathAt, withPath};
@@ -107,20 +107,30 @@ fn put(table: &mut [u16], at: usize, value: usize)
     }
 }
 
+// The length that a row gives for its path, or less where the table ends before.
+fn stored_len(table: &[u16], row: usize) -> usize
+    ensures { λ r. ⌜ r ≡ min (getD (now (table .entry)) row 0) (length (now (table .entry)) - (row + 1)) ⌝ }
+{
+    let len = cell_at(table, row);
+    if table.len() <= row {
+        return 0;
+    }
+    let room = table.len() - (row + 1);
+    if room < len { room } else { len }
+}
+
 // The path in a component's row.
 pub fn path_of(table: &[u16], component: usize) -> Path
     requires { ⌜ component < 32 ⌝ }
     ensures { λ r. ⌜ pathOf r ≡ pathAt (now (table .entry)) component ⌝ }
 {
     let row = component * 1081;
+    let len = stored_len(table, row);
     let mut groups = [0usize; 8];
     let mut i: usize = 0;
     while i < 8 {
         groups[i] = cell_at(table, row + (1 + i));
         i += 1;
     }
-    Path {
-        groups,
-        len: cell_at(table, row),
-    }
+    Path { groups, len }
 }

@@ -1,14 +1,14 @@
 // Typing and inference of a whole sheet.
 ghost use mathlib.Core.Path.{_≡_};
 ghost use Prim.Native.Nat.{ℕ};
-ghost use lib.ListN.{length, take};
+ghost use lib.ListN.{length};
 ghost use Rattle.reading.specs.Syntax.{Sheet};
 ghost use Rattle.reading.specs.Read.{got};
-ghost use Rattle.reading.specs.System.{readSheet, header};
-ghost use Rattle.inference.specs.Walks.{InferredSheet, LoadedTypes};
+ghost use Rattle.reading.specs.System.{readSheet};
+ghost use Rattle.inference.specs.Walks.{InferredSheet, LoadedTypes, LoadedFree};
 
 use crate::scope::bind;
-use crate::walk::infer_system;
+use crate::systems::infer_system;
 use crate::Spot;
 use crate::SystemWalk;
 use reading::bytes::byte_below;
@@ -39,7 +39,7 @@ fn load_types(s: &[u8], at: usize, count: usize, scope: &mut [usize]) -> Number
 // Binds the free names of a sheet.
 fn load_free(s: &[u8], scope: &mut [usize]) -> Number
     requires { ⌜ length (now scope) ≡ 64 ⌝ }
-    ensures { λ r. ⌜ ((free : List ℕ) (at : ℕ) → header (now (s .entry)) ≡ got free at → (r .value ≡ length free) × (r .next ≡ at) × (take (length free) (now (scope .exit)) ≡ free)) ⌝ }
+    ensures { λ r. ⌜ LoadedFree (now (s .entry)) (now (scope .exit)) r ⌝ }
 {
     let read = byte_below(s, 0, 33);
     let NumberRead::Found(count) = read else {
@@ -48,16 +48,25 @@ fn load_free(s: &[u8], scope: &mut [usize]) -> Number
     load_types(s, count.next, count.value, scope)
 }
 
-// Types and infers a sheet that passes questions 1 to 6; the table must be clear.
-pub fn infer(s: &[u8], table: &mut [u16]) -> SystemWalk
+// The same, then the sheet's system; `scope` is room for the types of the names.
+fn infer_within(s: &[u8], scope: &mut [usize], table: &mut [u16]) -> SystemWalk
+    requires { ⌜ length (now scope) ≡ 64 ⌝ }
     ensures { λ r. ⌜ ((sheet : Sheet) (end : ℕ) → readSheet (now (s .entry)) ≡ got sheet end → InferredSheet sheet (now (table .entry)) (now (table .exit)) r) ⌝ }
 {
-    let mut scope = [0usize; 64];
-    let free = load_free(s, &mut scope);
+    let path = paths::empty();
+    let free = load_free(s, scope);
     let spot = Spot {
         at: free.next,
         nest: 64,
         names: free.value,
     };
-    infer_system(s, spot, paths::empty(), 0, &mut scope, table)
+    infer_system(s, spot, path, 0, scope, table)
+}
+
+// Types and infers a sheet that passes questions 1 to 6; the table must be clear.
+pub fn infer(s: &[u8], table: &mut [u16]) -> SystemWalk
+    ensures { λ r. ⌜ ((sheet : Sheet) (end : ℕ) → readSheet (now (s .entry)) ≡ got sheet end → InferredSheet sheet (now (table .entry)) (now (table .exit)) r) ⌝ }
+{
+    let mut scope = [0usize; 64];
+    infer_within(s, &mut scope, table)
 }

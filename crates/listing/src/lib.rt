@@ -3,7 +3,7 @@ ghost use mathlib.Core.Path.{_≡_};
 ghost use mathlib.Core.List.{[], _∷_};
 ghost use Prim.Native.Nat.{_<_, _≤_};
 ghost use lib.ListN.{length, getD};
-ghost use Rattle.inference.specs.Writes.{Stored};
+ghost use Rattle.interface.specs.Writes.{Stored};
 ghost use Rattle.listing.specs.Text.{decimalOf, decimal, dots, pathText, bytesAt, hasBit, flagText, countText, itemText, itemsText, itemsAt, lineAt, nextAt};
 
 // A line that was composed: how long it is, and the place of the next entry.

@@ -17,8 +17,8 @@ use crate::wellformed::span_of;
 use crate::Givers;
 use crate::Total;
 use crate::Trees;
-use inference::interface::count_at;
-use inference::interface::map_at;
+use interface::count_at;
+use interface::map_at;
 use inference::rows::path_of;
 
 // Is a needed count at most a granted sum?

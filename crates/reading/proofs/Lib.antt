@@ -13,3 +13,4 @@ pub mod SystemSteps
 pub mod SheetSteps
 pub mod Local
 pub mod ReadLaws
+pub mod TotalLaws

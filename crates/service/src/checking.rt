@@ -10,8 +10,8 @@ ghost use Rattle.service.specs.Told.{told, questionOf, Reads, Clear, Del
 ghost use Rattle.service.specs.Later.{laterFault};
 
 use crate::Answer;
-use inference::interface::interface_len;
-use inference::interface::write_interface;
+use interface::interface_len;
+use interface::write_interface;
 use inference::sheet::infer;
 use policy::fit::fit;
 use policy::read::read_policy;

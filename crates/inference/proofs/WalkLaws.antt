@@ -1,0 +1,56 @@
+-- Laws of what a walk finds: acts that follow one another, components that follow one another, and a name that is bound.
+use Prim.Native.Nat.{ℕ, zero, suc, _+_, _<_, _≤_, min}
+use mathlib.Core.List.{List, [], _∷_, _++_}
+use mathlib.Core.Path.{_≡_, refl, sym, ap, _∙_}
+use native.Mathlib.Numerals.{add-one}
+use native.Mathlib.Omega.{arith}
+use lib.ListN.{length, take, set}
+use lib.Seq.{take-suc-set, take-set-le, take-take}
+use Rattle.inference.specs.Acts.{Act, Located, actsOf}
+use Rattle.inference.specs.Needs.{needOf}
+use Rattle.inference.specs.Rows.{charge, withPath}
+use Rattle.inference.specs.Walks.{faultOf, worst, charged, worstAll, chargedAll}
+
+-- The first question that fails is at most 11.
+min-assoc : (a b c : ℕ) → min (min a b) c ≡ min a (min b c)
+min-assoc a b c = omega arith
+
+pub worst-most : (xs : List Act) → worst xs ≤ 11
+unfolding worst
+worst-most [] = omega arith
+worst-most (a ∷ xs) = omega (arith, worst-most xs)
+
+pub worst-append : (xs ys : List Act) → worst (xs ++ ys) ≡ min (worst xs) (worst ys)
+unfolding worst
+worst-append [] ys = omega (arith, worst-most ys)
+worst-append (a ∷ xs) ys = rw (worst-append xs ys) (sym (min-assoc (faultOf a) (worst xs) (worst ys)))
+
+pub charged-append : (t : List ℕ) (xs ys : List Act) → charged t (xs ++ ys) ≡ charged (charged t xs) ys
+unfolding charged
+charged-append t [] ys = refl
+charged-append t (a ∷ xs) ys = charged-append (charge t (a .component .number) (needOf a) (a .repeated)) xs ys
+
+pub worstAll-most : (xs : List Located) → worstAll xs ≤ 11
+unfolding worstAll
+worstAll-most [] = omega arith
+worstAll-most (l ∷ xs) = omega (arith, worstAll-most xs)
+
+pub worstAll-append : (xs ys : List Located) → worstAll (xs ++ ys) ≡ min (worstAll xs) (worstAll ys)
+unfolding worstAll
+worstAll-append [] ys = omega (arith, worstAll-most ys)
+worstAll-append (l ∷ xs) ys = rw (worstAll-append xs ys) (sym (min-assoc (worst (actsOf l)) (worstAll xs) (worstAll ys)))
+
+pub chargedAll-append : (t : List ℕ) (xs ys : List Located) → chargedAll t (xs ++ ys) ≡ chargedAll (chargedAll t xs) ys
+unfolding chargedAll
+chargedAll-append t [] ys = refl
+chargedAll-append t (l ∷ xs) ys =
+    chargedAll-append (charged (withPath t (l .component .number) (l .component .path)) (actsOf l)) xs ys
+
+-- The scope after a name was bound, and what is kept of it.
+pub bound : (l : List ℕ) (n t : ℕ) → n < length l → take (n + 1) (set l n t) ≡ take n l ++ (t ∷ [])
+bound l n t h = rw add-one (take-suc-set l n t h)
+
+pub kept-below : (l m k : List ℕ) (n t : ℕ) → m ≡ set l n t → take (n + 1) k ≡ take (n + 1) m → take n k ≡ take n l
+kept-below l m k n t e h =
+    sym (take-take n (n + 1) k (omega arith)) ∙ ap (λ (x : List ℕ). take n x) h ∙ take-take n (n + 1) m (omega arith)
+    ∙ rw e (take-set-le n l n t (omega arith))

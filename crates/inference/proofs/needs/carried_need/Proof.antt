@@ -1,0 +1,16 @@
+use Rattle.inference.proofs.NeedSteps.{need-steps}
+use borrow.Author.Needs.{needs}
+use Rattle.inference.proofs.needs.carried_need.Statement.{statement}
+use Rattle.inference.proofs.needs.carried_need.Tie as tie
+
+pub carried-need-spec : {M : Type 1} → statement M
+carried-need-spec =
+    tie.close
+    (tie.spec
+    (λ c. search needs)
+    (λ c. search needs)
+    (λ c κs. search needs)
+    (λ c κs. search needs)
+    (λ c. search need-steps)
+    (λ c. search need-steps)
+    (λ c. search need-steps))

@@ -1,0 +1,17 @@
+use Rattle.inference.proofs.NeedSteps.{need-steps}
+use borrow.Author.Needs.{needs}
+use Rattle.inference.proofs.needs.fault_of.Statement.{statement}
+use Rattle.inference.proofs.needs.fault_of.Tie as tie
+
+pub fault-of-spec : {M : Type 1} → statement M
+fault-of-spec =
+    tie.close
+    (tie.spec
+    (λ c. search needs)
+    (λ c. search needs)
+    (λ c. search need-steps)
+    (λ c. search needs)
+    (λ c. search needs)
+    (λ c. search need-steps)
+    (λ c κs. search needs)
+    (λ c. search need-steps))

@@ -1,0 +1,7 @@
+use Rattle.inference.proofs.NeedSteps.{need-steps}
+use borrow.Author.Needs.{needs}
+use Rattle.inference.proofs.needs.link_need.Statement.{statement}
+use Rattle.inference.proofs.needs.link_need.Tie as tie
+
+pub link-need-spec : {M : Type 1} → statement M
+link-need-spec = tie.close (tie.spec (λ c. search needs) (λ c. search needs) (λ c. search need-steps) (λ c. search need-steps) (λ c. search need-steps))

@@ -1,0 +1,16 @@
+use Rattle.inference.proofs.NeedSteps.{need-steps}
+use borrow.Author.Needs.{needs}
+use Rattle.inference.proofs.needs.need_of.Statement.{statement}
+use Rattle.inference.proofs.needs.need_of.Tie as tie
+
+pub need-of-spec : {M : Type 1} → statement M
+need-of-spec =
+    tie.close
+    (tie.spec
+    (λ c κs. search needs)
+    (λ c. search needs)
+    (λ c. search needs)
+    (λ c κs. search needs)
+    (λ c κs. search needs)
+    (λ c. search need-steps)
+    (λ c. search need-steps))

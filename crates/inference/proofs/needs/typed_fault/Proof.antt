@@ -1,0 +1,17 @@
+use Rattle.inference.proofs.NeedSteps.{need-steps}
+use borrow.Author.Needs.{needs}
+use Rattle.inference.proofs.needs.typed_fault.Statement.{statement}
+use Rattle.inference.proofs.needs.typed_fault.Tie as tie
+
+pub typed-fault-spec : {M : Type 1} → statement M
+typed-fault-spec =
+    tie.close
+    (tie.spec
+    (λ c κs. search needs)
+    (λ c. search needs)
+    (λ c. search needs)
+    (λ c κs. search needs)
+    (λ c. search need-steps)
+    (λ c. search need-steps)
+    (λ c. search need-steps)
+    (λ c. search need-steps))

@@ -1,0 +1,6 @@
+use Rattle.inference.proofs.RowSteps.{row-steps}
+use Rattle.inference.proofs.rows.path_len.Statement.{statement}
+use Rattle.inference.proofs.rows.path_len.Tie as tie
+
+pub path-len-spec : {M : Type 1} → statement M
+path-len-spec = tie.close (tie.spec (λ c. search row-steps) (λ c. search row-steps))

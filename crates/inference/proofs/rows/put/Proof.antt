@@ -1,0 +1,8 @@
+use Rattle.inference.proofs.RowSteps.{row-steps}
+use borrow.Author.Needs.{needs}
+use Rattle.inference.proofs.rows.put.Statement.{statement}
+use Rattle.inference.proofs.rows.put.Tie as tie
+
+pub put-spec : {M : Type 1} → statement M
+put-spec =
+    tie.close (tie.spec (λ c. search needs) (λ c. search needs) (λ c. search needs) (λ c. search needs) (λ c. search needs) (λ c. search row-steps))

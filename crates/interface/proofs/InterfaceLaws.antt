@@ -1,0 +1,221 @@
+-- The definitions of an interface's entries and bytes as parts that a loop takes one by one, and how long they are.
+use Prim.Native.Nat.{ℕ, zero, suc, _+_, _-_, _*_, _/_, _%_, _≤_, _<_}
+use mathlib.Core.Bool.{Bool, true, false, cond, not, _||_}
+use mathlib.Core.List.{List, [], _∷_, _++_, map, append-assoc}
+use mathlib.Core.Path.{_≡_, refl, sym, ap, _∙_}
+use native.Mathlib.Nat.{mul-suc, mod-mod}
+use native.Mathlib.Omega.{arith}
+use borrow.Author.Tests.{eqb-true}
+use lib.Dec.{eqb, eqb·suc-zero}
+use lib.ListN.{length, take, drop, getD, length-append, length-take}
+use lib.Seq.{drop-cons}
+use Rattle.inference.specs.Lists.{only, gather, rising}
+use Rattle.inference.specs.Counts.{Count, fin, unlimited, isZero, countNumber}
+use Rattle.inference.specs.Interface.{Disclosure, Entry, isEmpty, holdsAny, bit, mapOf, disclosureBytes, listBytes, entryBytes, interfaceBytes}
+use Rattle.inference.specs.Rows.{pathAt, cell, countOf, isSet, disclosuresAt, entryAt, rowEntries, tableEntries}
+use Rattle.interface.specs.Writes.{groupBytes, entryBytesAt}
+use Rattle.interface.proofs.WriteLaws.{partsFrom}
+
+-- Parts gathered of parts.
+module _ {A B : Type 0} (h : A → List B) where
+  pub gather-append : (xs ys : List A) → gather h (xs ++ ys) ≡ gather h xs ++ gather h ys
+  unfolding gather
+  gather-append [] ys = refl
+  gather-append (x ∷ xs) ys = rw (append-assoc, gather-append xs ys)
+
+  pub gather-gather : {K : Type 0} (f : K → List A) (ks : List K) → gather h (gather f ks) ≡ gather (λ k. gather h (f k)) ks
+  unfolding gather
+  gather-gather f [] = refl
+  gather-gather f (k ∷ ks) = gather-append (f k) (gather f ks) ∙ ap (λ (l : List B). gather h (f k) ++ l) (gather-gather f ks)
+
+  pub gather-same : (g : A → List B) → ((x : A) → h x ≡ g x) → (xs : List A) → gather h xs ≡ gather g xs
+  unfolding gather
+  gather-same g e [] = refl
+  gather-same g e (x ∷ xs) = rw (e x, gather-same g e xs)
+
+  pub gather-few : (b : ℕ) → ((x : A) → length (h x) ≤ b) → (xs : List A) → length (gather h xs) ≤ b * length xs
+  unfolding gather
+  gather-few b k [] = omega arith
+  gather-few b k (x ∷ xs) =
+      rw (mul-suc, length-append) (let q : length (gather h xs) ≤ b * length xs = gather-few b k xs in omega (arith, k x))
+
+  pub gather-only : {K : Type 0} (p : A → Bool) (f : K → A) (ks : List K) → gather h (only p (map f ks)) ≡ gather (λ k. cond (p (f k)) (h (f k)) []) ks
+  unfolding gather only
+  gather-only p f [] = refl
+  gather-only p f (k ∷ ks) = go (p (f k)) (only p (map f ks)) (gather-only p f ks)
+    where
+      go : (b : Bool) (l : List A) {m : List B} → gather h l ≡ m → gather h (cond b (f k ∷ l) l) ≡ cond b (h (f k)) [] ++ m
+      go true l e = ap (λ (z : List B). h (f k) ++ z) e
+      go false l e = e
+
+gather-one : {A : Type 0} (xs : List A) → gather (λ x. x ∷ []) xs ≡ xs
+unfolding gather
+gather-one [] = refl
+gather-one (x ∷ xs) = ap (λ (l : List _). x ∷ l) (gather-one xs)
+
+pub rising-length : (n i : ℕ) → length (rising i n) ≡ n
+unfolding rising
+rising-length zero i = refl
+rising-length (suc n) i = ap suc (rising-length n (suc i))
+
+pub parts-few : {A : Type 0} (f : ℕ → List A) (b n : ℕ) → ((j : ℕ) → length (f j) ≤ b) → length (partsFrom f n 0) ≤ b * n
+unfolding partsFrom
+parts-few f b n k =
+    let e : length (rising 0 (n - 0)) ≡ n = rising-length (n - 0) 0 ∙ omega arith in rw e at (gather-few f b k (rising 0 (n - 0)))
+
+cond-few : {A : Type 0} (b : Bool) (xs : List A) (n : ℕ) → length xs ≤ n → length (cond b xs []) ≤ n
+cond-few true xs n h = h
+cond-few false xs n h = omega arith
+
+-- A list's elements one by one.
+unfoldable pub oneAt : List ℕ → ℕ → List ℕ
+oneAt l i = getD l i 0 ∷ []
+
+ones-from : (l : List ℕ) (n i : ℕ) → i + n ≤ length l → gather (oneAt l) (rising i n) ≡ take n (drop i l)
+unfolding oneAt gather rising
+ones-from l zero i h = refl
+ones-from l (suc n) i h = rw (drop-cons l i 0 (omega arith)) (ap (λ (m : List ℕ). getD l i 0 ∷ m) (ones-from l n (suc i) (omega arith)))
+
+pub ones-are : (l : List ℕ) (n : ℕ) → n ≤ length l → partsFrom (oneAt l) n 0 ≡ take n l
+unfolding partsFrom
+ones-are l n h = let z : n - 0 ≡ n = omega arith in rw z (ones-from l n 0 (omega arith))
+
+-- Counts in cells.
+pub set-count : (n : ℕ) → not (isZero (countOf n)) ≡ isSet n
+unfolding countOf isSet isZero
+set-count zero = refl
+set-count (suc n) = rw (eqb·suc-zero n) (go (eqb (suc n) 65535))
+  where
+    go : (b : Bool) → not (isZero (cond b unlimited (fin (suc n)))) ≡ true
+    go true = refl
+    go false = refl
+
+pub count-number : (n : ℕ) → countNumber (countOf n) ≡ n
+unfolding countOf countNumber
+count-number n = go (eqb n 65535) refl
+  where
+    go : (b : Bool) → eqb n 65535 ≡ b → countNumber (cond b unlimited (fin n)) ≡ n
+    go true e = sym (eqb-true n 65535 e)
+    go false e = refl
+
+-- What a component discloses to a group.
+module _ (table : List ℕ) (component kind : ℕ) where
+  unfoldable pub disclosedTo : ℕ → List Disclosure
+  disclosedTo g = cond (isSet (cell table component kind g)) (record { group = g; count = countOf (cell table component kind g) } ∷ []) []
+
+  unfoldable pub groupBytesAt : ℕ → List ℕ
+  groupBytesAt g = groupBytes g (cell table component kind g)
+
+  pub disclosed-few : (g : ℕ) → length (disclosedTo g) ≤ 1
+  unfolding disclosedTo
+  disclosed-few g = cond-few (isSet (cell table component kind g)) (record { group = g; count = countOf (cell table component kind g) } ∷ []) 1 (omega arith)
+
+  pub group-few : (g : ℕ) → length (groupBytesAt g) ≤ 3
+  unfolding groupBytesAt groupBytes disclosureBytes
+  group-few g = cond-few (isSet (cell table component kind g)) _ 3 (omega arith)
+
+  pub disclosures-are : disclosuresAt table component kind ≡ partsFrom disclosedTo 64 0
+  unfolding disclosuresAt partsFrom disclosedTo
+  disclosures-are =
+      sym (gather-one (disclosuresAt table component kind))
+      ∙ gather-only (λ d. d ∷ []) (λ d. not (isZero (d .count))) (λ g. record { group = g; count = countOf (cell table component kind g) }) (rising 0 64)
+      ∙ gather-same (λ g. cond (not (isZero (countOf (cell table component kind g)))) (record { group = g; count = countOf (cell table component kind g) } ∷ []) [])
+      disclosedTo (λ g. rw (set-count (cell table component kind g))) (rising 0 64)
+
+  pub group-bytes-are : gather disclosureBytes (disclosuresAt table component kind) ≡ partsFrom groupBytesAt 64 0
+  unfolding disclosuresAt partsFrom groupBytesAt groupBytes
+  group-bytes-are =
+      gather-only disclosureBytes (λ d. not (isZero (d .count))) (λ g. record { group = g; count = countOf (cell table component kind g) }) (rising 0 64)
+      ∙ gather-same (λ g. cond (not (isZero (countOf (cell table component kind g)))) (disclosureBytes (record { group = g; count = countOf (cell table component kind g) })) [])
+      groupBytesAt (λ g. rw (set-count (cell table component kind g))) (rising 0 64)
+
+  pub disclosures-few : length (disclosuresAt table component kind) ≤ 64
+  disclosures-few = rw disclosures-are (parts-few disclosedTo 1 64 disclosed-few)
+
+-- A disclose list is as long as its groups make it.
+pub list-bytes : (ds : List Disclosure) → (length ds ≡ 0 → ⊥) → listBytes ds ≡ length ds ∷ gather disclosureBytes ds
+unfolding listBytes
+list-bytes [] h = absurd (h refl)
+list-bytes (d ∷ ds) h = refl
+
+pub no-list : (ds : List Disclosure) → length ds ≡ 0 → listBytes ds ≡ []
+unfolding listBytes
+no-list [] h = refl
+no-list (d ∷ ds) h = absurd (omega arith)
+
+three-each : (ds : List Disclosure) → length (gather disclosureBytes ds) ≡ 3 * length ds
+unfolding gather disclosureBytes
+three-each [] = refl
+three-each (d ∷ ds) = omega (arith, three-each ds)
+
+pub list-length : (ds : List Disclosure) → (length ds ≡ 0 → ⊥) → length (listBytes ds) ≡ 1 + 3 * length ds
+list-length ds h = rw (list-bytes ds h) (omega (arith, three-each ds))
+
+list-few : (ds : List Disclosure) → length ds ≤ 64 → length (listBytes ds) ≤ 193
+unfolding listBytes
+list-few [] h = omega arith
+list-few (d ∷ ds) h = omega (arith, three-each (d ∷ ds))
+
+-- Entries: their map is 0 where they hold no permission.
+none-held : (a b c d : Bool) → bit a 1 + (bit b 2 + (bit c 4 + bit d 16)) ≡ 0 → ((a || b) || (c || d)) ≡ false
+unfolding bit
+none-held true b c d h = absurd (omega arith)
+none-held false true c d h = absurd (omega arith)
+none-held false false true d h = absurd (omega arith)
+none-held false false false true h = absurd (omega arith)
+none-held false false false false h = refl
+
+some-held : (a b c d : Bool) → (bit a 1 + (bit b 2 + (bit c 4 + bit d 16)) ≡ 0 → ⊥) → ((a || b) || (c || d)) ≡ true
+unfolding bit
+some-held true b c d h = refl
+some-held false true c d h = refl
+some-held false false true d h = refl
+some-held false false false true h = refl
+some-held false false false false h = absurd (h refl)
+
+pub map-none : (e : Entry) → mapOf e ≡ 0 → holdsAny e ≡ false
+unfolding mapOf holdsAny
+map-none e h = none-held (e .read) (e .write) (e .access) (not (isEmpty (e .disclose))) h
+
+pub map-some : (e : Entry) → (mapOf e ≡ 0 → ⊥) → holdsAny e ≡ true
+unfolding mapOf holdsAny
+map-some e h = some-held (e .read) (e .write) (e .access) (not (isEmpty (e .disclose))) h
+
+pub path-few : (table : List ℕ) (component : ℕ) → length (pathAt table component) ≤ 8
+unfolding pathAt
+path-few table component =
+    omega (arith, length-take (getD table (component * 1081) 0) (take 8 (drop (component * 1081 + 1) table)),
+    length-take 8 (drop (component * 1081 + 1) table))
+
+pub entry-length : (e : Entry) → length (entryBytes e) ≡ 3 + (length (e .component .path) + length (listBytes (e .disclose)))
+unfolding entryBytes
+entry-length e = omega (arith, length-append (e .component .path) (mapOf e ∷ listBytes (e .disclose)))
+
+module _ (table : List ℕ) (component : ℕ) where
+  pub entry-few : (kind : ℕ) → length (entryBytesAt table component kind) ≤ 204
+  unfolding entryBytesAt entryAt
+  entry-few kind = cond-few (holdsAny (entryAt table component kind)) (entryBytes (entryAt table component kind)) 204 few
+    where
+      few : length (entryBytes (entryAt table component kind)) ≤ 204
+      few = omega (arith, entry-length (entryAt table component kind), path-few table component,
+          list-few (disclosuresAt table component kind) (disclosures-few table component kind))
+
+  -- A component's entries, kind by kind.
+  pub row-bytes-are : interfaceBytes (rowEntries table component) ≡ partsFrom (entryBytesAt table component) 16 0
+  unfolding interfaceBytes rowEntries partsFrom entryBytesAt
+  row-bytes-are = gather-only entryBytes holdsAny (entryAt table component) (rising 0 16)
+
+  pub row-few : length (interfaceBytes (rowEntries table component)) ≤ 3264
+  row-few = rw row-bytes-are (parts-few (entryBytesAt table component) 204 16 entry-few)
+
+-- The interface, component by component.
+unfoldable pub rowBytesAt : List ℕ → ℕ → List ℕ
+rowBytesAt table component = interfaceBytes (rowEntries table component)
+
+pub table-bytes-are : (table : List ℕ) (n : ℕ) → interfaceBytes (tableEntries table n) ≡ partsFrom (rowBytesAt table) n 0
+unfolding interfaceBytes tableEntries partsFrom rowBytesAt
+table-bytes-are table n = let z : n - 0 ≡ n = omega arith in rw z (gather-gather entryBytes (rowEntries table) (rising 0 n))
+
+pub table-few : (table : List ℕ) (component : ℕ) → length (rowBytesAt table component) ≤ 3264
+unfolding rowBytesAt
+table-few table component = row-few table component

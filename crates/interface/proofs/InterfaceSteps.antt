@@ -1,0 +1,239 @@
+-- The returns and the turns of the loops of interface: each lemma is one of them.
+use Prim.Native.Nat.{ℕ, zero, suc, _+_, _-_, _*_, _/_, _%_, _≤_, _<_}
+use mathlib.Core.Bool.{Bool, true, false, cond, not}
+use mathlib.Core.List.{List, [], _∷_, _++_}
+use mathlib.Core.Path.{_≡_, refl, sym, ap, _∙_}
+use native.Mathlib.Nat.{mod-mod}
+use native.Mathlib.Omega.{arith}
+use borrow.Author.Tests.{eq-eqb, ne-eqb}
+use borrow.Author.Needs.{needs}
+use mir.Syntax.{w64}
+use mir.Val.{Fits}
+use lib.Dec.{eqb, eqb·suc-zero}
+use lib.ListN.{length, take, drop, getD, set, length-take, take-append-drop}
+use lib.Seq.{take-append-seam}
+use Rattle.reading.specs.Told.{pathOf}
+use Rattle.reading.specs.declared.Path.{Path}
+use Rattle.inference.specs.Lists.{gather}
+use Rattle.inference.specs.Interface.{Disclosure, isEmpty, bit, mapOf, disclosureBytes, listBytes, entryBytes, interfaceBytes}
+use Rattle.inference.specs.Rows.{pathAt, cellOf, cell, isSet, countOf, disclosuresAt, entryAt, rowEntries, tableEntries}
+use Rattle.interface.specs.Writes.{storeBytes, Stored, groupBytes, entryBytesAt}
+use Rattle.inference.proofs.RowSteps.{unset}
+use Rattle.interface.proofs.WriteLaws.{partsFrom, stored-none, stored-more, Writing, write-first, write-next, write-last,
+    Counting, count-first, count-next, count-last, count-fits}
+use Rattle.interface.proofs.InterfaceLaws.{oneAt, ones-are, count-number, disclosedTo, groupBytesAt, disclosed-few, group-few,
+    disclosures-are, group-bytes-are, list-bytes, no-list, list-length, map-none, map-some, path-few, entry-length, entry-few,
+    row-bytes-are, rowBytesAt, table-bytes-are, table-few}
+
+pub cell-is : {r : ℕ} (t : List ℕ) (c k j : ℕ) → r ≡ getD t (c * 1081 + (9 + (k * 67 + j))) 0 → r ≡ cell t c k j
+unfolding cell cellOf
+cell-is t c k j e = e
+
+-- A flag of a count.
+pub bit-unset : (n v : ℕ) → n ≡ 0 → 0 ≡ bit (isSet n) v
+unfolding isSet bit
+bit-unset n v h = rw (eq-eqb n 0 h)
+
+pub bit-set : (n v : ℕ) → (n ≡ 0 → ⊥) → v ≡ bit (isSet n) v
+unfolding isSet bit
+bit-set n v h = rw (ne-eqb n 0 h)
+
+-- How many groups are disclosed to.
+module _ (t : List ℕ) (c k : ℕ) where
+  pub groups-first : Counting (disclosedTo t c k) 1 64 0 0
+  groups-first = count-first (disclosedTo t c k) 1 64 (disclosed-few t c k)
+
+  pub groups-next : (n g x v : ℕ) → Counting (disclosedTo t c k) 1 64 n g → g < 64 → x ≡ cell t c k g → v ≡ bit (isSet x) 1
+      → Counting (disclosedTo t c k) 1 64 (n + v) (g + 1)
+  unfolding disclosedTo bit
+  groups-next n g x v w h e f = count-next w v h (rw (f, e) (go (isSet (cell t c k g)) _))
+    where
+      go : (b : Bool) (d : Disclosure) → bit b 1 ≡ length (cond b (d ∷ []) [])
+      go true d = refl
+      go false d = refl
+
+  pub groups-last : {n g : ℕ} → Counting (disclosedTo t c k) 1 64 n g → 64 ≤ g → n ≡ length (disclosuresAt t c k)
+  groups-last w h = rw (disclosures-are t c k) (count-last w h)
+
+-- The permission map.
+not-empty : {A : Type 0} (l : List A) → not (isEmpty l) ≡ isSet (length l)
+unfolding isEmpty isSet
+not-empty [] = refl
+not-empty (x ∷ l) = rw (eqb·suc-zero (length l))
+
+pub map-is : (t : List ℕ) (c k x y z n a b d e : ℕ) → x ≡ cell t c k 64 → a ≡ bit (isSet x) 1 → y ≡ cell t c k 65 → b ≡ bit (isSet y) 2
+    → z ≡ cell t c k 66 → d ≡ bit (isSet z) 4 → n ≡ length (disclosuresAt t c k) → e ≡ bit (isSet n) 16
+    → a + (b + (d + e)) ≡ mapOf (entryAt t c k)
+unfolding mapOf entryAt
+map-is t c k x y z n a b d e p p′ q q′ s s′ u u′ = rw (p′, q′, s′, u′, p, q, s, u, not-empty)
+
+-- The lengths of an entry's parts and of an entry.
+module _ (t : List ℕ) (c k : ℕ) where
+  pub path-size-is : {r : ℕ} (p : Path) → pathOf p ≡ pathAt t c → r ≡ length (pathOf p) → r ≡ length (pathAt t c)
+  path-size-is p e h = h ∙ ap length e
+
+  pub path-size-few : {r : ℕ} (p : Path) → pathOf p ≡ pathAt t c → r ≡ length (pathOf p) → r ≤ 8
+  path-size-few p e h = rw (h, e) (path-few t c)
+
+  pub list-len-none : (n : ℕ) → n ≡ length (disclosuresAt t c k) → n ≡ 0 → 0 ≡ length (listBytes (disclosuresAt t c k))
+  list-len-none n e h = rw (no-list (disclosuresAt t c k) (sym e ∙ h))
+
+  pub list-len-some : (n : ℕ) → n ≡ length (disclosuresAt t c k) → (n ≡ 0 → ⊥) → 1 + 3 * n ≡ length (listBytes (disclosuresAt t c k))
+  list-len-some n e h = rw (list-length (disclosuresAt t c k) (λ q. h (e ∙ q)), e)
+
+  pub entry-none : (m : ℕ) → m ≡ mapOf (entryAt t c k) → m ≡ 0 → entryBytesAt t c k ≡ []
+  unfolding entryBytesAt
+  entry-none m e h = rw (map-none (entryAt t c k) (sym e ∙ h))
+
+  pub entry-some : (m : ℕ) → m ≡ mapOf (entryAt t c k) → (m ≡ 0 → ⊥) → entryBytesAt t c k ≡ entryBytes (entryAt t c k)
+  unfolding entryBytesAt
+  entry-some m e h = rw (map-some (entryAt t c k) (λ q. h (e ∙ q)))
+
+  pub entry-len-none : (m : ℕ) → m ≡ mapOf (entryAt t c k) → m ≡ 0 → 0 ≡ length (entryBytesAt t c k)
+  entry-len-none m e h = rw (entry-none m e h)
+
+  pub entry-len-some : (m p l : ℕ) → m ≡ mapOf (entryAt t c k) → (m ≡ 0 → ⊥) → p ≡ length (pathAt t c)
+      → l ≡ length (listBytes (disclosuresAt t c k)) → 3 + (p + l) ≡ length (entryBytesAt t c k)
+  unfolding entryAt
+  entry-len-some m p l e h f g = rw (entry-some m e h, entry-length (entryAt t c k), f, g)
+
+-- The length of a component's entries.
+module _ (t : List ℕ) (c : ℕ) where
+  pub row-first : Counting (entryBytesAt t c) 204 16 0 0
+  row-first = count-first (entryBytesAt t c) 204 16 (entry-few t c)
+
+  pub row-next : {v n k : ℕ} → Counting (entryBytesAt t c) 204 16 n k → k < 16 → v ≡ length (entryBytesAt t c k)
+      → Counting (entryBytesAt t c) 204 16 (n + v) (k + 1)
+  row-next {v} w h e = count-next w v h e
+
+  pub row-fits : {v n k : ℕ} → Counting (entryBytesAt t c) 204 16 n k → k < 16 → v ≡ length (entryBytesAt t c k) → Fits w64 (n + v)
+  row-fits {v} w h e = count-fits w v h e (omega arith)
+
+  pub row-last : {n k : ℕ} → Counting (entryBytesAt t c) 204 16 n k → 16 ≤ k → n ≡ length (interfaceBytes (rowEntries t c))
+  row-last w h = rw (row-bytes-are t c) (count-last w h)
+
+-- The length of the interface.
+module _ (t : List ℕ) (m : ℕ) where
+  pub table-first : Counting (rowBytesAt t) 3264 m 0 0
+  table-first = count-first (rowBytesAt t) 3264 m (table-few t)
+
+  pub table-next : {v n c : ℕ} → Counting (rowBytesAt t) 3264 m n c → c < m → v ≡ length (interfaceBytes (rowEntries t c))
+      → Counting (rowBytesAt t) 3264 m (n + v) (c + 1)
+  unfolding rowBytesAt
+  table-next {v} w h e = count-next w v h e
+
+  pub table-fits : {v n c : ℕ} → Counting (rowBytesAt t) 3264 m n c → c < m → v ≡ length (interfaceBytes (rowEntries t c)) → m ≤ 32
+      → Fits w64 (n + v)
+  unfolding rowBytesAt
+  table-fits {v} w h e l = count-fits w v h e (omega arith)
+
+  pub table-last : {n c : ℕ} → Counting (rowBytesAt t) 3264 m n c → m ≤ c → n ≡ length (interfaceBytes (tableEntries t m))
+  table-last w h = rw (table-bytes-are t m) (count-last w h)
+
+-- Bytes stored, one, and those of a path.
+pub put-is : (o o′ : List ℕ) (at v : ℕ) → o′ ≡ set o at (v % 256) → Stored o o′ at (v ∷ []) (at + 1)
+unfolding storeBytes
+put-is o o′ at v e = record { next = refl; left = e }
+
+pub path-at-most : (p : Path) (n : ℕ) → length (p .groups) ≡ 8 → n ≡ length (pathOf p) → n ≤ 8
+path-at-most p n h e = omega (arith, length-take (p .len) (p .groups))
+
+module _ (o : List ℕ) (at : ℕ) where
+  pub path-first : (l : List ℕ) (n : ℕ) → Writing (oneAt l) 1 n o at o at 0
+  unfolding oneAt
+  path-first l n = write-first (oneAt l) 1 n o at (λ j. omega arith)
+
+  pub path-next : {o₁ o₂ : List ℕ} {n m r i : ℕ} (l : List ℕ) → Writing (oneAt l) 1 n o at o₁ m i → i < n → Stored o₁ o₂ m (getD l i 0 ∷ []) r
+      → Writing (oneAt l) 1 n o at o₂ r (i + 1)
+  unfolding oneAt
+  path-next l w h s = write-next w h s
+
+  pub path-last : {o₁ : List ℕ} {n m i : ℕ} (p : Path) → Writing (oneAt (p .groups)) 1 n o at o₁ m i → n ≤ i → n ≡ length (pathOf p)
+      → Stored o o₁ at (pathOf p) m
+  path-last {o₁} {n} {m} p w h e = rw whole at (write-last w h)
+    where
+      own : take (length (pathOf p)) (p .groups) ≡ pathOf p
+      own = rw (take-append-drop (p .len) (p .groups)) at (take-append-seam (pathOf p) (drop (p .len) (p .groups)))
+      whole : partsFrom (oneAt (p .groups)) n 0 ≡ pathOf p
+      whole = ones-are (p .groups) n (omega (arith, length-take (p .len) (p .groups))) ∙ rw e own
+
+  pub path-written : {o₁ o₂ : List ℕ} {n m r : ℕ} (t : List ℕ) (c : ℕ) (p : Path) → pathOf p ≡ pathAt t c → n ≡ length (pathOf p)
+      → Stored o o₁ at (n ∷ []) m → Stored o₁ o₂ m (pathOf p) r → Stored o o₂ at (length (pathAt t c) ∷ pathAt t c) r
+  path-written t c p e f s u = rw (← e, ← f) (stored-more s u)
+
+-- A group and its count.
+  pub no-group : (g n : ℕ) → n ≡ 0 → Stored o o at (groupBytes g n) at
+  unfolding groupBytes isSet
+  no-group g n h = rw (eq-eqb n 0 h) (stored-none o at)
+
+  pub group-written : {o₁ o₂ o₃ : List ℕ} {a b r : ℕ} (g n : ℕ) → (n ≡ 0 → ⊥) → Stored o o₁ at (g ∷ []) a → Stored o₁ o₂ a (n ∷ []) b
+      → Stored o₂ o₃ b (n / 256 ∷ []) r → Stored o o₃ at (groupBytes g n) r
+  unfolding groupBytes isSet disclosureBytes storeBytes
+  group-written g n h s u v = rw (ne-eqb n 0 h, count-number n) (reduced (stored-more s (stored-more u v)))
+    where
+      reduced : {o′ : List ℕ} {r : ℕ} → Stored o o′ at (g ∷ n ∷ n / 256 ∷ []) r → Stored o o′ at (g ∷ n % 256 ∷ n / 256 % 256 ∷ []) r
+      reduced w = record { next = w .next; left = simp mod-mod (w .left) }
+
+-- The groups that data is disclosed to, and the list of them.
+  module _ (t : List ℕ) (c k : ℕ) where
+    pub groups-written-first : Writing (groupBytesAt t c k) 3 64 o at o at 0
+    groups-written-first = write-first (groupBytesAt t c k) 3 64 o at (group-few t c k)
+
+    pub groups-written-next : {o₁ o₂ : List ℕ} {m r : ℕ} (g n : ℕ) → Writing (groupBytesAt t c k) 3 64 o at o₁ m g → g < 64 → n ≡ cell t c k g
+        → Stored o₁ o₂ m (groupBytes g n) r → Writing (groupBytesAt t c k) 3 64 o at o₂ r (g + 1)
+    unfolding groupBytesAt
+    groups-written-next g n w h e s = write-next w h (rw e at s)
+
+    pub groups-written : {o₁ : List ℕ} {m g : ℕ} → Writing (groupBytesAt t c k) 3 64 o at o₁ m g → 64 ≤ g
+        → Stored o o₁ at (gather disclosureBytes (disclosuresAt t c k)) m
+    groups-written w h = rw (group-bytes-are t c k) (write-last w h)
+
+    pub list-unwritten : (n : ℕ) → n ≡ length (disclosuresAt t c k) → n ≡ 0 → Stored o o at (listBytes (disclosuresAt t c k)) at
+    list-unwritten n e h = rw (no-list (disclosuresAt t c k) (sym e ∙ h)) (stored-none o at)
+
+    pub list-written : {o₁ o₂ : List ℕ} {m r : ℕ} (n : ℕ) → n ≡ length (disclosuresAt t c k) → (n ≡ 0 → ⊥) → Stored o o₁ at (n ∷ []) m
+        → Stored o₁ o₂ m (gather disclosureBytes (disclosuresAt t c k)) r → Stored o o₂ at (listBytes (disclosuresAt t c k)) r
+    list-written n e h s u = rw (list-bytes (disclosuresAt t c k) (λ q. h (e ∙ q)), ← e) (stored-more s u)
+
+-- An entry.
+    pub entry-unwritten : (m : ℕ) → m ≡ mapOf (entryAt t c k) → m ≡ 0 → Stored o o at (entryBytesAt t c k) at
+    entry-unwritten m e h = rw (entry-none t c k m e h) (stored-none o at)
+
+    pub entry-written : {o₁ o₂ o₃ o₄ : List ℕ} {a b d r : ℕ} (m : ℕ) → m ≡ mapOf (entryAt t c k) → (m ≡ 0 → ⊥) → Stored o o₁ at (k ∷ []) a
+        → Stored o₁ o₂ a (length (pathAt t c) ∷ pathAt t c) b → Stored o₂ o₃ b (m ∷ []) d
+        → Stored o₃ o₄ d (listBytes (disclosuresAt t c k)) r → Stored o o₄ at (entryBytesAt t c k) r
+    unfolding entryBytes entryAt
+    entry-written m e h s u v w = rw (entry-some t c k m e h) (rw e at (stored-more s (stored-more u (stored-more v w))))
+
+-- A component's entries, and the interface.
+  module _ (t : List ℕ) (c : ℕ) where
+    pub row-written-first : Writing (entryBytesAt t c) 204 16 o at o at 0
+    row-written-first = write-first (entryBytesAt t c) 204 16 o at (entry-few t c)
+
+    pub row-written-next : {o₁ o₂ : List ℕ} {m r k : ℕ} → Writing (entryBytesAt t c) 204 16 o at o₁ m k → k < 16
+        → Stored o₁ o₂ m (entryBytesAt t c k) r → Writing (entryBytesAt t c) 204 16 o at o₂ r (k + 1)
+    row-written-next w h s = write-next w h s
+
+    pub row-written : {o₁ : List ℕ} {m k : ℕ} → Writing (entryBytesAt t c) 204 16 o at o₁ m k → 16 ≤ k
+        → Stored o o₁ at (interfaceBytes (rowEntries t c)) m
+    row-written w h = rw (row-bytes-are t c) (write-last w h)
+
+  module _ (t : List ℕ) (n : ℕ) where
+    pub table-written-first : Writing (rowBytesAt t) 3264 n o at o at 0
+    table-written-first = write-first (rowBytesAt t) 3264 n o at (table-few t)
+
+    pub table-written-next : {o₁ o₂ : List ℕ} {m r c : ℕ} → Writing (rowBytesAt t) 3264 n o at o₁ m c → c < n
+        → Stored o₁ o₂ m (interfaceBytes (rowEntries t c)) r → Writing (rowBytesAt t) 3264 n o at o₂ r (c + 1)
+    unfolding rowBytesAt
+    table-written-next w h s = write-next w h s
+
+    pub table-written : {o₁ : List ℕ} {m c : ℕ} → Writing (rowBytesAt t) 3264 n o at o₁ m c → n ≤ c
+        → Stored o o₁ at (interfaceBytes (tableEntries t n)) m
+    table-written w h = rw (table-bytes-are t n) (write-last w h)
+
+pub ruleset interface-steps = (needs, unset, cell-is, bit-unset, bit-set, groups-first, groups-next, groups-last, map-is, path-size-is, path-size-few,
+    list-len-none, list-len-some, entry-len-none, entry-len-some, row-first, row-next, row-fits, row-last,
+    table-first, table-next, table-fits, table-last,
+    put-is, path-at-most, path-first, path-next, path-last, path-written, no-group, group-written, groups-written-first, groups-written-next, groups-written,
+    list-unwritten, list-written, entry-unwritten, entry-written, row-written-first, row-written-next, row-written,
+    table-written-first, table-written-next, table-written)

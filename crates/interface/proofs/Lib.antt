@@ -1,0 +1,10 @@
+-- The lemmas that the proofs of the functions share, and laws of the table and of the interface.
+pub mod CellLaws
+pub mod RowLaws
+pub mod TableLaws
+pub mod StoreLaws
+pub mod ByteLaws
+pub mod WriteLaws
+pub mod InterfaceLaws
+pub mod InterfaceBytes
+pub mod InterfaceSteps

@@ -1,0 +1,271 @@
+-- The components of a sheet that was read can be stored in the table: their numbers are consecutive, there are at most 32 of
+-- them, their paths have at most eight groups below 64, and they have fewer acts than the sheet has bytes.
+use Prim.Native.Nat.{ℕ, zero, suc, _+_, _-_, _<_, _≤_}
+use mathlib.Core.Path.{_≡_, refl, sym, ap, ap₂, _∙_}
+use mathlib.Core.List.{List, [], _∷_, _++_}
+use mathlib.Core.Bool.{Bool, true, false}
+use native.Mathlib.Omega.{arith}
+use native.Mathlib.Numerals.{sub-one}
+use lib.ListN.{length, getD, replicate, length-append, length-replicate, getD-replicate, List·getD-append, List·getD-eq-default}
+use lib.Seq.{getD-append-seam}
+use lib.Dec.{ltb, eqb}
+use Rattle.reading.specs.Read.{Read, got, refused, andThen, byteAt, below}
+use Rattle.reading.specs.Types.{typeAt}
+use Rattle.reading.specs.Syntax.{Process, nil, par, new, input, output, repl, System, nilₛ, parₛ, groupₛ, newₛ, compₛ, Sheet, components}
+use native.Mathlib.Decide.{ℕ-discrete, decLt}
+use Rattle.reading.specs.Forms.{member, limited, freshGroup, groupForm, componentForm, newForm, systemForm, systemAt, processAt}
+use Rattle.reading.specs.System.{processFrom, readProcess, component, systemFrom, readSystem, readSheet, sheetOf}
+use Rattle.reading.specs.declared.Form.{Form}
+use Rattle.reading.specs.declared.Form.the-variants.{Nil, Par, Group, New, Component, Input, Output, Replicate}
+use Rattle.reading.proofs.Parts.{never, parts, passed, below-found, Every, of-found, every-then, every-cond, every-limited}
+use Rattle.reading.proofs.FormLaws.{FitsSystem, system-room, system-level, process-room, process-level}
+use Rattle.reading.proofs.ReadLaws.{process-local, read-system-local}
+use Rattle.reading.proofs.Local.{place-after}
+use Rattle.reading.proofs.TreeLaws.{process-begins, system-begins, components-few, SheetParts}
+use Rattle.inference.specs.Lists.{gather, rising}
+use Rattle.inference.specs.Acts.{Act, Component as Owner, Located, acts, actsOf, locate, located}
+use Rattle.inference.specs.Interface.{interface, entriesOf}
+use Rattle.inference.specs.Rows.{tableEntries, rowEntries}
+use Rattle.inference.specs.Walks.{chargedAll}
+use Rattle.interface.proofs.CellLaws.{AllOf, of-none, of-more}
+use Rattle.interface.proofs.TableLaws.{FitsRow, Clear, Storable, AllStorable, store-none, store-more, table-from}
+
+-- How many acts a process has.
+unfoldable pub actCount : Process → ℕ
+actCount nil = 0
+actCount (par p q) = actCount p + actCount q
+actCount (new t p) = actCount p
+actCount (input x t p) = suc (actCount p)
+actCount (output x y p) = suc (actCount p)
+actCount (repl p) = actCount p
+
+open-acts : (c : Owner) (r : Bool) (scope : List ℕ) (p : Process) → length (acts c r scope p) ≡ actCount p
+unfolding acts actCount
+open-acts c r scope nil = refl
+open-acts c r scope (par p q) = length-append (acts c r scope p) (acts c r scope q) ∙ ap₂ _+_ (open-acts c r scope p) (open-acts c r scope q)
+open-acts c r scope (new t p) = open-acts c r (scope ++ (t ∷ [])) p
+open-acts c r scope (input x t p) = ap suc (open-acts c r (scope ++ (t ∷ [])) p)
+open-acts c r scope (output x y p) = ap suc (open-acts c r scope p)
+open-acts c r scope (repl p) = open-acts c true scope p
+
+-- Each act takes at least one byte.
+module _ (read : ℕ → ℕ → Read Process) (l : (ns m : ℕ) (p : Process) (k : ℕ) → read ns m ≡ got p k → m + actCount p ≤ k)
+    (at names : ℕ) where
+  acts-from : (f : Form) (next : ℕ) → at < next → {p : Process} {k : ℕ} → processFrom read at names f next ≡ got p k → at + actCount p ≤ k
+  unfolding processFrom actCount
+  acts-from Nil next h {p} {k} e =
+      let z : nil ≡ p = cc in
+      let w : next ≡ k = cc in
+      omega (arith, ap actCount z)
+  acts-from Par next h {p} {k} e =
+      let a = parts (read names next) (λ x m. andThen (read names m) (λ y j. got (par x y) j)) e in
+      let b = parts (read names (a .place)) (λ y j. got (par (a .value) y) j) (a .rest) in
+      let z : par (a .value) (b .value) ≡ p = cc in
+      let w : b .place ≡ k = cc in
+      omega (arith, ap actCount z, l names next (a .value) (a .place) (a .first), l names (a .place) (b .value) (b .place) (b .first))
+  acts-from (New t) next h {p} {k} e =
+      let a = parts (read (names + 1) next) (λ x j. got (new t x) j) e in
+      let z : new t (a .value) ≡ p = cc in
+      let w : a .place ≡ k = cc in
+      omega (arith, ap actCount z, l (names + 1) next (a .value) (a .place) (a .first))
+  acts-from (Input i) next h {p} {k} e =
+      let a = parts (read (names + 1) next) (λ x j. got (input (i .channel) (i .object) x) j) e in
+      let z : input (i .channel) (i .object) (a .value) ≡ p = cc in
+      let w : a .place ≡ k = cc in
+      omega (arith, ap actCount z, l (names + 1) next (a .value) (a .place) (a .first))
+  acts-from (Output i) next h {p} {k} e =
+      let a = parts (read names next) (λ x j. got (output (i .channel) (i .object) x) j) e in
+      let z : output (i .channel) (i .object) (a .value) ≡ p = cc in
+      let w : a .place ≡ k = cc in
+      omega (arith, ap actCount z, l names next (a .value) (a .place) (a .first))
+  acts-from Replicate next h {p} {k} e =
+      let a = parts (read names next) (λ x j. got (repl x) j) e in
+      let z : repl (a .value) ≡ p = cc in
+      let w : a .place ≡ k = cc in
+      omega (arith, ap actCount z, l names next (a .value) (a .place) (a .first))
+  acts-from (Group g) next h e = never e
+  acts-from (Component g) next h e = never e
+
+acts-read : (nest : ℕ) (s : List ℕ) (names at : ℕ) {p : Process} {k : ℕ} → readProcess nest s names at ≡ got p k → at + actCount p ≤ k
+unfolding readProcess
+acts-read zero s names at e =
+    let a = parts (processAt s at 0 names) (λ f next. refused 5 at) e in never (a .rest)
+acts-read (suc n) s names at e =
+    let a = parts (processAt s at (suc n) names) (λ f next. processFrom (λ ns m. readProcess n s ns m) at names f next) e in
+    acts-from (λ ns m. readProcess n s ns m) (λ ns m p k f. acts-read n s ns m f) at names (a .value) (a .place)
+    (omega (arith, place-after (at + 1) (λ b. processAt b at (suc n) names) (process-local at (suc n) names) s (a .first))) (a .rest)
+
+-- The acts of a component are its own.
+all-append : (n : ℕ) {xs ys : List Act} → AllOf n xs → AllOf n ys → AllOf n (xs ++ ys)
+all-append n of-none h = h
+all-append n (of-more e more) h = of-more e (all-append n more h)
+
+own-acts : (c : Owner) (r : Bool) (scope : List ℕ) (p : Process) → AllOf (c .number) (acts c r scope p)
+unfolding acts
+own-acts c r scope nil = of-none
+own-acts c r scope (par p q) = all-append (c .number) (own-acts c r scope p) (own-acts c r scope q)
+own-acts c r scope (new t p) = own-acts c r (scope ++ (t ∷ [])) p
+own-acts c r scope (input x t p) = of-more refl (own-acts c r (scope ++ (t ∷ [])) p)
+own-acts c r scope (output x y p) = of-more refl (own-acts c r scope p)
+own-acts c r scope (repl p) = own-acts c true scope p
+
+-- A form's group is below 64.
+unfoldable GroupBelow : Form → Type 0
+GroupBelow Nil = Unit {0}
+GroupBelow Par = Unit {0}
+GroupBelow (Group g) = g < 64
+GroupBelow (New t) = Unit {0}
+GroupBelow (Component g) = g < 64
+GroupBelow (Input a) = Unit {0}
+GroupBelow (Output a) = Unit {0}
+GroupBelow Replicate = Unit {0}
+
+fresh-below : (s : List ℕ) (at : ℕ) (path : List ℕ) → Every (λ g. g < 64) (freshGroup s at path)
+unfolding Every freshGroup
+fresh-below s at path = every-then _ (below 64 s at) _ (λ g next e. every-cond _ (member g path) _ _ tt (below-found 64 s at e))
+
+form-group : (s : List ℕ) (at nest names : ℕ) (path : List ℕ) (posts : ℕ) → Every GroupBelow (systemAt s at nest names path posts)
+unfolding Every GroupBelow systemAt systemForm groupForm componentForm newForm
+form-group s at nest names path posts = every-then P (byteAt s at) _ (λ code next _.
+    every-cond P (eqb code 0) _ _ (every-limited P _ at _ (λ e. tt))
+    (every-cond P (eqb code 1) _ _ (every-limited P _ at _ (λ e. tt))
+    (every-cond P (eqb code 2) _ _ (every-limited P _ at _ (λ e. every-then P (freshGroup s next path) _ (λ g m h. of-found _ (freshGroup s next path) (fresh-below s next path) h)))
+    (every-cond P (eqb code 3) _ _ (every-limited P _ at _ (λ e. every-then P (typeAt s next) _ (λ t m h. tt)))
+    (every-cond P (eqb code 4) _ _ (every-limited P _ at _ (λ e. every-then P (freshGroup s next path) _ (λ g m h. of-found _ (freshGroup s next path) (fresh-below s next path) h))) tt)))))
+  where
+    P : Form → Type 0
+    P = GroupBelow
+
+-- A path with one more group fits a row.
+fits-more : (path : List ℕ) (g : ℕ) → FitsRow path → length path < 8 → g < 64 → FitsRow (path ++ (g ∷ []))
+fits-more path g h short small = record {
+    short = rw (length-append path (g ∷ [])) (omega arith);
+    groups = λ i p. each i (rw (length-append path (g ∷ [])) at p) }
+  where
+    each : (i : ℕ) → i < length path + 1 → getD (path ++ (g ∷ [])) i 0 < 64
+    each i p = go (ℕ-discrete i (length path))
+      where
+        go : Dec (i ≡ length path) → getD (path ++ (g ∷ [])) i 0 < 64
+        go (yes e) = rw (e, getD-append-seam path g [] 0) small
+        go (no f) =
+            let lt : i < length path = omega arith in
+            rw (List·getD-append path (g ∷ []) 0 i lt) (h .groups i lt)
+
+-- Components stored one after another, then more.
+store-append : (n : ℕ) {xs ys : List Located} (m : ℕ) → AllStorable n xs → m ≡ n + length xs → AllStorable m ys → AllStorable n (xs ++ ys)
+store-append n {ys = ys} m store-none e h = let f : m ≡ n = omega arith in rw (← f) h
+store-append n m (store-more ok more) e h = store-more ok (store-append (suc n) m more (omega arith) h)
+
+pub located-count : (number : ℕ) (path scope : List ℕ) (s : System) → length (locate number path scope s) ≡ components s
+unfolding locate components
+located-count number path scope nilₛ = refl
+located-count number path scope (parₛ l r) =
+    length-append (locate number path scope l) (locate (number + components l) path scope r)
+    ∙ ap₂ _+_ (located-count number path scope l) (located-count (number + components l) path scope r)
+located-count number path scope (groupₛ g p) = located-count number (path ++ (g ∷ [])) scope p
+located-count number path scope (newₛ t p) = located-count number path (scope ++ (t ∷ [])) p
+located-count number path scope (compₛ g p) = refl
+
+module _ (read : ℕ → List ℕ → ℕ → ℕ → Read System) (process : ℕ → Read Process)
+    (later : (ns : ℕ) (path : List ℕ) (posts m : ℕ) (p : System) (k : ℕ) → read ns path posts m ≡ got p k → m ≤ k)
+    (l : (ns : ℕ) (path : List ℕ) (posts m : ℕ) (scope : List ℕ) (p : System) (k : ℕ) → read ns path posts m ≡ got p k → FitsRow path → k ≤ 65000
+    → AllStorable posts (locate posts path scope p))
+    (a : (m : ℕ) (p : Process) (k : ℕ) → process m ≡ got p k → m + actCount p ≤ k)
+    (at names : ℕ) (path : List ℕ) (posts : ℕ) (scope : List ℕ) (fits : FitsRow path) where
+  store-from : (f : Form) (next : ℕ) → FitsSystem 64 0 (length path) posts f → GroupBelow f → {p : System} {k : ℕ}
+      → systemFrom read process at names path posts f next ≡ got p k → k ≤ 65000 → AllStorable posts (locate posts path scope p)
+  unfolding systemFrom component FitsSystem GroupBelow locate actsOf
+  store-from Nil next h g {p} e few = let z : nilₛ ≡ p = cc in rw (← z) store-none
+  store-from Par next h g {p} {k} e few =
+      let x = parts (read names path posts next) (λ u m. andThen (read names path (posts + components u) m) (λ v j. got (parₛ u v) j)) e in
+      let y = parts (read names path (posts + components (x .value)) (x .place)) (λ v j. got (parₛ (x .value) v) j) (x .rest) in
+      let z : parₛ (x .value) (y .value) ≡ p = cc in
+      let w : y .place ≡ k = cc in
+      let mono = later names path (posts + components (x .value)) (x .place) (y .value) (y .place) (y .first) in
+      rw (← z) (      store-append posts (posts + components (x .value))
+      (l names path posts next scope (x .value) (x .place) (x .first) fits (omega arith))
+      (ap (λ (n : ℕ). posts + n) (sym (located-count posts path scope (x .value))))
+      (l names path (posts + components (x .value)) (x .place) scope (y .value) (y .place) (y .first) fits (omega arith)))
+  store-from (Group b) next h g {p} {k} e few =
+      let x = parts (read names (path ++ (b ∷ [])) posts next) (λ u j. got (groupₛ b u) j) e in
+      let z : groupₛ b (x .value) ≡ p = cc in
+      let w : x .place ≡ k = cc in
+      rw (← z) (      l names (path ++ (b ∷ [])) posts next scope (x .value) (x .place) (x .first) (fits-more path b fits (h .1) g) (omega arith))
+  store-from (New t) next h g {p} {k} e few =
+      let x = parts (read (names + 1) path posts next) (λ u j. got (newₛ t u) j) e in
+      let z : newₛ t (x .value) ≡ p = cc in
+      let w : x .place ≡ k = cc in
+      rw (← z) (l (names + 1) path posts next (scope ++ (t ∷ [])) (x .value) (x .place) (x .first) fits (omega arith))
+  store-from (Component b) next h g {p} {k} e few =
+      let x = parts (process next) (λ u j. got (compₛ b u) j) e in
+      let z : compₛ b (x .value) ≡ p = cc in
+      let w : x .place ≡ k = cc in
+      let c : Owner = record { number = posts; path = path ++ (b ∷ []) } in
+      rw (← z) (store-more (record {
+          number = refl;
+          fits = fits-more path b fits (h .1) g;
+          own = own-acts c false scope (x .value);
+          few = omega (arith, open-acts c false scope (x .value), a next (x .value) (x .place) (x .first)) })
+      store-none)
+  store-from (Input i) next h g e few = never e
+  store-from (Output i) next h g e few = never e
+  store-from Replicate next h g e few = never e
+
+-- what FitsSystem says of the path and of the components does not depend on the nesting and the names
+fits-any : (nest names long posts : ℕ) (f : Form) → FitsSystem nest names long posts f → FitsSystem 64 0 long posts f
+unfolding FitsSystem
+fits-any nest names long posts Nil h = omega arith
+fits-any nest names long posts Par h = omega arith
+fits-any nest names long posts (Group g) h = (omega arith, h .1)
+fits-any nest names long posts (New t) h = (omega arith, omega arith)
+fits-any nest names long posts (Component g) h = (omega arith, h .1, h .2)
+fits-any nest names long posts (Input a) h = h
+fits-any nest names long posts (Output a) h = h
+fits-any nest names long posts Replicate h = h
+
+store-read : (nest : ℕ) (s : List ℕ) (names : ℕ) (path : List ℕ) (posts at : ℕ) (scope : List ℕ) (p : System) (k : ℕ)
+    → readSystem nest s names path posts at ≡ got p k → FitsRow path → k ≤ 65000 → AllStorable posts (locate posts path scope p)
+unfolding readSystem
+store-read zero s names path posts at scope p k e fits few =
+    let a = parts (systemAt s at 0 names path posts) (λ f next. refused 5 at) e in never (a .rest)
+store-read (suc n) s names path posts at scope p k e fits few =
+    let a = parts (systemAt s at (suc n) names path posts)
+        (λ f next. systemFrom (λ ns q i m. readSystem n s ns q i m) (λ m. readProcess n s names m) at names path posts f next) e in
+    store-from (λ ns q i m. readSystem n s ns q i m) (λ m. readProcess n s names m)
+    (λ ns q i m r j f. omega (arith, place-after (m + 1) (λ b. readSystem n b ns q i m) (read-system-local n ns q i m) s f))
+    (λ ns q i m sc r j f fi fe. store-read n s ns q i m sc r j f fi fe)
+    (λ m r j f. acts-read n s names m f) at names path posts scope fits (a .value) (a .place)
+    (fits-any (suc n) names (length path) posts (a .value) (system-room s at (suc n) names path posts (a .first)))
+    (of-found _ (systemAt s at (suc n) names path posts) (form-group s at (suc n) names path posts) (a .first)) (a .rest) few
+
+-- The components of a sheet that was read can be stored, and there are at most 32.
+pub sheet-storable : (s charter : List ℕ) (sheet : Sheet) (k : ℕ) → SheetParts s charter sheet k → AllStorable 0 (located sheet)
+unfolding located
+sheet-storable s charter sheet k h =
+    store-read 64 s (length (sheet .free)) [] 0 (h .start) (sheet .free) (sheet .system) k (h .body)
+    (record { short = omega arith; groups = λ i p. absurd (omega arith) }) (omega (arith, h .end, h .short))
+
+pub sheet-components : (s charter : List ℕ) (sheet : Sheet) (k : ℕ) → SheetParts s charter sheet k → components (sheet .system) ≤ 32
+sheet-components s charter sheet k h =
+    omega (arith, components-few 64 s (length (sheet .free)) [] 0 (h .start) (omega arith) (h .body))
+
+-- The table that a sheet's walk leaves in clear memory holds the sheet's interface.
+pub sheet-table : (s charter : List ℕ) (sheet : Sheet) (k : ℕ) → SheetParts s charter sheet k
+    → (table : List ℕ) → length table ≡ 34592 → Clear 0 table
+    → tableEntries (chargedAll table (located sheet)) (components (sheet .system)) ≡ interface sheet
+unfolding tableEntries interface located
+sheet-table s charter sheet k h table long clear =
+    ap (λ (n : ℕ). gather (rowEntries (chargedAll table (locate 0 [] (sheet .free) (sheet .system)))) (rising 0 n))
+    (sym (located-count 0 [] (sheet .free) (sheet .system)))
+    ∙ table-from (locate 0 [] (sheet .free) (sheet .system)) 0
+    (sheet-storable s charter sheet k h)
+    (omega (arith, located-count 0 [] (sheet .free) (sheet .system), sheet-components s charter sheet k h))
+    table long clear
+
+pub clear-zeros : (n : ℕ) → Clear 0 (replicate n 0)
+unfolding Clear
+clear-zeros n i p = go (decLt i n)
+  where
+    go : Dec (i < n) → _≡_ {A = ℕ} (getD (replicate n 0) i 0) 0
+    go (yes lt) = getD-replicate n i 0 0 lt
+    go (no f) = List·getD-eq-default (replicate n 0) 0 (rw (length-replicate {A = ℕ} n 0) (omega arith))

@@ -1,0 +1,2 @@
+-- What the contracts of the interface writer cite.
+pub mod Writes
