@@ -7,4 +7,5 @@ pub mod WalkSteps
 pub mod SystemSteps
 pub mod SheetSteps
 pub mod CountLaws
+pub mod ActLaws
 pub mod FaultLaws

@@ -10,17 +10,17 @@ use lib.ListN.{length, take, set, length-set}
 use Rattle.reading.proofs.Parts.{parts, passed, never, below-found}
 use Rattle.reading.proofs.TotalLaws.{system-total}
 use Rattle.reading.specs.Read.{Read, got, refused, andThen, below}
-use Rattle.reading.specs.Syntax.{System, Sheet, components}
+use Rattle.reading.specs.Syntax.{Sheet, components}
 use Rattle.reading.specs.System.{freeTypes, header, readSystem, toItsEnd, readSheet}
 use Rattle.reading.specs.Told.{number}
-use Rattle.reading.specs.Total.{Grown, systemTree}
+use Rattle.reading.specs.Total.{systemTree}
 use Rattle.reading.specs.Types.{typeAt}
 use Rattle.reading.specs.declared.Number.{Number}
 use Rattle.reading.specs.declared.NumberRead.{NumberRead}
 use Rattle.reading.specs.declared.NumberRead.the-variants as number-read
 use Rattle.reading.specs.declared.Refusal.{Refusal}
 use Rattle.inference.proofs.WalkLaws.{bound}
-use Rattle.inference.specs.Acts.{located, locate}
+use Rattle.inference.specs.Acts.{located}
 use Rattle.inference.specs.Walks.{InferredAt, InferredSheet, LoadedTypes, LoadedFree}
 use Rattle.inference.specs.declared.SystemWalk.{SystemWalk}
 

@@ -1,8 +1,8 @@
 -- The walk over a system, return by return: what the parts of a form were found to be makes what the form is found to be.
-use Prim.Native.Nat.{ℕ, zero, suc, _+_, _-_, _<_, _≤_, min}
-use mathlib.Core.Bool.{Bool, true, false, _&&_}
+use Prim.Native.Nat.{ℕ, _+_, _-_, _<_, _≤_, min}
+use mathlib.Core.Bool.{true, false}
 use mathlib.Core.List.{List, [], _∷_, _++_}
-use mathlib.Core.Path.{_≡_, refl, sym, ap, _∙_}
+use mathlib.Core.Path.{_≡_, refl, sym, _∙_}
 use native.Mathlib.Omega.{arith}
 use borrow.Author.Needs.{needs}
 use borrow.Author.Tests.{lt-ltb, ltb-true}
@@ -10,8 +10,8 @@ use lib.Dec.{ltb}
 use lib.ListN.{length, take, set}
 use Rattle.reading.proofs.TotalLaws.{system-nest, system-names, group-room, component-room, component-number, system-step, system-stop, both-left, both-right}
 use Rattle.reading.specs.Forms.{systemAt}
-use Rattle.reading.specs.Read.{Read, got, refused}
-use Rattle.reading.specs.Syntax.{Process, System, nilₛ, parₛ, groupₛ, newₛ, compₛ, components}
+use Rattle.reading.specs.Read.{got}
+use Rattle.reading.specs.Syntax.{Process, System, nilₛ, parₛ, newₛ, compₛ, components}
 use Rattle.reading.specs.Told.{form}
 use Rattle.reading.specs.Total.{Grown, under, beside, systemGrown, processTree, systemTree}
 use Rattle.reading.specs.declared.Act.{Act as Fields}
@@ -22,9 +22,9 @@ use Rattle.reading.specs.declared.FormRead.the-variants as form-read
 use Rattle.reading.specs.declared.Place.{Place}
 use Rattle.reading.specs.declared.Refusal.{Refusal}
 use Rattle.inference.proofs.WalkLaws.{worst-most, worstAll-append, chargedAll-append, bound, kept-below}
-use Rattle.inference.specs.Acts.{Act, acts, actsOf, locate}
+use Rattle.inference.specs.Acts.{acts, actsOf, locate}
 use Rattle.inference.specs.Rows.{withPath}
-use Rattle.inference.specs.Walks.{worst, worstAll, charged, chargedAll, opens, Inferred, InferredSystem, InferredAt}
+use Rattle.inference.specs.Walks.{worstAll, chargedAll, opens, Inferred, InferredAt}
 use Rattle.inference.specs.declared.SystemWalk.{SystemWalk}
 use Rattle.inference.specs.declared.Walk.{Walk}
 

@@ -1,18 +1,17 @@
 -- The walk over a process, return by return: what the parts of a form were found to be makes what the form is found to be.
-use Prim.Native.Nat.{ℕ, zero, suc, _+_, _-_, _<_, _≤_, min}
+use Prim.Native.Nat.{ℕ, _+_, _-_, _<_, _≤_, min}
 use mathlib.Core.Bool.{Bool, true, false}
 use mathlib.Core.List.{List, [], _∷_, _++_}
-use mathlib.Core.Option.{Option, some, none}
-use mathlib.Core.Path.{_≡_, refl, sym, ap, _∙_}
+use mathlib.Core.Option.{Option, some}
+use mathlib.Core.Path.{_≡_, refl, sym, _∙_}
 use native.Mathlib.Omega.{arith}
 use borrow.Author.Needs.{needs}
 use borrow.Author.Tests.{lt-ltb, ltb-true}
-use lib.Dec.{ltb}
 use lib.ListN.{length, take, set, getElem?}
 use Rattle.reading.proofs.TotalLaws.{process-nest, new-names, input-names, process-step, process-stop}
 use Rattle.reading.specs.Forms.{processAt}
-use Rattle.reading.specs.Read.{Read, got, refused}
-use Rattle.reading.specs.Syntax.{Process, nil, par, new, input, output, repl}
+use Rattle.reading.specs.Read.{got}
+use Rattle.reading.specs.Syntax.{Process, nil, par, new, input, output}
 use Rattle.reading.specs.Told.{form}
 use Rattle.reading.specs.Total.{Grown, under, beside, processGrown, processTree}
 use Rattle.reading.specs.declared.Act.{Act as Fields}
@@ -23,7 +22,7 @@ use Rattle.reading.specs.declared.FormRead.the-variants as form-read
 use Rattle.reading.specs.declared.Place.{Place}
 use Rattle.reading.specs.declared.Refusal.{Refusal}
 use Rattle.inference.proofs.WalkLaws.{worst-append, charged-append, bound, kept-below}
-use Rattle.inference.specs.Acts.{Component, Act, acts}
+use Rattle.inference.specs.Acts.{Component, acts}
 use Rattle.inference.specs.Needs.{needOn, needOf}
 use Rattle.inference.specs.Rows.{charge}
 use Rattle.inference.specs.Told.{known}

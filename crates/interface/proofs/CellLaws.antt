@@ -18,7 +18,7 @@ use Rattle.inference.specs.Acts.{Act}
 use Rattle.inference.specs.Needs.{needOf, weigh, total}
 use Rattle.inference.specs.Rows.{bumped, chargeAt, cellOf, chargeCell, charge}
 use Rattle.inference.specs.Walks.{charged}
-use Rattle.inference.proofs.CountLaws.{join-assoc, join-none}
+use Rattle.inference.proofs.CountLaws.{join-assoc, join-nothing}
 
 -- How often a need lands in the cell of a kind and a column: once or not at all.
 unfoldable pub landsIn : ℕ → ℕ → ℕ → ℕ → ℕ
@@ -242,7 +242,7 @@ pub charged-count : (n : ℕ) → n < 32 → (k c : ℕ) → k < 16 → c < 67 �
     → getD table (cellOf n k c) 0 ≡ countNumber x → {acts : List Act} → AllOf n acts → Few x (length acts)
     → getD (charged table acts) (cellOf n k c) 0 ≡ countNumber (x ⊕ total (λ a. lands k c (needOf a)) acts)
 unfolding charged total
-charged-count n small k c p q table long x e of-none few = rw (join-none x) e
+charged-count n small k c p q table long x e of-none few = rw (join-nothing x) e
 charged-count n small k c p q table long x e (of-more {a = a} {rest = rest} f more) few =
     ap (λ (m : ℕ). getD (charged (charge table m (needOf a) (a .repeated)) rest) (cellOf n k c) 0) f
     ∙ charged-count n small k c p q (charge table n (needOf a) (a .repeated))

@@ -1,16 +1,16 @@
 -- The definitions of an interface's entries and bytes as parts that a loop takes one by one, and how long they are.
-use Prim.Native.Nat.{ℕ, zero, suc, _+_, _-_, _*_, _/_, _%_, _≤_, _<_}
+use Prim.Native.Nat.{ℕ, zero, suc, _+_, _-_, _*_, _≤_}
 use mathlib.Core.Bool.{Bool, true, false, cond, not, _||_}
 use mathlib.Core.List.{List, [], _∷_, _++_, map, append-assoc}
 use mathlib.Core.Path.{_≡_, refl, sym, ap, _∙_}
-use native.Mathlib.Nat.{mul-suc, mod-mod}
+use native.Mathlib.Nat.{mul-suc}
 use native.Mathlib.Omega.{arith}
 use borrow.Author.Tests.{eqb-true}
 use lib.Dec.{eqb, eqb·suc-zero}
 use lib.ListN.{length, take, drop, getD, length-append, length-take}
 use lib.Seq.{drop-cons}
 use Rattle.inference.specs.Lists.{only, gather, rising}
-use Rattle.inference.specs.Counts.{Count, fin, unlimited, isZero, countNumber}
+use Rattle.inference.specs.Counts.{fin, unlimited, isZero, countNumber}
 use Rattle.inference.specs.Interface.{Disclosure, Entry, isEmpty, holdsAny, bit, mapOf, disclosureBytes, listBytes, entryBytes, interfaceBytes}
 use Rattle.inference.specs.Rows.{pathAt, cell, countOf, isSet, disclosuresAt, entryAt, rowEntries, tableEntries}
 use Rattle.interface.specs.Writes.{groupBytes, entryBytesAt}
@@ -27,11 +27,6 @@ module _ {A B : Type 0} (h : A → List B) where
   unfolding gather
   gather-gather f [] = refl
   gather-gather f (k ∷ ks) = gather-append (f k) (gather f ks) ∙ ap (λ (l : List B). gather h (f k) ++ l) (gather-gather f ks)
-
-  pub gather-same : (g : A → List B) → ((x : A) → h x ≡ g x) → (xs : List A) → gather h xs ≡ gather g xs
-  unfolding gather
-  gather-same g e [] = refl
-  gather-same g e (x ∷ xs) = rw (e x, gather-same g e xs)
 
   pub gather-few : (b : ℕ) → ((x : A) → length (h x) ≤ b) → (xs : List A) → length (gather h xs) ≤ b * length xs
   unfolding gather
@@ -68,11 +63,11 @@ cond-few true xs n h = h
 cond-few false xs n h = omega arith
 
 -- A list's elements one by one.
-unfoldable pub oneAt : List ℕ → ℕ → List ℕ
+abbrev pub oneAt : List ℕ → ℕ → List ℕ
 oneAt l i = getD l i 0 ∷ []
 
 ones-from : (l : List ℕ) (n i : ℕ) → i + n ≤ length l → gather (oneAt l) (rising i n) ≡ take n (drop i l)
-unfolding oneAt gather rising
+unfolding gather rising
 ones-from l zero i h = refl
 ones-from l (suc n) i h = rw (drop-cons l i 0 (omega arith)) (ap (λ (m : List ℕ). getD l i 0 ∷ m) (ones-from l n (suc i) (omega arith)))
 
@@ -114,20 +109,20 @@ module _ (table : List ℕ) (component kind : ℕ) where
   unfolding groupBytesAt groupBytes disclosureBytes
   group-few g = cond-few (isSet (cell table component kind g)) _ 3 (omega arith)
 
+  disclosed-parts : {B : Type 0} (h : Disclosure → List B) → gather h (disclosuresAt table component kind)
+      ≡ partsFrom (λ g. cond (isSet (cell table component kind g)) (h (record { group = g; count = countOf (cell table component kind g) })) []) 64 0
+  unfolding disclosuresAt partsFrom
+  disclosed-parts h =
+      simp set-count at
+      (gather-only h (λ d. not (isZero (d .count))) (λ g. record { group = g; count = countOf (cell table component kind g) }) (rising 0 64))
+
   pub disclosures-are : disclosuresAt table component kind ≡ partsFrom disclosedTo 64 0
-  unfolding disclosuresAt partsFrom disclosedTo
-  disclosures-are =
-      sym (gather-one (disclosuresAt table component kind))
-      ∙ gather-only (λ d. d ∷ []) (λ d. not (isZero (d .count))) (λ g. record { group = g; count = countOf (cell table component kind g) }) (rising 0 64)
-      ∙ gather-same (λ g. cond (not (isZero (countOf (cell table component kind g)))) (record { group = g; count = countOf (cell table component kind g) } ∷ []) [])
-      disclosedTo (λ g. rw (set-count (cell table component kind g))) (rising 0 64)
+  unfolding disclosedTo
+  disclosures-are = sym (gather-one (disclosuresAt table component kind)) ∙ disclosed-parts (λ d. d ∷ [])
 
   pub group-bytes-are : gather disclosureBytes (disclosuresAt table component kind) ≡ partsFrom groupBytesAt 64 0
-  unfolding disclosuresAt partsFrom groupBytesAt groupBytes
-  group-bytes-are =
-      gather-only disclosureBytes (λ d. not (isZero (d .count))) (λ g. record { group = g; count = countOf (cell table component kind g) }) (rising 0 64)
-      ∙ gather-same (λ g. cond (not (isZero (countOf (cell table component kind g)))) (disclosureBytes (record { group = g; count = countOf (cell table component kind g) })) [])
-      groupBytesAt (λ g. rw (set-count (cell table component kind g))) (rising 0 64)
+  unfolding groupBytesAt groupBytes
+  group-bytes-are = disclosed-parts disclosureBytes
 
   pub disclosures-few : length (disclosuresAt table component kind) ≤ 64
   disclosures-few = rw disclosures-are (parts-few disclosedTo 1 64 disclosed-few)
@@ -184,8 +179,11 @@ map-some e h = some-held (e .read) (e .write) (e .access) (not (isEmpty (e .disc
 pub path-few : (table : List ℕ) (component : ℕ) → length (pathAt table component) ≤ 8
 unfolding pathAt
 path-few table component =
-    omega (arith, length-take (getD table (component * 1081) 0) (take 8 (drop (component * 1081 + 1) table)),
-    length-take 8 (drop (component * 1081 + 1) table))
+    omega (
+      arith,
+      length-take (getD table (component * 1081) 0) (take 8 (drop (component * 1081 + 1) table)),
+      length-take 8 (drop (component * 1081 + 1) table),
+    )
 
 pub entry-length : (e : Entry) → length (entryBytes e) ≡ 3 + (length (e .component .path) + length (listBytes (e .disclose)))
 unfolding entryBytes
@@ -197,8 +195,12 @@ module _ (table : List ℕ) (component : ℕ) where
   entry-few kind = cond-few (holdsAny (entryAt table component kind)) (entryBytes (entryAt table component kind)) 204 few
     where
       few : length (entryBytes (entryAt table component kind)) ≤ 204
-      few = omega (arith, entry-length (entryAt table component kind), path-few table component,
-          list-few (disclosuresAt table component kind) (disclosures-few table component kind))
+      few = omega (
+        arith,
+        entry-length (entryAt table component kind),
+        path-few table component,
+        list-few (disclosuresAt table component kind) (disclosures-few table component kind),
+      )
 
   -- A component's entries, kind by kind.
   pub row-bytes-are : interfaceBytes (rowEntries table component) ≡ partsFrom (entryBytesAt table component) 16 0
@@ -209,13 +211,9 @@ module _ (table : List ℕ) (component : ℕ) where
   row-few = rw row-bytes-are (parts-few (entryBytesAt table component) 204 16 entry-few)
 
 -- The interface, component by component.
-unfoldable pub rowBytesAt : List ℕ → ℕ → List ℕ
+abbrev pub rowBytesAt : List ℕ → ℕ → List ℕ
 rowBytesAt table component = interfaceBytes (rowEntries table component)
 
 pub table-bytes-are : (table : List ℕ) (n : ℕ) → interfaceBytes (tableEntries table n) ≡ partsFrom (rowBytesAt table) n 0
-unfolding interfaceBytes tableEntries partsFrom rowBytesAt
+unfolding interfaceBytes tableEntries partsFrom
 table-bytes-are table n = let z : n - 0 ≡ n = omega arith in rw z (gather-gather entryBytes (rowEntries table) (rising 0 n))
-
-pub table-few : (table : List ℕ) (component : ℕ) → length (rowBytesAt table component) ≤ 3264
-unfolding rowBytesAt
-table-few table component = row-few table component

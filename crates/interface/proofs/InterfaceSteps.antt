@@ -1,7 +1,7 @@
 -- The returns and the turns of the loops of interface: each lemma is one of them.
-use Prim.Native.Nat.{ℕ, zero, suc, _+_, _-_, _*_, _/_, _%_, _≤_, _<_}
+use Prim.Native.Nat.{ℕ, _+_, _*_, _/_, _%_, _≤_, _<_}
 use mathlib.Core.Bool.{Bool, true, false, cond, not}
-use mathlib.Core.List.{List, [], _∷_, _++_}
+use mathlib.Core.List.{List, [], _∷_}
 use mathlib.Core.Path.{_≡_, refl, sym, ap, _∙_}
 use native.Mathlib.Nat.{mod-mod}
 use native.Mathlib.Omega.{arith}
@@ -9,21 +9,53 @@ use borrow.Author.Tests.{eq-eqb, ne-eqb}
 use borrow.Author.Needs.{needs}
 use mir.Syntax.{w64}
 use mir.Val.{Fits}
-use lib.Dec.{eqb, eqb·suc-zero}
+use lib.Dec.{eqb·suc-zero}
 use lib.ListN.{length, take, drop, getD, set, length-take, take-append-drop}
 use lib.Seq.{take-append-seam}
 use Rattle.reading.specs.Told.{pathOf}
 use Rattle.reading.specs.declared.Path.{Path}
 use Rattle.inference.specs.Lists.{gather}
 use Rattle.inference.specs.Interface.{Disclosure, isEmpty, bit, mapOf, disclosureBytes, listBytes, entryBytes, interfaceBytes}
-use Rattle.inference.specs.Rows.{pathAt, cellOf, cell, isSet, countOf, disclosuresAt, entryAt, rowEntries, tableEntries}
+use Rattle.inference.specs.Rows.{pathAt, cellOf, cell, isSet, disclosuresAt, entryAt, rowEntries, tableEntries}
 use Rattle.interface.specs.Writes.{storeBytes, Stored, groupBytes, entryBytesAt}
 use Rattle.inference.proofs.RowSteps.{unset}
-use Rattle.interface.proofs.WriteLaws.{partsFrom, stored-none, stored-more, Writing, write-first, write-next, write-last,
-    Counting, count-first, count-next, count-last, count-fits}
-use Rattle.interface.proofs.InterfaceLaws.{oneAt, ones-are, count-number, disclosedTo, groupBytesAt, disclosed-few, group-few,
-    disclosures-are, group-bytes-are, list-bytes, no-list, list-length, map-none, map-some, path-few, entry-length, entry-few,
-    row-bytes-are, rowBytesAt, table-bytes-are, table-few}
+use Rattle.interface.proofs.WriteLaws.{
+  partsFrom,
+  stored-none,
+  stored-more,
+  Writing,
+  write-first,
+  write-next,
+  write-last,
+  Counting,
+  count-first,
+  count-next,
+  count-last,
+  count-fits,
+}
+use Rattle.interface.proofs.InterfaceLaws.{
+  oneAt,
+  ones-are,
+  count-number,
+  disclosedTo,
+  groupBytesAt,
+  disclosed-few,
+  group-few,
+  disclosures-are,
+  group-bytes-are,
+  list-bytes,
+  no-list,
+  list-length,
+  map-none,
+  map-some,
+  path-few,
+  entry-length,
+  entry-few,
+  row-bytes-are,
+  rowBytesAt,
+  row-few,
+  table-bytes-are,
+}
 
 pub cell-is : {r : ℕ} (t : List ℕ) (c k j : ℕ) → r ≡ getD t (c * 1081 + (9 + (k * 67 + j))) 0 → r ≡ cell t c k j
 unfolding cell cellOf
@@ -102,10 +134,6 @@ module _ (t : List ℕ) (c : ℕ) where
   pub row-first : Counting (entryBytesAt t c) 204 16 0 0
   row-first = count-first (entryBytesAt t c) 204 16 (entry-few t c)
 
-  pub row-next : {v n k : ℕ} → Counting (entryBytesAt t c) 204 16 n k → k < 16 → v ≡ length (entryBytesAt t c k)
-      → Counting (entryBytesAt t c) 204 16 (n + v) (k + 1)
-  row-next {v} w h e = count-next w v h e
-
   pub row-fits : {v n k : ℕ} → Counting (entryBytesAt t c) 204 16 n k → k < 16 → v ≡ length (entryBytesAt t c k) → Fits w64 (n + v)
   row-fits {v} w h e = count-fits w v h e (omega arith)
 
@@ -115,16 +143,10 @@ module _ (t : List ℕ) (c : ℕ) where
 -- The length of the interface.
 module _ (t : List ℕ) (m : ℕ) where
   pub table-first : Counting (rowBytesAt t) 3264 m 0 0
-  table-first = count-first (rowBytesAt t) 3264 m (table-few t)
-
-  pub table-next : {v n c : ℕ} → Counting (rowBytesAt t) 3264 m n c → c < m → v ≡ length (interfaceBytes (rowEntries t c))
-      → Counting (rowBytesAt t) 3264 m (n + v) (c + 1)
-  unfolding rowBytesAt
-  table-next {v} w h e = count-next w v h e
+  table-first = count-first (rowBytesAt t) 3264 m (row-few t)
 
   pub table-fits : {v n c : ℕ} → Counting (rowBytesAt t) 3264 m n c → c < m → v ≡ length (interfaceBytes (rowEntries t c)) → m ≤ 32
       → Fits w64 (n + v)
-  unfolding rowBytesAt
   table-fits {v} w h e l = count-fits w v h e (omega arith)
 
   pub table-last : {n c : ℕ} → Counting (rowBytesAt t) 3264 m n c → m ≤ c → n ≡ length (interfaceBytes (tableEntries t m))
@@ -140,13 +162,7 @@ path-at-most p n h e = omega (arith, length-take (p .len) (p .groups))
 
 module _ (o : List ℕ) (at : ℕ) where
   pub path-first : (l : List ℕ) (n : ℕ) → Writing (oneAt l) 1 n o at o at 0
-  unfolding oneAt
   path-first l n = write-first (oneAt l) 1 n o at (λ j. omega arith)
-
-  pub path-next : {o₁ o₂ : List ℕ} {n m r i : ℕ} (l : List ℕ) → Writing (oneAt l) 1 n o at o₁ m i → i < n → Stored o₁ o₂ m (getD l i 0 ∷ []) r
-      → Writing (oneAt l) 1 n o at o₂ r (i + 1)
-  unfolding oneAt
-  path-next l w h s = write-next w h s
 
   pub path-last : {o₁ : List ℕ} {n m i : ℕ} (p : Path) → Writing (oneAt (p .groups)) 1 n o at o₁ m i → n ≤ i → n ≡ length (pathOf p)
       → Stored o o₁ at (pathOf p) m
@@ -154,6 +170,7 @@ module _ (o : List ℕ) (at : ℕ) where
     where
       own : take (length (pathOf p)) (p .groups) ≡ pathOf p
       own = rw (take-append-drop (p .len) (p .groups)) at (take-append-seam (pathOf p) (drop (p .len) (p .groups)))
+
       whole : partsFrom (oneAt (p .groups)) n 0 ≡ pathOf p
       whole = ones-are (p .groups) n (omega (arith, length-take (p .len) (p .groups))) ∙ rw e own
 
@@ -161,7 +178,7 @@ module _ (o : List ℕ) (at : ℕ) where
       → Stored o o₁ at (n ∷ []) m → Stored o₁ o₂ m (pathOf p) r → Stored o o₂ at (length (pathAt t c) ∷ pathAt t c) r
   path-written t c p e f s u = rw (← e, ← f) (stored-more s u)
 
--- A group and its count.
+  -- A group and its count.
   pub no-group : (g n : ℕ) → n ≡ 0 → Stored o o at (groupBytes g n) at
   unfolding groupBytes isSet
   no-group g n h = rw (eq-eqb n 0 h) (stored-none o at)
@@ -174,7 +191,7 @@ module _ (o : List ℕ) (at : ℕ) where
       reduced : {o′ : List ℕ} {r : ℕ} → Stored o o′ at (g ∷ n ∷ n / 256 ∷ []) r → Stored o o′ at (g ∷ n % 256 ∷ n / 256 % 256 ∷ []) r
       reduced w = record { next = w .next; left = simp mod-mod (w .left) }
 
--- The groups that data is disclosed to, and the list of them.
+  -- The groups that data is disclosed to, and the list of them.
   module _ (t : List ℕ) (c k : ℕ) where
     pub groups-written-first : Writing (groupBytesAt t c k) 3 64 o at o at 0
     groups-written-first = write-first (groupBytesAt t c k) 3 64 o at (group-few t c k)
@@ -195,7 +212,7 @@ module _ (o : List ℕ) (at : ℕ) where
         → Stored o₁ o₂ m (gather disclosureBytes (disclosuresAt t c k)) r → Stored o o₂ at (listBytes (disclosuresAt t c k)) r
     list-written n e h s u = rw (list-bytes (disclosuresAt t c k) (λ q. h (e ∙ q)), ← e) (stored-more s u)
 
--- An entry.
+    -- An entry.
     pub entry-unwritten : (m : ℕ) → m ≡ mapOf (entryAt t c k) → m ≡ 0 → Stored o o at (entryBytesAt t c k) at
     entry-unwritten m e h = rw (entry-none t c k m e h) (stored-none o at)
 
@@ -205,14 +222,10 @@ module _ (o : List ℕ) (at : ℕ) where
     unfolding entryBytes entryAt
     entry-written m e h s u v w = rw (entry-some t c k m e h) (rw e at (stored-more s (stored-more u (stored-more v w))))
 
--- A component's entries, and the interface.
+  -- A component's entries, and the interface.
   module _ (t : List ℕ) (c : ℕ) where
     pub row-written-first : Writing (entryBytesAt t c) 204 16 o at o at 0
     row-written-first = write-first (entryBytesAt t c) 204 16 o at (entry-few t c)
-
-    pub row-written-next : {o₁ o₂ : List ℕ} {m r k : ℕ} → Writing (entryBytesAt t c) 204 16 o at o₁ m k → k < 16
-        → Stored o₁ o₂ m (entryBytesAt t c k) r → Writing (entryBytesAt t c) 204 16 o at o₂ r (k + 1)
-    row-written-next w h s = write-next w h s
 
     pub row-written : {o₁ : List ℕ} {m k : ℕ} → Writing (entryBytesAt t c) 204 16 o at o₁ m k → 16 ≤ k
         → Stored o o₁ at (interfaceBytes (rowEntries t c)) m
@@ -220,20 +233,52 @@ module _ (o : List ℕ) (at : ℕ) where
 
   module _ (t : List ℕ) (n : ℕ) where
     pub table-written-first : Writing (rowBytesAt t) 3264 n o at o at 0
-    table-written-first = write-first (rowBytesAt t) 3264 n o at (table-few t)
-
-    pub table-written-next : {o₁ o₂ : List ℕ} {m r c : ℕ} → Writing (rowBytesAt t) 3264 n o at o₁ m c → c < n
-        → Stored o₁ o₂ m (interfaceBytes (rowEntries t c)) r → Writing (rowBytesAt t) 3264 n o at o₂ r (c + 1)
-    unfolding rowBytesAt
-    table-written-next w h s = write-next w h s
+    table-written-first = write-first (rowBytesAt t) 3264 n o at (row-few t)
 
     pub table-written : {o₁ : List ℕ} {m c : ℕ} → Writing (rowBytesAt t) 3264 n o at o₁ m c → n ≤ c
         → Stored o o₁ at (interfaceBytes (tableEntries t n)) m
     table-written w h = rw (table-bytes-are t n) (write-last w h)
 
-pub ruleset interface-steps = (needs, unset, cell-is, bit-unset, bit-set, groups-first, groups-next, groups-last, map-is, path-size-is, path-size-few,
-    list-len-none, list-len-some, entry-len-none, entry-len-some, row-first, row-next, row-fits, row-last,
-    table-first, table-next, table-fits, table-last,
-    put-is, path-at-most, path-first, path-next, path-last, path-written, no-group, group-written, groups-written-first, groups-written-next, groups-written,
-    list-unwritten, list-written, entry-unwritten, entry-written, row-written-first, row-written-next, row-written,
-    table-written-first, table-written-next, table-written)
+pub ruleset interface-steps = (
+  needs,
+  unset,
+  cell-is,
+  bit-unset,
+  bit-set,
+  groups-first,
+  groups-next,
+  groups-last,
+  map-is,
+  path-size-is,
+  path-size-few,
+  list-len-none,
+  list-len-some,
+  entry-len-none,
+  entry-len-some,
+  row-first,
+  row-fits,
+  row-last,
+  table-first,
+  table-fits,
+  table-last,
+  put-is,
+  path-at-most,
+  path-first,
+  path-last,
+  path-written,
+  no-group,
+  group-written,
+  groups-written-first,
+  groups-written-next,
+  groups-written,
+  list-unwritten,
+  list-written,
+  entry-unwritten,
+  entry-written,
+  row-written-first,
+  row-written,
+  table-written-first,
+  table-written,
+  count-next,
+  write-next,
+)

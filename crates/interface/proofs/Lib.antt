@@ -6,5 +6,4 @@ pub mod StoreLaws
 pub mod ByteLaws
 pub mod WriteLaws
 pub mod InterfaceLaws
-pub mod InterfaceBytes
 pub mod InterfaceSteps

@@ -16,7 +16,7 @@ use Rattle.inference.specs.Needs.{needOf, total}
 use Rattle.inference.specs.Interface.{Entry, entryOf, holdsAny, entriesOf}
 use Rattle.inference.specs.Rows.{cellOf, cell, pathAt, stored, withPath, rowEntries, tableEntries}
 use Rattle.inference.specs.Walks.{charged, chargedAll}
-use Rattle.inference.proofs.CountLaws.{none-join}
+use Rattle.inference.proofs.CountLaws.{nothing-join}
 use Rattle.interface.proofs.CellLaws.{lands, Few, Outside, AllOf, length-charged, charged-kept, charged-count}
 use Rattle.interface.proofs.RowLaws.{Counted, row-entries, map-rising}
 
@@ -181,7 +181,7 @@ module _ (table : List ℕ) (n : ℕ) (small : n < 32) (long : length table ≡ 
           (unfold withPath countNumber in (stored-after table (n * 1081) (cellOf n k c) (length (l .component .path) ∷ l .component .path) (past k c)
           ∙ clear (cellOf n k c) (beyond k c)))
           (ok .own) (unfold Few in omega (arith, ok .few))
-          ∙ ap countNumber (none-join (total (λ a. lands k c (needOf a)) (actsOf l))) }
+          ∙ ap countNumber (nothing-join (total (λ a. lands k c (needOf a)) (actsOf l))) }
     where
       past : (k c : ℕ) → n * 1081 + length (length (l .component .path) ∷ l .component .path) ≤ cellOf n k c
       past k c = unfold cellOf in omega (arith, ok .fits .short)

@@ -32,8 +32,9 @@ stored-none out at = record { next = omega arith; left = refl }
 module _ {o o′ o″ : List ℕ} {at m r : ℕ} {xs ys : List ℕ} where
   pub stored-more : Stored o o′ at xs m → Stored o′ o″ m ys r → Stored o o″ at (xs ++ ys) r
   stored-more s t = record {
-      next = omega (arith, s .next, t .next, length-append xs ys);
-      left = t .left ∙ rw (s .left, s .next) (store-more xs ys o at) }
+    next = omega (arith, s .next, t .next, length-append xs ys);
+    left = t .left ∙ rw (s .left, s .next) (store-more xs ys o at);
+  }
 
 -- The numbers from i on below n.
 pub rising-next : (i n : ℕ) → i < n → rising i (n - i) ≡ i ∷ rising (i + 1) (n - (i + 1))
@@ -77,20 +78,22 @@ module _ {f : ℕ → List ℕ} {b n : ℕ} {first : List ℕ} {start : ℕ} {ou
   pub write-next : {out′ : List ℕ} {r : ℕ} → Writing f b n first start out next i → i < n → Stored out out′ next (f i) r
       → Writing f b n first start out′ r (i + 1)
   write-next {out′} {r} w h s = record {
-      within = omega arith;
-      few = w .few;
-      near = let g : next - start + length (f i) ≤ b * (i + 1) = grown b i (next - start) (length (f i)) (omega (arith, w .near)) (w .few i) in
-          omega (arith, s .next);
-      same = ap length (s .left) ∙ store-length (f i) out next ∙ w .same;
-      whole = rw (s .left, s .next, store-more) (rw (parts-next f n i h) at (w .whole));
-      place = let g : next + length (f i ++ partsFrom f n (i + 1)) ≡ start + length (partsFrom f n 0) = rw (parts-next f n i h) at (w .place) in
-          omega (arith, s .next, length-append (f i) (partsFrom f n (i + 1))) }
+    within = omega arith;
+    few = w .few;
+    near = let g : next - start + length (f i) ≤ b * (i + 1) = grown b i (next - start) (length (f i)) (omega (arith, w .near)) (w .few i) in
+        omega (arith, s .next);
+    same = ap length (s .left) ∙ store-length (f i) out next ∙ w .same;
+    whole = rw (s .left, s .next, store-more) (rw (parts-next f n i h) at (w .whole));
+    place = let g : next + length (f i ++ partsFrom f n (i + 1)) ≡ start + length (partsFrom f n 0) = rw (parts-next f n i h) at (w .place) in
+        omega (arith, s .next, length-append (f i) (partsFrom f n (i + 1)));
+  }
 
   pub write-last : Writing f b n first start out next i → n ≤ i → Stored first out start (partsFrom f n 0) next
   unfolding storeBytes
   write-last w h = record {
-      next = let g : next + length {A = ℕ} [] ≡ start + length (partsFrom f n 0) = rw (parts-done f n i h) at (w .place) in omega arith;
-      left = rw (parts-done f n i h) at (w .whole) }
+    next = let g : next + length {A = ℕ} [] ≡ start + length (partsFrom f n 0) = rw (parts-done f n i h) at (w .place) in omega arith;
+    left = rw (parts-done f n i h) at (w .whole);
+  }
 
 -- Counting: what is counted and what is left are all.
 pub record Counting {A : Type 0} (f : ℕ → List A) (b n len i : ℕ) : Type 0 where
@@ -105,19 +108,22 @@ count-first f b n k = record { within = omega arith; few = k; near = omega arith
 module _ {A : Type 0} {f : ℕ → List A} {b n len i : ℕ} (w : Counting f b n len i) where
   pub count-next : (v : ℕ) → i < n → v ≡ length (f i) → Counting f b n (len + v) (i + 1)
   count-next v h e = record {
-      within = omega arith;
-      few = w .few;
-      near = grown b i len v (w .near) (omega (arith, w .few i));
-      whole = let g : len + length (f i ++ partsFrom f n (i + 1)) ≡ length (partsFrom f n 0) = rw (parts-next f n i h) at (w .whole) in
-          omega (arith, length-append (f i) (partsFrom f n (i + 1))) }
+    within = omega arith;
+    few = w .few;
+    near = grown b i len v (w .near) (omega (arith, w .few i));
+    whole = let g : len + length (f i ++ partsFrom f n (i + 1)) ≡ length (partsFrom f n 0) = rw (parts-next f n i h) at (w .whole) in
+        omega (arith, length-append (f i) (partsFrom f n (i + 1)));
+  }
 
   pub count-last : n ≤ i → len ≡ length (partsFrom f n 0)
   count-last h = let g : len + length {A = A} [] ≡ length (partsFrom f n 0) = rw (parts-done f n i h) at (w .whole) in omega arith
 
   -- and the sum is in range
   pub count-fits : (v : ℕ) → i < n → v ≡ length (f i) → b * n < 4294967296 → Fits w64 (len + v)
-  count-fits v h e k = record { fits = let g : len + v ≤ b * (i + 1) = count-next v h e .near in
-      let m : b * (i + 1) ≤ b * n = mul-le-mul-left b (omega arith) in omega arith }
+  count-fits v h e k = record {
+    fits = let g : len + v ≤ b * (i + 1) = count-next v h e .near in
+        let m : b * (i + 1) ≤ b * n = mul-le-mul-left b (omega arith) in omega arith;
+  }
 
 -- Numbers that are bytes.
 pub data Bytes : List ℕ → Type 0 where
@@ -148,6 +154,7 @@ store-after {bs = x ∷ bs} p (y ∷ out) (a-byte k b) h =
   where
     here : (p ++ (x ∷ [])) ++ out ≡ p ++ (x ∷ out)
     here = append-assoc p (x ∷ []) out
+
     place : length (p ++ (x ∷ [])) ≡ length p + 1
     place = length-append p (x ∷ [])
 

@@ -8,7 +8,6 @@ ghost use Rattle.inference.specs.Rows.{isSet, cell, pathAt, disclosuresAt, entr
 ghost use Rattle.inference.specs.Interface.{bit as flag, mapOf, disclosureBytes, listBytes, interfaceBytes};
 ghost use Rattle.inference.specs.Lists.{gather};
 ghost use Rattle.interface.specs.Writes.{Stored, groupBytes, entryBytesAt};
-
 use inference::rows::cell_at;
 use inference::rows::path_len;
 use inference::rows::path_of;
@@ -51,7 +50,8 @@ pub fn map_at(table: &[u16], component: usize, kind: usize) -> usize
 {
     bit(count_at(table, component, kind, 64), 1)
         + (bit(count_at(table, component, kind, 65), 2)
-            + (bit(count_at(table, component, kind, 66), 4) + bit(disclosed_groups(table, component, kind), 16)))
+            + (bit(count_at(table, component, kind, 66), 4)
+                + bit(disclosed_groups(table, component, kind), 16)))
 }
 
 // The length of a component's path.

@@ -2,17 +2,6 @@ use Rattle.inference.proofs.SystemSteps.{system-steps}
 use borrow.Author.Needs.{needs}
 use Rattle.inference.proofs.systems.with_fault.Statement.{statement}
 use Rattle.inference.proofs.systems.with_fault.Tie as tie
-use Rattle.inference.proofs.systems.with_fault.Reads as reads
-use Rattle.inference.proofs.systems.with_fault.Lts as lts
-use Rattle.inference.proofs.walks.least.Reads as least-reads
-
--- src/systems.rt:32:16
-least-requires : tie.Need-least-requires
-least-requires c κs = search needs
-
--- src/systems.rt:27:1
-returns : tie.Need-returns
-returns c = search system-steps
 
 pub with-fault-spec : {M : Type 1} → statement M
-with-fault-spec = tie.close (tie.spec least-requires returns)
+with-fault-spec = tie.close (tie.spec (λ c κs. search needs) (λ c. search system-steps))

@@ -107,527 +107,6 @@ abbrev infer-under-below : ℕ → In 3 infer-under-kinds.ps
 infer-under-below t =
     and 3 infer-under-kinds.ps (falls 3 infer-under-kinds.ps _<_ μ-infer-under t) infer-under.Pre
 
--- src/walks.rt:105:22
-infer-form-enum-told : (t : ℕ) → infer-form-lts.Need-enum-told (
-  infer-par-below t,
-  infer-par.Post,
-  infer-under-below t,
-  infer-under.Post,
-  infer-input-below t,
-  infer-input.Post,
-  infer-output-below t,
-  infer-output.Post,
-  infer-process-below t,
-  infer-process.Post,
-) (infer-form-at t) infer-form.Post
-infer-form-enum-told t c = search needs
-
--- src/walks.rt:106:51
-infer-form-enum-told-2 : (t : ℕ) → infer-form-lts.Need-enum-told-2 (
-  infer-par-below t,
-  infer-par.Post,
-  infer-under-below t,
-  infer-under.Post,
-  infer-input-below t,
-  infer-input.Post,
-  infer-output-below t,
-  infer-output.Post,
-  infer-process-below t,
-  infer-process.Post,
-) (infer-form-at t) infer-form.Post
-infer-form-enum-told-2 t c = search needs
-
--- src/walks.rt:106:22
-infer-form-infer-par-requires : (t : ℕ) → infer-form-lts.Need-infer-par-requires (
-  infer-par-below t,
-  infer-par.Post,
-  infer-under-below t,
-  infer-under.Post,
-  infer-input-below t,
-  infer-input.Post,
-  infer-output-below t,
-  infer-output.Post,
-  infer-process-below t,
-  infer-process.Post,
-) (infer-form-at t) infer-form.Post
-infer-form-infer-par-requires t c κs = search needs
-
--- src/walks.rt:107:19
-infer-form-enum-known-form : (t : ℕ) → infer-form-lts.Need-enum-known-form (
-  infer-par-below t,
-  infer-par.Post,
-  infer-under-below t,
-  infer-under.Post,
-  infer-input-below t,
-  infer-input.Post,
-  infer-output-below t,
-  infer-output.Post,
-  infer-process-below t,
-  infer-process.Post,
-) (infer-form-at t) infer-form.Post
-infer-form-enum-known-form t c = search needs
-
--- src/walks.rt:107:25
-infer-form-infer-under-requires : (t : ℕ) → infer-form-lts.Need-infer-under-requires (
-  infer-par-below t,
-  infer-par.Post,
-  infer-under-below t,
-  infer-under.Post,
-  infer-input-below t,
-  infer-input.Post,
-  infer-output-below t,
-  infer-output.Post,
-  infer-process-below t,
-  infer-process.Post,
-) (infer-form-at t) infer-form.Post
-infer-form-infer-under-requires t c κs = search walk-steps
-
--- src/walks.rt:108:21
-infer-form-enum-known-form-2 : (t : ℕ) → infer-form-lts.Need-enum-known-form-2 (
-  infer-par-below t,
-  infer-par.Post,
-  infer-under-below t,
-  infer-under.Post,
-  infer-input-below t,
-  infer-input.Post,
-  infer-output-below t,
-  infer-output.Post,
-  infer-process-below t,
-  infer-process.Post,
-) (infer-form-at t) infer-form.Post
-infer-form-enum-known-form-2 t c = search needs
-
--- src/walks.rt:108:29
-infer-form-infer-input-requires : (t : ℕ) → infer-form-lts.Need-infer-input-requires (
-  infer-par-below t,
-  infer-par.Post,
-  infer-under-below t,
-  infer-under.Post,
-  infer-input-below t,
-  infer-input.Post,
-  infer-output-below t,
-  infer-output.Post,
-  infer-process-below t,
-  infer-process.Post,
-) (infer-form-at t) infer-form.Post
-infer-form-infer-input-requires t c κs = search walk-steps
-
--- src/walks.rt:109:22
-infer-form-enum-known-form-3 : (t : ℕ) → infer-form-lts.Need-enum-known-form-3 (
-  infer-par-below t,
-  infer-par.Post,
-  infer-under-below t,
-  infer-under.Post,
-  infer-input-below t,
-  infer-input.Post,
-  infer-output-below t,
-  infer-output.Post,
-  infer-process-below t,
-  infer-process.Post,
-) (infer-form-at t) infer-form.Post
-infer-form-enum-known-form-3 t c = search needs
-
--- src/walks.rt:109:30
-infer-form-infer-output-requires : (t : ℕ) → infer-form-lts.Need-infer-output-requires (
-  infer-par-below t,
-  infer-par.Post,
-  infer-under-below t,
-  infer-under.Post,
-  infer-input-below t,
-  infer-input.Post,
-  infer-output-below t,
-  infer-output.Post,
-  infer-process-below t,
-  infer-process.Post,
-) (infer-form-at t) infer-form.Post
-infer-form-infer-output-requires t c κs = search needs
-
--- src/walks.rt:111:17
-infer-form-enum-told-3 : (t : ℕ) → infer-form-lts.Need-enum-told-3 (
-  infer-par-below t,
-  infer-par.Post,
-  infer-under-below t,
-  infer-under.Post,
-  infer-input-below t,
-  infer-input.Post,
-  infer-output-below t,
-  infer-output.Post,
-  infer-process-below t,
-  infer-process.Post,
-) (infer-form-at t) infer-form.Post
-infer-form-enum-told-3 t c = search needs
-
--- src/walks.rt:117:13
-infer-form-infer-process-requires : (t : ℕ) → infer-form-lts.Need-infer-process-requires (
-  infer-par-below t,
-  infer-par.Post,
-  infer-under-below t,
-  infer-under.Post,
-  infer-input-below t,
-  infer-input.Post,
-  infer-output-below t,
-  infer-output.Post,
-  infer-process-below t,
-  infer-process.Post,
-) (infer-form-at t) infer-form.Post
-infer-form-infer-process-requires t c κs = search needs
-
--- src/walks.rt:119:27
-infer-form-enum-told-4 : (t : ℕ) → infer-form-lts.Need-enum-told-4 (
-  infer-par-below t,
-  infer-par.Post,
-  infer-under-below t,
-  infer-under.Post,
-  infer-input-below t,
-  infer-input.Post,
-  infer-output-below t,
-  infer-output.Post,
-  infer-process-below t,
-  infer-process.Post,
-) (infer-form-at t) infer-form.Post
-infer-form-enum-told-4 t c = search needs
-
--- src/walks.rt:120:31
-infer-form-enum-told-5 : (t : ℕ) → infer-form-lts.Need-enum-told-5 (
-  infer-par-below t,
-  infer-par.Post,
-  infer-under-below t,
-  infer-under.Post,
-  infer-input-below t,
-  infer-input.Post,
-  infer-output-below t,
-  infer-output.Post,
-  infer-process-below t,
-  infer-process.Post,
-) (infer-form-at t) infer-form.Post
-infer-form-enum-told-5 t c = search needs
-
--- src/walks.rt:99:1
-infer-form-returns : (t : ℕ) → infer-form-lts.Need-returns (
-  infer-par-below t,
-  infer-par.Post,
-  infer-under-below t,
-  infer-under.Post,
-  infer-input-below t,
-  infer-input.Post,
-  infer-output-below t,
-  infer-output.Post,
-  infer-process-below t,
-  infer-process.Post,
-) (infer-form-at t) infer-form.Post
-infer-form-returns t c = search walk-steps
-
--- src/walks.rt:99:1
-infer-form-same-length : (t : ℕ) → infer-form-lts.Need-same-length (
-  infer-par-below t,
-  infer-par.Post,
-  infer-under-below t,
-  infer-under.Post,
-  infer-input-below t,
-  infer-input.Post,
-  infer-output-below t,
-  infer-output.Post,
-  infer-process-below t,
-  infer-process.Post,
-) (infer-form-at t) infer-form.Post
-infer-form-same-length t c = search needs
-
--- src/walks.rt:99:1
-infer-form-same-length-2 : (t : ℕ) → infer-form-lts.Need-same-length-2 (
-  infer-par-below t,
-  infer-par.Post,
-  infer-under-below t,
-  infer-under.Post,
-  infer-input-below t,
-  infer-input.Post,
-  infer-output-below t,
-  infer-output.Post,
-  infer-process-below t,
-  infer-process.Post,
-) (infer-form-at t) infer-form.Post
-infer-form-same-length-2 t c = search needs
-
--- src/walks.rt:99:1
-infer-form-returns-2 : (t : ℕ) → infer-form-lts.Need-returns-2 (
-  infer-par-below t,
-  infer-par.Post,
-  infer-under-below t,
-  infer-under.Post,
-  infer-input-below t,
-  infer-input.Post,
-  infer-output-below t,
-  infer-output.Post,
-  infer-process-below t,
-  infer-process.Post,
-) (infer-form-at t) infer-form.Post
-infer-form-returns-2 t c = search walk-steps
-
--- src/walks.rt:99:1
-infer-form-same-length-3 : (t : ℕ) → infer-form-lts.Need-same-length-3 (
-  infer-par-below t,
-  infer-par.Post,
-  infer-under-below t,
-  infer-under.Post,
-  infer-input-below t,
-  infer-input.Post,
-  infer-output-below t,
-  infer-output.Post,
-  infer-process-below t,
-  infer-process.Post,
-) (infer-form-at t) infer-form.Post
-infer-form-same-length-3 t c = search needs
-
--- src/walks.rt:99:1
-infer-form-same-length-4 : (t : ℕ) → infer-form-lts.Need-same-length-4 (
-  infer-par-below t,
-  infer-par.Post,
-  infer-under-below t,
-  infer-under.Post,
-  infer-input-below t,
-  infer-input.Post,
-  infer-output-below t,
-  infer-output.Post,
-  infer-process-below t,
-  infer-process.Post,
-) (infer-form-at t) infer-form.Post
-infer-form-same-length-4 t c = search needs
-
--- src/walks.rt:99:1
-infer-form-returns-3 : (t : ℕ) → infer-form-lts.Need-returns-3 (
-  infer-par-below t,
-  infer-par.Post,
-  infer-under-below t,
-  infer-under.Post,
-  infer-input-below t,
-  infer-input.Post,
-  infer-output-below t,
-  infer-output.Post,
-  infer-process-below t,
-  infer-process.Post,
-) (infer-form-at t) infer-form.Post
-infer-form-returns-3 t c = search walk-steps
-
--- src/walks.rt:99:1
-infer-form-same-length-5 : (t : ℕ) → infer-form-lts.Need-same-length-5 (
-  infer-par-below t,
-  infer-par.Post,
-  infer-under-below t,
-  infer-under.Post,
-  infer-input-below t,
-  infer-input.Post,
-  infer-output-below t,
-  infer-output.Post,
-  infer-process-below t,
-  infer-process.Post,
-) (infer-form-at t) infer-form.Post
-infer-form-same-length-5 t c = search needs
-
--- src/walks.rt:99:1
-infer-form-same-length-6 : (t : ℕ) → infer-form-lts.Need-same-length-6 (
-  infer-par-below t,
-  infer-par.Post,
-  infer-under-below t,
-  infer-under.Post,
-  infer-input-below t,
-  infer-input.Post,
-  infer-output-below t,
-  infer-output.Post,
-  infer-process-below t,
-  infer-process.Post,
-) (infer-form-at t) infer-form.Post
-infer-form-same-length-6 t c = search needs
-
--- src/walks.rt:99:1
-infer-form-returns-4 : (t : ℕ) → infer-form-lts.Need-returns-4 (
-  infer-par-below t,
-  infer-par.Post,
-  infer-under-below t,
-  infer-under.Post,
-  infer-input-below t,
-  infer-input.Post,
-  infer-output-below t,
-  infer-output.Post,
-  infer-process-below t,
-  infer-process.Post,
-) (infer-form-at t) infer-form.Post
-infer-form-returns-4 t c = search walk-steps
-
--- src/walks.rt:99:1
-infer-form-same-length-7 : (t : ℕ) → infer-form-lts.Need-same-length-7 (
-  infer-par-below t,
-  infer-par.Post,
-  infer-under-below t,
-  infer-under.Post,
-  infer-input-below t,
-  infer-input.Post,
-  infer-output-below t,
-  infer-output.Post,
-  infer-process-below t,
-  infer-process.Post,
-) (infer-form-at t) infer-form.Post
-infer-form-same-length-7 t c = search needs
-
--- src/walks.rt:99:1
-infer-form-same-length-8 : (t : ℕ) → infer-form-lts.Need-same-length-8 (
-  infer-par-below t,
-  infer-par.Post,
-  infer-under-below t,
-  infer-under.Post,
-  infer-input-below t,
-  infer-input.Post,
-  infer-output-below t,
-  infer-output.Post,
-  infer-process-below t,
-  infer-process.Post,
-) (infer-form-at t) infer-form.Post
-infer-form-same-length-8 t c = search needs
-
--- src/walks.rt:99:1
-infer-form-returns-5 : (t : ℕ) → infer-form-lts.Need-returns-5 (
-  infer-par-below t,
-  infer-par.Post,
-  infer-under-below t,
-  infer-under.Post,
-  infer-input-below t,
-  infer-input.Post,
-  infer-output-below t,
-  infer-output.Post,
-  infer-process-below t,
-  infer-process.Post,
-) (infer-form-at t) infer-form.Post
-infer-form-returns-5 t c = search walk-steps
-
--- src/walks.rt:99:1
-infer-form-same-length-9 : (t : ℕ) → infer-form-lts.Need-same-length-9 (
-  infer-par-below t,
-  infer-par.Post,
-  infer-under-below t,
-  infer-under.Post,
-  infer-input-below t,
-  infer-input.Post,
-  infer-output-below t,
-  infer-output.Post,
-  infer-process-below t,
-  infer-process.Post,
-) (infer-form-at t) infer-form.Post
-infer-form-same-length-9 t c = search needs
-
--- src/walks.rt:99:1
-infer-form-same-length-10 : (t : ℕ) → infer-form-lts.Need-same-length-10 (
-  infer-par-below t,
-  infer-par.Post,
-  infer-under-below t,
-  infer-under.Post,
-  infer-input-below t,
-  infer-input.Post,
-  infer-output-below t,
-  infer-output.Post,
-  infer-process-below t,
-  infer-process.Post,
-) (infer-form-at t) infer-form.Post
-infer-form-same-length-10 t c = search needs
-
--- src/walks.rt:99:1
-infer-form-returns-6 : (t : ℕ) → infer-form-lts.Need-returns-6 (
-  infer-par-below t,
-  infer-par.Post,
-  infer-under-below t,
-  infer-under.Post,
-  infer-input-below t,
-  infer-input.Post,
-  infer-output-below t,
-  infer-output.Post,
-  infer-process-below t,
-  infer-process.Post,
-) (infer-form-at t) infer-form.Post
-infer-form-returns-6 t c = search walk-steps
-
--- src/walks.rt:99:1
-infer-form-returns-7 : (t : ℕ) → infer-form-lts.Need-returns-7 (
-  infer-par-below t,
-  infer-par.Post,
-  infer-under-below t,
-  infer-under.Post,
-  infer-input-below t,
-  infer-input.Post,
-  infer-output-below t,
-  infer-output.Post,
-  infer-process-below t,
-  infer-process.Post,
-) (infer-form-at t) infer-form.Post
-infer-form-returns-7 t c = search walk-steps
-
--- src/walks.rt:99:1
-infer-form-returns-8 : (t : ℕ) → infer-form-lts.Need-returns-8 (
-  infer-par-below t,
-  infer-par.Post,
-  infer-under-below t,
-  infer-under.Post,
-  infer-input-below t,
-  infer-input.Post,
-  infer-output-below t,
-  infer-output.Post,
-  infer-process-below t,
-  infer-process.Post,
-) (infer-form-at t) infer-form.Post
-infer-form-returns-8 t c = search walk-steps
-
--- src/walks.rt:153:9
-infer-input-input-fault-requires : (t : ℕ) → infer-input-lts.Need-input-fault-requires (
-  input-fault-reads.Asked,
-  input-fault-reads.Learnt,
-  infer-under-below t,
-  infer-under.Post,
-  with-fault-reads.Asked,
-  with-fault-reads.Learnt,
-) (infer-input-at t) infer-input.Post
-infer-input-input-fault-requires t c κs = search needs
-
--- src/walks.rt:154:9
-infer-input-infer-under-requires : (t : ℕ) → infer-input-lts.Need-infer-under-requires (
-  input-fault-reads.Asked,
-  input-fault-reads.Learnt,
-  infer-under-below t,
-  infer-under.Post,
-  with-fault-reads.Asked,
-  with-fault-reads.Learnt,
-) (infer-input-at t) infer-input.Post
-infer-input-infer-under-requires t c κs = search needs
-
--- src/walks.rt:155:5
-infer-input-with-fault-requires : (t : ℕ) → infer-input-lts.Need-with-fault-requires (
-  input-fault-reads.Asked,
-  input-fault-reads.Learnt,
-  infer-under-below t,
-  infer-under.Post,
-  with-fault-reads.Asked,
-  with-fault-reads.Learnt,
-) (infer-input-at t) infer-input.Post
-infer-input-with-fault-requires t c κs = search needs
-
--- src/walks.rt:148:1
-infer-input-same-length : (t : ℕ) → infer-input-lts.Need-same-length (
-  input-fault-reads.Asked,
-  input-fault-reads.Learnt,
-  infer-under-below t,
-  infer-under.Post,
-  with-fault-reads.Asked,
-  with-fault-reads.Learnt,
-) (infer-input-at t) infer-input.Post
-infer-input-same-length t c = search needs
-
--- src/walks.rt:148:1
-infer-input-same-length-2 : (t : ℕ) → infer-input-lts.Need-same-length-2 (
-  input-fault-reads.Asked,
-  input-fault-reads.Learnt,
-  infer-under-below t,
-  infer-under.Post,
-  with-fault-reads.Asked,
-  with-fault-reads.Learnt,
-) (infer-input-at t) infer-input.Post
-infer-input-same-length-2 t c = search needs
-
--- src/walks.rt:148:1
 infer-input-returns : (t : ℕ) → infer-input-lts.Need-returns (
   input-fault-reads.Asked,
   input-fault-reads.Learnt,
@@ -639,62 +118,6 @@ infer-input-returns : (t : ℕ) → infer-input-lts.Need-returns (
 infer-input-returns t c =
     after-input _ _ _ _ _ _ _ _ _ _ _ _ _ _ (c .before .before .before .before .before .before .before .before .before .before .input-fault .ensures .0) (c .before .before .before .before .before .before .before .before .before .before .input-fault .ensures .1) (c .before .before .before .before .before .infer-under .ensures) (c .with-fault .ensures)
 
--- src/walks.rt:164:9
-infer-output-output-fault-requires : (t : ℕ) → infer-output-lts.Need-output-fault-requires (
-  output-fault-reads.Asked,
-  output-fault-reads.Learnt,
-  infer-process-below t,
-  infer-process.Post,
-  with-fault-reads.Asked,
-  with-fault-reads.Learnt,
-) (infer-output-at t) infer-output.Post
-infer-output-output-fault-requires t c κs = search needs
-
--- src/walks.rt:165:9
-infer-output-infer-process-requires : (t : ℕ) → infer-output-lts.Need-infer-process-requires (
-  output-fault-reads.Asked,
-  output-fault-reads.Learnt,
-  infer-process-below t,
-  infer-process.Post,
-  with-fault-reads.Asked,
-  with-fault-reads.Learnt,
-) (infer-output-at t) infer-output.Post
-infer-output-infer-process-requires t c κs = search needs
-
--- src/walks.rt:166:5
-infer-output-with-fault-requires : (t : ℕ) → infer-output-lts.Need-with-fault-requires (
-  output-fault-reads.Asked,
-  output-fault-reads.Learnt,
-  infer-process-below t,
-  infer-process.Post,
-  with-fault-reads.Asked,
-  with-fault-reads.Learnt,
-) (infer-output-at t) infer-output.Post
-infer-output-with-fault-requires t c κs = search needs
-
--- src/walks.rt:159:1
-infer-output-same-length : (t : ℕ) → infer-output-lts.Need-same-length (
-  output-fault-reads.Asked,
-  output-fault-reads.Learnt,
-  infer-process-below t,
-  infer-process.Post,
-  with-fault-reads.Asked,
-  with-fault-reads.Learnt,
-) (infer-output-at t) infer-output.Post
-infer-output-same-length t c = search needs
-
--- src/walks.rt:159:1
-infer-output-same-length-2 : (t : ℕ) → infer-output-lts.Need-same-length-2 (
-  output-fault-reads.Asked,
-  output-fault-reads.Learnt,
-  infer-process-below t,
-  infer-process.Post,
-  with-fault-reads.Asked,
-  with-fault-reads.Learnt,
-) (infer-output-at t) infer-output.Post
-infer-output-same-length-2 t c = search needs
-
--- src/walks.rt:159:1
 infer-output-returns : (t : ℕ) → infer-output-lts.Need-returns (
   output-fault-reads.Asked,
   output-fault-reads.Learnt,
@@ -706,106 +129,6 @@ infer-output-returns : (t : ℕ) → infer-output-lts.Need-returns (
 infer-output-returns t c =
     after-output _ _ _ _ _ _ _ _ _ _ _ _ _ _ (c .before .before .before .before .before .before .before .before .before .before .output-fault .ensures .0) (c .before .before .before .before .before .before .before .before .before .before .output-fault .ensures .1) (c .before .before .before .before .before .infer-process .ensures) (c .with-fault .ensures)
 
--- src/walks.rt:130:9
-infer-par-infer-process-requires : (t : ℕ) → infer-par-lts.Need-infer-process-requires (
-  infer-process-below t,
-  infer-process.Post,
-  with-fault-reads.Asked,
-  with-fault-reads.Learnt,
-) (infer-par-at t) infer-par.Post
-infer-par-infer-process-requires t c κs = search needs
-
--- src/walks.rt:132:9
-infer-par-infer-process-requires-2 : (t : ℕ) → infer-par-lts.Need-infer-process-requires-2 (
-  infer-process-below t,
-  infer-process.Post,
-  with-fault-reads.Asked,
-  with-fault-reads.Learnt,
-) (infer-par-at t) infer-par.Post
-infer-par-infer-process-requires-2 t c κs = search needs
-
--- src/walks.rt:133:5
-infer-par-with-fault-requires : (t : ℕ) → infer-par-lts.Need-with-fault-requires (
-  infer-process-below t,
-  infer-process.Post,
-  with-fault-reads.Asked,
-  with-fault-reads.Learnt,
-) (infer-par-at t) infer-par.Post
-infer-par-with-fault-requires t c κs = search needs
-
--- src/walks.rt:125:1
-infer-par-same-length : (t : ℕ) → infer-par-lts.Need-same-length (
-  infer-process-below t,
-  infer-process.Post,
-  with-fault-reads.Asked,
-  with-fault-reads.Learnt,
-) (infer-par-at t) infer-par.Post
-infer-par-same-length t c = search needs
-
--- src/walks.rt:125:1
-infer-par-same-length-2 : (t : ℕ) → infer-par-lts.Need-same-length-2 (
-  infer-process-below t,
-  infer-process.Post,
-  with-fault-reads.Asked,
-  with-fault-reads.Learnt,
-) (infer-par-at t) infer-par.Post
-infer-par-same-length-2 t c = search needs
-
--- src/walks.rt:125:1
-infer-par-returns : (t : ℕ) → infer-par-lts.Need-returns (
-  infer-process-below t,
-  infer-process.Post,
-  with-fault-reads.Asked,
-  with-fault-reads.Learnt,
-) (infer-par-at t) infer-par.Post
-infer-par-returns t c = search walk-steps
-
--- src/walks.rt:89:9
-infer-process-process-at-requires : (t : ℕ) → infer-process-lts.Need-process-at-requires (
-  process-at-reads.Asked,
-  process-at-reads.Learnt,
-  infer-form-below t,
-  infer-form.Post,
-) (infer-process-at t) infer-process.Post
-infer-process-process-at-requires t c κs = search needs
-
--- src/walks.rt:90:25
-infer-process-enum-known-read : (t : ℕ) → infer-process-lts.Need-enum-known-read (
-  process-at-reads.Asked,
-  process-at-reads.Learnt,
-  infer-form-below t,
-  infer-form.Post,
-) (infer-process-at t) infer-process.Post
-infer-process-enum-known-read t c = search needs
-
--- src/walks.rt:91:9
-infer-process-enum-told : (t : ℕ) → infer-process-lts.Need-enum-told (
-  process-at-reads.Asked,
-  process-at-reads.Learnt,
-  infer-form-below t,
-  infer-form.Post,
-) (infer-process-at t) infer-process.Post
-infer-process-enum-told t c = search needs
-
--- src/walks.rt:91:9
-infer-process-returns : (t : ℕ) → infer-process-lts.Need-returns (
-  process-at-reads.Asked,
-  process-at-reads.Learnt,
-  infer-form-below t,
-  infer-form.Post,
-) (infer-process-at t) infer-process.Post
-infer-process-returns t c = search walk-steps
-
--- src/walks.rt:94:46
-infer-process-sub-t13 : (t : ℕ) → infer-process-lts.Need-sub-t13 (
-  process-at-reads.Asked,
-  process-at-reads.Learnt,
-  infer-form-below t,
-  infer-form.Post,
-) (infer-process-at t) infer-process.Post
-infer-process-sub-t13 t c = search walk-steps
-
--- src/walks.rt:95:5
 infer-process-infer-form-requires : (t : ℕ) → infer-process-lts.Need-infer-form-requires (
   process-at-reads.Asked,
   process-at-reads.Learnt,
@@ -815,79 +138,6 @@ infer-process-infer-form-requires : (t : ℕ) → infer-process-lts.Need-infer-f
 infer-process-infer-form-requires t c κs =
     (omega (arith, nest-left _ _ _ _ _ (c .before .before .before .before .before .process-at .ensures) _ (c .before .before .before .read .given .1)), search walk-steps)
 
--- src/walks.rt:79:1
-infer-process-same-length : (t : ℕ) → infer-process-lts.Need-same-length (
-  process-at-reads.Asked,
-  process-at-reads.Learnt,
-  infer-form-below t,
-  infer-form.Post,
-) (infer-process-at t) infer-process.Post
-infer-process-same-length t c = search needs
-
--- src/walks.rt:79:1
-infer-process-same-length-2 : (t : ℕ) → infer-process-lts.Need-same-length-2 (
-  process-at-reads.Asked,
-  process-at-reads.Learnt,
-  infer-form-below t,
-  infer-form.Post,
-) (infer-process-at t) infer-process.Post
-infer-process-same-length-2 t c = search needs
-
--- src/walks.rt:79:1
-infer-process-returns-2 : (t : ℕ) → infer-process-lts.Need-returns-2 (
-  process-at-reads.Asked,
-  process-at-reads.Learnt,
-  infer-form-below t,
-  infer-form.Post,
-) (infer-process-at t) infer-process.Post
-infer-process-returns-2 t c = search walk-steps
-
--- src/walks.rt:142:61
-infer-under-add-t8 : (t : ℕ) → infer-under-lts.Need-add-t8 (
-  bind-reads.Asked,
-  bind-reads.Learnt,
-  infer-process-below t,
-  infer-process.Post,
-) (infer-under-at t) infer-under.Post
-infer-under-add-t8 t c = search needs
-
--- src/walks.rt:143:5
-infer-under-bind-requires : (t : ℕ) → infer-under-lts.Need-bind-requires (
-  bind-reads.Asked,
-  bind-reads.Learnt,
-  infer-process-below t,
-  infer-process.Post,
-) (infer-under-at t) infer-under.Post
-infer-under-bind-requires t c κs = search needs
-
--- src/walks.rt:144:5
-infer-under-infer-process-requires : (t : ℕ) → infer-under-lts.Need-infer-process-requires (
-  bind-reads.Asked,
-  bind-reads.Learnt,
-  infer-process-below t,
-  infer-process.Post,
-) (infer-under-at t) infer-under.Post
-infer-under-infer-process-requires t c κs = search needs
-
--- src/walks.rt:137:1
-infer-under-same-length : (t : ℕ) → infer-under-lts.Need-same-length (
-  bind-reads.Asked,
-  bind-reads.Learnt,
-  infer-process-below t,
-  infer-process.Post,
-) (infer-under-at t) infer-under.Post
-infer-under-same-length t c = search needs
-
--- src/walks.rt:137:1
-infer-under-same-length-2 : (t : ℕ) → infer-under-lts.Need-same-length-2 (
-  bind-reads.Asked,
-  bind-reads.Learnt,
-  infer-process-below t,
-  infer-process.Post,
-) (infer-under-at t) infer-under.Post
-infer-under-same-length-2 t c = search needs
-
--- src/walks.rt:137:1
 infer-under-returns : (t : ℕ) → infer-under-lts.Need-returns (
   bind-reads.Asked,
   bind-reads.Learnt,
@@ -921,37 +171,37 @@ pub +infer-form+infer-input+infer-output+infer-par+infer-process+infer-under-spe
     )
     (infer-form-at t)
     infer-form.Post
-    (infer-form-enum-told t)
-    (infer-form-enum-told-2 t)
-    (infer-form-infer-par-requires t)
-    (infer-form-enum-known-form t)
-    (infer-form-infer-under-requires t)
-    (infer-form-enum-known-form-2 t)
-    (infer-form-infer-input-requires t)
-    (infer-form-enum-known-form-3 t)
-    (infer-form-infer-output-requires t)
-    (infer-form-enum-told-3 t)
-    (infer-form-infer-process-requires t)
-    (infer-form-enum-told-4 t)
-    (infer-form-enum-told-5 t)
-    (infer-form-returns t)
-    (infer-form-same-length t)
-    (infer-form-same-length-2 t)
-    (infer-form-returns-2 t)
-    (infer-form-same-length-3 t)
-    (infer-form-same-length-4 t)
-    (infer-form-returns-3 t)
-    (infer-form-same-length-5 t)
-    (infer-form-same-length-6 t)
-    (infer-form-returns-4 t)
-    (infer-form-same-length-7 t)
-    (infer-form-same-length-8 t)
-    (infer-form-returns-5 t)
-    (infer-form-same-length-9 t)
-    (infer-form-same-length-10 t)
-    (infer-form-returns-6 t)
-    (infer-form-returns-7 t)
-    (infer-form-returns-8 t))
+    (λ c. search needs)
+    (λ c. search needs)
+    (λ c κs. search needs)
+    (λ c. search needs)
+    (λ c κs. search walk-steps)
+    (λ c. search needs)
+    (λ c κs. search walk-steps)
+    (λ c. search needs)
+    (λ c κs. search needs)
+    (λ c. search needs)
+    (λ c κs. search needs)
+    (λ c. search needs)
+    (λ c. search needs)
+    (λ c. search walk-steps)
+    (λ c. search needs)
+    (λ c. search needs)
+    (λ c. search walk-steps)
+    (λ c. search needs)
+    (λ c. search needs)
+    (λ c. search walk-steps)
+    (λ c. search needs)
+    (λ c. search needs)
+    (λ c. search walk-steps)
+    (λ c. search needs)
+    (λ c. search needs)
+    (λ c. search walk-steps)
+    (λ c. search needs)
+    (λ c. search needs)
+    (λ c. search walk-steps)
+    (λ c. search walk-steps)
+    (λ c. search walk-steps))
     (λ t. infer-input-lts.spec (
       input-fault-reads.Asked,
       input-fault-reads.Learnt,
@@ -962,11 +212,11 @@ pub +infer-form+infer-input+infer-output+infer-par+infer-process+infer-under-spe
     )
     (infer-input-at t)
     infer-input.Post
-    (infer-input-input-fault-requires t)
-    (infer-input-infer-under-requires t)
-    (infer-input-with-fault-requires t)
-    (infer-input-same-length t)
-    (infer-input-same-length-2 t)
+    (λ c κs. search needs)
+    (λ c κs. search needs)
+    (λ c κs. search needs)
+    (λ c. search needs)
+    (λ c. search needs)
     (infer-input-returns t))
     (λ t. infer-output-lts.spec (
       output-fault-reads.Asked,
@@ -978,11 +228,11 @@ pub +infer-form+infer-input+infer-output+infer-par+infer-process+infer-under-spe
     )
     (infer-output-at t)
     infer-output.Post
-    (infer-output-output-fault-requires t)
-    (infer-output-infer-process-requires t)
-    (infer-output-with-fault-requires t)
-    (infer-output-same-length t)
-    (infer-output-same-length-2 t)
+    (λ c κs. search needs)
+    (λ c κs. search needs)
+    (λ c κs. search needs)
+    (λ c. search needs)
+    (λ c. search needs)
     (infer-output-returns t))
     (λ t. infer-par-lts.spec (
       infer-process-below t,
@@ -992,12 +242,12 @@ pub +infer-form+infer-input+infer-output+infer-par+infer-process+infer-under-spe
     )
     (infer-par-at t)
     infer-par.Post
-    (infer-par-infer-process-requires t)
-    (infer-par-infer-process-requires-2 t)
-    (infer-par-with-fault-requires t)
-    (infer-par-same-length t)
-    (infer-par-same-length-2 t)
-    (infer-par-returns t))
+    (λ c κs. search needs)
+    (λ c κs. search needs)
+    (λ c κs. search needs)
+    (λ c. search needs)
+    (λ c. search needs)
+    (λ c. search walk-steps))
     (λ t. infer-process-lts.spec (
       process-at-reads.Asked,
       process-at-reads.Learnt,
@@ -1006,22 +256,22 @@ pub +infer-form+infer-input+infer-output+infer-par+infer-process+infer-under-spe
     )
     (infer-process-at t)
     infer-process.Post
-    (infer-process-process-at-requires t)
-    (infer-process-enum-known-read t)
-    (infer-process-enum-told t)
-    (infer-process-returns t)
-    (infer-process-sub-t13 t)
+    (λ c κs. search needs)
+    (λ c. search needs)
+    (λ c. search needs)
+    (λ c. search walk-steps)
+    (λ c. search walk-steps)
     (infer-process-infer-form-requires t)
-    (infer-process-same-length t)
-    (infer-process-same-length-2 t)
-    (infer-process-returns-2 t))
+    (λ c. search needs)
+    (λ c. search needs)
+    (λ c. search walk-steps))
     λ t. infer-under-lts.spec
     (bind-reads.Asked, bind-reads.Learnt, infer-process-below t, infer-process.Post)
     (infer-under-at t)
     infer-under.Post
-    (infer-under-add-t8 t)
-    (infer-under-bind-requires t)
-    (infer-under-infer-process-requires t)
-    (infer-under-same-length t)
-    (infer-under-same-length-2 t)
+    (λ c. search needs)
+    (λ c κs. search needs)
+    (λ c κs. search needs)
+    (λ c. search needs)
+    (λ c. search needs)
     (infer-under-returns t)
