@@ -92,7 +92,8 @@ module _ (s : List ℕ) (at nest names : ℕ) (path : List ℕ) (posts : ℕ) wh
       (every-cond fits (eqb code 3) _ _ (every-limited fits _ at _ (λ e. new-every next (both-below 0 nest names 64 e)))
       (every-cond fits (eqb code 4) _ _ (every-limited fits _ at _ (λ e. component-every next (all-three e))) tt)))))
 
-  pub system-room : {f : Form} {next : ℕ} → systemAt s at nest names path posts ≡ got f next → FitsSystem nest names (length path) posts f
+  pub system-room : {f : Form} {next : ℕ} → systemAt s at nest names path posts ≡ got f next
+      → FitsSystem nest names (length path) posts f
   unfolding fits
   system-room e = of-found fits (systemAt s at nest names path posts) system-every e
 

@@ -54,7 +54,16 @@ module _ (s : List ℕ) (at next : ℕ) (level binder : Bool) (code : ℕ) where
     unfolding processForm
     process-other a b c d e f h = rw (ne-eqb code 0 a, ne-eqb code 1 b, ne-eqb code 3 c, ne-eqb code 5 d, ne-eqb code 6 e, ne-eqb code 7 f) h
 
-pub ruleset process-forms = (steps, process-nil, process-par, process-new, process-input, process-output, process-replicate, process-other)
+pub ruleset process-forms = (
+  steps,
+  process-nil,
+  process-par,
+  process-new,
+  process-input,
+  process-output,
+  process-replicate,
+  process-other,
+)
 
 -- Systems: `b` is the code's flag for a form that binds a name, `r` and `d` those for room in the path, `a` that for a component.
 module _ (s : List ℕ) (at next : ℕ) (path : List ℕ) (level binder room more : Bool) (code : ℕ) where
@@ -70,7 +79,8 @@ module _ (s : List ℕ) (at next : ℕ) (path : List ℕ) (level binder room mor
     unfolding systemForm
     system-par e h = rw e h
 
-    pub system-group : (r d : Bool) → code ≡ 2 → r ≡ room → d ≡ (level && r) → y ≡ limited d at (groupForm s next path) → y ≡ system
+    pub system-group : (r d : Bool) → code ≡ 2 → r ≡ room → d ≡ (level && r) → y ≡ limited d at (groupForm s next path)
+        → y ≡ system
     unfolding systemForm
     system-group r d e f g h = rw (e, ← f, ← g) h
 
@@ -83,7 +93,8 @@ module _ (s : List ℕ) (at next : ℕ) (path : List ℕ) (level binder room mor
     unfolding systemForm
     system-component r d a e f g i h = rw (e, ← f, ← g, ← i) h
 
-    pub system-other : (code ≡ 0 → ⊥) → (code ≡ 1 → ⊥) → (code ≡ 2 → ⊥) → (code ≡ 3 → ⊥) → (code ≡ 4 → ⊥) → y ≡ refused 4 at → y ≡ system
+    pub system-other : (code ≡ 0 → ⊥) → (code ≡ 1 → ⊥) → (code ≡ 2 → ⊥) → (code ≡ 3 → ⊥) → (code ≡ 4 → ⊥) → y ≡ refused 4 at
+        → y ≡ system
     unfolding systemForm
     system-other a b c d e h = rw (ne-eqb code 0 a, ne-eqb code 1 b, ne-eqb code 2 c, ne-eqb code 3 d, ne-eqb code 4 e) h
 

@@ -10,6 +10,10 @@ use lib.Seq.{take-take}
 use Rattle.reading.specs.Read.{Read, got, refused, andThen}
 use Rattle.reading.specs.Forms.{limited}
 
+-- Lists that agree so far agree before.
+pub agree-before : (n k : ℕ) (s s′ : List ℕ) → n ≤ k → take k s ≡ take k s′ → take n s ≡ take n s′
+agree-before n k s s′ h e = sym (take-take n k s h) ∙ ap (λ (l : List ℕ). take n l) e ∙ take-take n k s′ h
+
 -- Where a reading ends.
 unfoldable pub ends : {A : Type 0} → Read A → ℕ
 ends (got a k) = k
@@ -46,11 +50,13 @@ pub refused-local : {A : Type 0} {from : ℕ} (q p : ℕ) → from ≤ p + 1 →
 unfolding ends
 refused-local q p h = record { later = λ s. h; same = λ s s′ e. refl }
 
-pub cond-local : {A : Type 0} {from : ℕ} (t : Bool) (X Y : List ℕ → Read A) → Local from X → Local from Y → Local from (λ s. cond t (X s) (Y s))
+pub cond-local : {A : Type 0} {from : ℕ} (t : Bool) (X Y : List ℕ → Read A) → Local from X → Local from Y
+    → Local from (λ s. cond t (X s) (Y s))
 cond-local true X Y l m = l
 cond-local false X Y l m = m
 
-pub limited-local : {A : Type 0} {from : ℕ} (t : Bool) (at : ℕ) (X : List ℕ → Read A) → from ≤ at + 1 → Local from X → Local from (λ s. limited t at (X s))
+pub limited-local : {A : Type 0} {from : ℕ} (t : Bool) (at : ℕ) (X : List ℕ → Read A) → from ≤ at + 1 → Local from X
+    → Local from (λ s. limited t at (X s))
 unfolding limited
 limited-local true at X h l = l
 limited-local false at X h l = refused-local 5 at h
@@ -66,8 +72,7 @@ module _ {A B : Type 0} {from : ℕ} (X : List ℕ → Read A) (F : List ℕ →
       → andThen (X s′) (F s′) ≡ andThen x (F s)
   unfolding ends andThen
   then-same s s′ (got a n) e h =
-      let k = m s a n e .later s in
-      let t : take n s ≡ take n s′ = sym (take-take n (ends (F s a n)) s k) ∙ ap (λ (z : List ℕ). take n z) h ∙ take-take n (ends (F s a n)) s′ k in
+      let t = agree-before n (ends (F s a n)) s s′ (m s a n e .later s) h in
       rw (same-bytes from X l s e s′ t) (m s a n e .same s s′ h)
   then-same s s′ (refused q p) e h = rw (same-refusal from X l s e s′ h)
 

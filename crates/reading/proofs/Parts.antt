@@ -31,12 +31,14 @@ pub record Passed {A : Type 0} (t : Bool) (x : Read A) (a : A) (k : ℕ) : Type 
   pub test : t ≡ true
   pub then : x ≡ got a k
 
-pub passed : {A : Type 0} (t : Bool) (x : Read A) (q p : ℕ) {a : A} {k : ℕ} → cond t x (refused q p) ≡ got a k → Passed t x a k
+pub passed : {A : Type 0} (t : Bool) (x : Read A) (q p : ℕ) {a : A} {k : ℕ} → cond t x (refused q p) ≡ got a k
+    → Passed t x a k
 passed true x q p e = record { test = refl; then = e }
 passed false x q p e = never e
 
 -- A byte that was read, and one that is below a bound.
-pub byte-found : (s : List ℕ) (at : ℕ) {b k : ℕ} → byteAt s at ≡ got b k → Passed (ltb at (length s)) (got (getD s at 0) (at + 1)) b k
+pub byte-found : (s : List ℕ) (at : ℕ) {b k : ℕ} → byteAt s at ≡ got b k
+    → Passed (ltb at (length s)) (got (getD s at 0) (at + 1)) b k
 unfolding byteAt
 byte-found s at e = passed (ltb at (length s)) (got (getD s at 0) (at + 1)) 2 at e
 
@@ -59,7 +61,8 @@ of-found P (got b m) {a} h e = let q : b ≡ a = cc in rw q at h
 of-found P (refused q p) h e = never e
 
 module _ {A : Type 0} (P : A → Type 0) where
-  pub every-then : {B : Type 0} (x : Read B) (f : B → ℕ → Read A) → ((b : B) (k : ℕ) → x ≡ got b k → Every P (f b k)) → Every P (andThen x f)
+  pub every-then : {B : Type 0} (x : Read B) (f : B → ℕ → Read A) → ((b : B) (k : ℕ) → x ≡ got b k → Every P (f b k))
+      → Every P (andThen x f)
   unfolding Every andThen
   every-then (got b k) f h = h b k refl
   every-then (refused q p) f h = tt

@@ -27,7 +27,8 @@ room-for-one p h = go (ltb (p .len) 8) refl
 pub one-more : (l : List ℕ) (n g : ℕ) → length l ≡ 8 → n < 8 → take (n + 1) (set l n g) ≡ take n l ++ (g ∷ [])
 one-more l n g h k = rw add-one (take-suc-set l n g (omega arith))
 
-pub no-more : (p : Path) (q : List ℕ) → length (p .groups) ≡ 8 → 8 ≤ p .len → ltb (length (pathOf p)) 8 ≡ true → pathOf p ≡ q
+pub no-more : (p : Path) (q : List ℕ) → length (p .groups) ≡ 8 → 8 ≤ p .len → ltb (length (pathOf p)) 8 ≡ true
+    → pathOf p ≡ q
 no-more p q h k e = absurd (omega (arith, ltb-true (length (pathOf p)) 8 e, length-take (p .len) (p .groups)))
 
 -- The search for a group g has come to place i: g is in the path if it is from i on.

@@ -42,7 +42,8 @@ module _ (read : ℕ → ℕ → Read Process) (at names : ℕ) (f : Form) (next
   unfolding processFrom ended andThen
   at-par l m e i h k = rw e (go (read names next) (rw i at h))
     where
-      go : (x : Read Process) → got tt m ≡ ended x → y ≡ ended (andThen x (λ p m. andThen (read names m) (λ q k. got (par p q) k)))
+      go : (x : Read Process) → got tt m ≡ ended x
+          → y ≡ ended (andThen x (λ p m. andThen (read names m) (λ q k. got (par p q) k)))
       go (got p n) h = let z : m ≡ n = cc in rw (ended-map (read names n) (λ q. par p q), ← z) k
       go (refused q p) h = never (sym h)
 
@@ -92,7 +93,8 @@ module _ (nest : ℕ) (s : List ℕ) (names at : ℕ) (r : FormRead) where
     found : processAt s at nest names ≡ got (p .form) (p .next)
     found = rw f at (sym e)
 
-    pub process-found : {y : Read (Unit {0})} → y ≡ ended (processFrom (λ ns m. readProcess (nest - 1) s ns m) at names (p .form) (p .next))
+    pub process-found : {y : Read (Unit {0})}
+        → y ≡ ended (processFrom (λ ns m. readProcess (nest - 1) s ns m) at names (p .form) (p .next))
         → y ≡ ended (readProcess nest s names at)
     process-found h = rw (process-step nest s names at found) h
 
@@ -110,4 +112,21 @@ module _ (nest : ℕ) (s : List ℕ) (names at : ℕ) (r : FormRead) where
     unfolding FitsProcess
     input-fits a h = let k = rw h at (process-room s at nest names found) in record { fits = omega arith }
 
-pub ruleset process-steps = (needs, at-nil, at-par, at-par-left, at-new, at-input, at-output, at-replicate, at-group, at-component, process-refused, process-found, process-deeper, process-falls, new-fits, input-fits)
+pub ruleset process-steps = (
+  needs,
+  at-nil,
+  at-par,
+  at-par-left,
+  at-new,
+  at-input,
+  at-output,
+  at-replicate,
+  at-group,
+  at-component,
+  process-refused,
+  process-found,
+  process-deeper,
+  process-falls,
+  new-fits,
+  input-fits,
+)

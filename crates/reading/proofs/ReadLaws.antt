@@ -8,9 +8,9 @@ use native.Mathlib.Omega.{arith}
 use borrow.Author.Tests.{ltb-true, ltb-false, eqb-false, lt-ltb, le-ltb, ne-eqb}
 use lib.Dec.{ltb, eqb}
 use lib.ListN.{length, take, getD, length-take}
-use lib.Seq.{take-take, getD-take}
+use lib.Seq.{getD-take}
 use Rattle.reading.proofs.FormLaws.{FitsProcess, FitsSystem, process-room, process-level, system-room, system-level}
-use Rattle.reading.proofs.Local.{ends, Local, same-bytes, same-refusal, from-earlier, got-local, refused-local, cond-local, limited-local, then-local}
+use Rattle.reading.proofs.Local.{agree-before, ends, Local, same-bytes, same-refusal, from-earlier, got-local, refused-local, cond-local, limited-local, then-local}
 use Rattle.reading.proofs.Parts.{never, parts, passed, byte-found}
 use Rattle.reading.specs.Read.{Read, got, refused, andThen, byteAt, below}
 use Rattle.reading.specs.Types.{channel, groupsThenKind, typeAt}
@@ -118,7 +118,8 @@ process-local at nest names = then-local _ _ (byte-local at) (λ s code next e.
     (cond-local (eqb code 6) _ _ (limited-local _ at _ k (from-earlier (omega arith) (output-local next)))
     (cond-local (eqb code 7) _ _ (limited-local _ at _ k (got-local Replicate next (omega arith))) (refused-local 4 at k)))))))
 
-pub system-local : (at nest names : ℕ) (path : List ℕ) (posts : ℕ) → Local (at + 1) (λ s. systemAt s at nest names path posts)
+pub system-local : (at nest names : ℕ) (path : List ℕ) (posts : ℕ)
+    → Local (at + 1) (λ s. systemAt s at nest names path posts)
 unfolding systemAt systemForm
 system-local at nest names path posts = then-local _ _ (byte-local at) (λ s code next e.
     let h = byte-place s at e in
@@ -130,11 +131,13 @@ system-local at nest names path posts = then-local _ _ (byte-local at) (λ s cod
     (cond-local (eqb code 4) _ _ (limited-local _ at _ k (from-earlier (omega arith) (component-local next path))) (refused-local 4 at k))))))
 
 -- Processes: the forms that a process has not are never found there.
-map-local : {A B : Type 0} {from : ℕ} (X : List ℕ → Read A) (f : A → B) → Local from X → Local from (λ s. andThen (X s) (λ a k. got (f a) k))
+map-local : {A B : Type 0} {from : ℕ} (X : List ℕ → Read A) (f : A → B) → Local from X
+    → Local from (λ s. andThen (X s) (λ a k. got (f a) k))
 map-local X f l = then-local _ _ l (λ s a k e. got-local (f a) k (omega arith))
 
 module _ (read : List ℕ → ℕ → ℕ → Read Process) (l : (names at : ℕ) → Local at (λ s. read s names at)) (nest at names : ℕ) where
-  process-from-local : (f : Form) (next : ℕ) → FitsProcess nest names f → Local next (λ s. processFrom (λ ns m. read s ns m) at names f next)
+  process-from-local : (f : Form) (next : ℕ) → FitsProcess nest names f
+      → Local next (λ s. processFrom (λ ns m. read s ns m) at names f next)
   unfolding processFrom FitsProcess
   process-from-local Nil next h = got-local nil next (omega arith)
   process-from-local Par next h = then-local _ _ (l names next) (λ s p m e. map-local _ (λ q. par p q) (l names m))
@@ -168,7 +171,8 @@ module _ (read : List ℕ → ℕ → List ℕ → ℕ → ℕ → Read System) 
   system-from-local (Output a) next h = absurd h
   system-from-local Replicate next h = absurd h
 
-pub read-system-local : (nest names : ℕ) (path : List ℕ) (posts at : ℕ) → Local (at + 1) (λ s. readSystem nest s names path posts at)
+pub read-system-local : (nest names : ℕ) (path : List ℕ) (posts at : ℕ)
+    → Local (at + 1) (λ s. readSystem nest s names path posts at)
 unfolding readSystem
 read-system-local zero names path posts at = then-local _ _ (system-local at 0 names path posts) (λ s f next e.
     absurd (omega (arith, system-level 0 names (length path) posts f (system-room s at 0 names path posts e))))
@@ -188,26 +192,27 @@ unfolding header
 header-local = then-local _ _ (below-local 33 0) (λ s n next e. types-local n next)
 
 -- A whole sheet: it is refused as each sheet is that has the same bytes up to the one at which it is refused.
+abbrev with-types : List ℕ → System → ℕ → Read Sheet
+with-types free system next = got (record { free = free; system = system }) next
+
 abbrev body : List ℕ → Read Sheet
-body s = andThen (header s) (λ free at. andThen (readSystem 64 s (length free) [] 0 at) (λ system next. got (record { free = free; system = system }) next))
+body s = andThen (header s) (λ free at. andThen (readSystem 64 s (length free) [] 0 at) (with-types free))
 
 body-local : Local 1 body
 body-local = then-local _ _ header-local (λ s free at e.
-    map-local _ (λ system. record { free = free; system = system }) (from-earlier (omega arith) (read-system-local 64 (length free) [] 0 at)))
+    map-local _ (λ system. record { free = free; system = system })
+    (from-earlier (omega arith) (read-system-local 64 (length free) [] 0 at)))
 
-sheet-body : (s : List ℕ) → readSheet s ≡ andThen (body s) (λ a next. toItsEnd s a next)
+then-then : {A B C : Type 0} (x : Read A) (f : A → ℕ → Read B) (g : B → ℕ → Read C) {h : A → ℕ → Read C}
+    → ((a : A) (n : ℕ) → h a n ≡ andThen (f a n) g) → andThen x h ≡ andThen (andThen x f) g
+unfolding andThen
+then-then (got a n) f g h = h a n
+then-then (refused q p) f g h = refl
+
+sheet-body : (s : List ℕ) → readSheet s ≡ andThen (body s) (toItsEnd s)
 unfolding readSheet andThen
-sheet-body s = go (header s)
-  where
-    inner : (free : List ℕ) (x : Read System) → andThen {B = Sheet} x (λ system next. toItsEnd s (record { free = free; system = system }) next)
-        ≡ andThen {B = Sheet} (andThen {B = Sheet} x (λ system next. got (record { free = free; system = system }) next)) (λ a next. toItsEnd s a next)
-    inner free (got system next) = refl
-    inner free (refused q p) = refl
-
-    go : (x : Read (List ℕ)) → andThen {B = Sheet} x (λ free at. andThen {B = Sheet} (readSystem 64 s (length free) [] 0 at) (λ system next. toItsEnd s (record { free = free; system = system }) next))
-        ≡ andThen {B = Sheet} (andThen {B = Sheet} x (λ free at. andThen {B = Sheet} (readSystem 64 s (length free) [] 0 at) (λ system next. got (record { free = free; system = system }) next))) (λ a next. toItsEnd s a next)
-    go (got free at) = inner free (readSystem 64 s (length free) [] 0 at)
-    go (refused q p) = refl
+sheet-body s = then-then (header s) _ (toItsEnd s) (λ free at.
+    then-then (readSystem 64 s (length free) [] 0 at) (with-types free) (toItsEnd s) (λ system next. refl))
 
 -- Bytes are left over in one of two lists that agree up to the first of them if they are in the other.
 left-over : (s s′ : List ℕ) (a : Sheet) (n : ℕ) {q p : ℕ} → toItsEnd s a n ≡ refused q p → take (p + 1) s ≡ take (p + 1) s′
@@ -215,20 +220,23 @@ left-over : (s s′ : List ℕ) (a : Sheet) (n : ℕ) {q p : ℕ} → toItsEnd s
 unfolding toItsEnd
 left-over s s′ a n {q} {p} e h = go (eqb n (length s)) refl e
   where
-    go : (t : Bool) → eqb n (length s) ≡ t → cond t (got a n) (refused 3 n) ≡ refused q p → (take n s ≡ take n s′) × (toItsEnd s′ a n ≡ refused q p)
+    go : (t : Bool) → eqb n (length s) ≡ t → cond t (got a n) (refused 3 n) ≡ refused q p
+        → (take n s ≡ take n s′) × (toItsEnd s′ a n ≡ refused q p)
     go true b f = never (sym f)
     go false b f =
         let three : 3 ≡ q = cc in
         let place : n ≡ p = cc in
-        let m : n ≤ p + 1 = omega arith in
-        let apart : n ≡ length s′ → ⊥ = λ z. eqb-false n (length s) b (omega (arith, ap length h, length-take (p + 1) s, length-take (p + 1) s′)) in
-        (sym (take-take n (p + 1) s m) ∙ ap (λ (l : List ℕ). take n l) h ∙ take-take n (p + 1) s′ m, rw (ne-eqb n (length s′) apart, three, place))
+        let apart : n ≡ length s′ → ⊥ = λ z.
+        eqb-false n (length s) b (omega (arith, ap length h, length-take (p + 1) s, length-take (p + 1) s′)) in
+        (agree-before n (p + 1) s s′ (omega arith) h, rw (ne-eqb n (length s′) apart, three, place))
 
-pub sheet-refusal : (s : List ℕ) {q p : ℕ} → readSheet s ≡ refused q p → (s′ : List ℕ) → take (p + 1) s ≡ take (p + 1) s′ → readSheet s′ ≡ refused q p
+pub sheet-refusal : (s : List ℕ) {q p : ℕ} → readSheet s ≡ refused q p → (s′ : List ℕ) → take (p + 1) s ≡ take (p + 1) s′
+    → readSheet s′ ≡ refused q p
 unfolding andThen
 sheet-refusal s {q} {p} e s′ h = sheet-body s′ ∙ go (body s) refl (sym (sheet-body s) ∙ e)
   where
-    go : (x : Read Sheet) → body s ≡ x → andThen x (λ a next. toItsEnd s a next) ≡ refused q p → andThen (body s′) (λ a next. toItsEnd s′ a next) ≡ refused q p
+    go : (x : Read Sheet) → body s ≡ x → andThen x (toItsEnd s) ≡ refused q p
+        → andThen (body s′) (toItsEnd s′) ≡ refused q p
     go (got a n) b f = let o = left-over s s′ a n f h in rw (same-bytes 1 body body-local s b s′ (o .0)) (o .1)
     go (refused u v) b f =
         let x : u ≡ q = cc in
@@ -236,5 +244,6 @@ sheet-refusal s {q} {p} e s′ h = sheet-body s′ ∙ go (body s) refl (sym (sh
         rw (same-refusal 1 body body-local s b s′ (rw y h), x, y)
 
 -- A sheet that reads, reads as one syntax tree.
-pub one-tree : (s charter : List ℕ) {a b : Sheet} {k m : ℕ} → sheetOf s charter ≡ got a k → sheetOf s charter ≡ got b m → a ≡ b
+pub one-tree : (s charter : List ℕ) {a b : Sheet} {k m : ℕ} → sheetOf s charter ≡ got a k → sheetOf s charter ≡ got b m
+    → a ≡ b
 one-tree s charter e f = cc

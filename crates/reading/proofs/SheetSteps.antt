@@ -49,7 +49,8 @@ counted-refused n (got a k) h = never h
 counted-refused n (refused a b) {q} {p} h = let v : a ≡ q = cc in let w : b ≡ p = cc in rw (v, w)
 
 -- One type, then the rest.
-types-step : (n : ℕ) (s : List ℕ) (at : ℕ) → 0 < n → freeTypes n s at ≡ andThen (typeAt s at) (λ t next. andThen (freeTypes (n - 1) s next) (λ ts m. got (t ∷ ts) m))
+types-step : (n : ℕ) (s : List ℕ) (at : ℕ) → 0 < n
+    → freeTypes n s at ≡ andThen (typeAt s at) (λ t next. andThen (freeTypes (n - 1) s next) (λ ts m. got (t ∷ ts) m))
 unfolding freeTypes
 types-step zero s at h = absurd (omega arith)
 types-step (suc n) s at h = rw (sub-one (suc n))
@@ -66,12 +67,14 @@ module _ (s : List ℕ) (at count next left : ℕ) (t : TypesLeft s at count nex
   unfolding freeTypes ended
   none-left h = let z : left ≡ 0 = omega arith in rw (t .same, z)
 
-  pub type-refused : (r : NumberRead) (q w : Refusal) → 0 < left → r ≡ number-read.Refused q → number r ≡ typeAt s next → w ≡ refusalOf r
+  pub type-refused : (r : NumberRead) (q w : Refusal) → 0 < left → r ≡ number-read.Refused q → number r ≡ typeAt s next
+      → w ≡ refusalOf r
       → refused (w .question) (w .at) ≡ ended (freeTypes count s at)
   unfolding andThen ended
   type-refused r q w h f e k = let z = sym (rw f at e) in rw (t .same, types-step left s next h, z, k, f)
 
-  pub type-read : (r : NumberRead) (n : Number) → 0 < left → r ≡ number-read.Found n → number r ≡ typeAt s next → TypesLeft s at count (n .next) (left - 1)
+  pub type-read : (r : NumberRead) (n : Number) → 0 < left → r ≡ number-read.Found n → number r ≡ typeAt s next
+      → TypesLeft s at count (n .next) (left - 1)
   unfolding andThen
   type-read r n h f e =
       let z = sym (rw f at e) in
@@ -113,7 +116,8 @@ module _ (s : List ℕ) (c : NumberRead) where
       told : number r ≡ counted 0 (readSystem 64 s (n .value) [] 0 at)
       told = rw i at j
 
-      pub system-refused : (q w : Refusal) → r ≡ number-read.Refused q → w ≡ refusalOf r → refused (w .question) (w .at) ≡ ended (readSheet s)
+      pub system-refused : (q w : Refusal) → r ≡ number-read.Refused q → w ≡ refusalOf r
+          → refused (w .question) (w .at) ≡ ended (readSheet s)
       unfolding andThen ended
       system-refused q w l m = rw (sheet-is, counted-refused 0 (readSystem 64 s (n .value) [] 0 at) {q = q .question} {p = q .at} (rw l at told), m, l)
 

@@ -50,12 +50,14 @@ module _ (read : ℕ → List ℕ → ℕ → ℕ → Read System) (process : �
     unfolding systemFrom counted components
     at-nil e h = rw (e, add-zero) h
 
-    pub at-par : (l : NumberRead) (n : Number) → f ≡ Par → l ≡ number-read.Found n → number l ≡ counted posts (read names path posts next)
+    pub at-par : (l : NumberRead) (n : Number) → f ≡ Par → l ≡ number-read.Found n
+        → number l ≡ counted posts (read names path posts next)
         → y ≡ counted (n .value) (read names path (n .value) (n .next)) → y ≡ told
     unfolding systemFrom counted andThen components
     at-par l n e i h k = rw e (go (read names path posts next) (rw i at h))
       where
-        join : (p : System) (x : Read System) → counted (posts + components p) x ≡ counted posts (andThen x (λ r k. got (parₛ p r) k))
+        join : (p : System) (x : Read System)
+            → counted (posts + components p) x ≡ counted posts (andThen x (λ r k. got (parₛ p r) k))
         join p (got r k) = rw add-assoc
         join p (refused a b) = refl
 
@@ -71,7 +73,8 @@ module _ (read : ℕ → List ℕ → ℕ → ℕ → Read System) (process : �
     unfolding systemFrom components
     at-new t e h = rw (e, counted-map posts (read (names + 1) path posts next) (λ p. newₛ t p) (λ p. refl)) h
 
-    pub at-group : (g : ℕ) (q : List ℕ) → f ≡ Group g → q ≡ path ++ (g ∷ []) → y ≡ counted posts (read names q posts next) → y ≡ told
+    pub at-group : (g : ℕ) (q : List ℕ) → f ≡ Group g → q ≡ path ++ (g ∷ []) → y ≡ counted posts (read names q posts next)
+        → y ≡ told
     unfolding systemFrom components
     at-group g q e i h = rw (e, ← i, counted-map posts (read names q posts next) (λ p. groupₛ g p) (λ p. refl)) h
 
@@ -92,7 +95,8 @@ module _ (read : ℕ → List ℕ → ℕ → ℕ → Read System) (process : �
     at-replicate e h = rw e h
 
   -- A parallel form whose left part is refused.
-  pub at-par-left : (l : NumberRead) (q : Refusal) → f ≡ Par → l ≡ number-read.Refused q → number l ≡ counted posts (read names path posts next) → number l ≡ told
+  pub at-par-left : (l : NumberRead) (q : Refusal) → f ≡ Par → l ≡ number-read.Refused q
+      → number l ≡ counted posts (read names path posts next) → number l ≡ told
   unfolding systemFrom counted andThen
   at-par-left l q e i h = rw (e, i) (go (read names path posts next) (rw i at h))
     where
@@ -102,7 +106,8 @@ module _ (read : ℕ → List ℕ → ℕ → ℕ → Read System) (process : �
       go (refused a b) h = h
 
 -- A component's process, read or not.
-pub component-ends : (posts g : ℕ) (x : Read Process) (e : End) (m : ℕ) → e ≡ end.At m → ending e ≡ ended x → got (posts + 1) m ≡ counted posts (component g x)
+pub component-ends : (posts g : ℕ) (x : Read Process) (e : End) (m : ℕ) → e ≡ end.At m → ending e ≡ ended x
+    → got (posts + 1) m ≡ counted posts (component g x)
 unfolding component counted andThen ended components
 component-ends posts g (got p k) e m i h = let z : m ≡ k = cc in rw z
 component-ends posts g (refused a b) e m i h = never (sym (rw i at h))
@@ -121,7 +126,8 @@ pub ruleset component-steps = (needs, component-ends, component-stops)
 
 -- What the code knows of the form at a place.
 module _ (nest : ℕ) (s : List ℕ) (names : ℕ) (path : List ℕ) (posts at : ℕ) (r : FormRead) where
-  pub system-refused : (q w : Refusal) → r ≡ form-read.Refused q → form r ≡ systemAt s at nest names path posts → w ≡ whyOf r
+  pub system-refused : (q w : Refusal) → r ≡ form-read.Refused q → form r ≡ systemAt s at nest names path posts
+      → w ≡ whyOf r
       → refused (w .question) (w .at) ≡ counted posts (readSystem nest s names path posts at)
   unfolding counted
   system-refused q w f e h = rw (system-stop nest s names path posts at {q = q .question} {p = q .at} (rw f at (sym e)), h, f)
@@ -130,7 +136,8 @@ module _ (nest : ℕ) (s : List ℕ) (names : ℕ) (path : List ℕ) (posts at :
     found : systemAt s at nest names path posts ≡ got (p .form) (p .next)
     found = rw f at (sym e)
 
-    pub system-found : {y : Read ℕ} → y ≡ told (λ ns p k m. readSystem (nest - 1) s ns p k m) (λ m. readProcess (nest - 1) s names m) at names path posts (p .form) (p .next)
+    pub system-found : {y : Read ℕ}
+        → y ≡ told (λ ns p k m. readSystem (nest - 1) s ns p k m) (λ m. readProcess (nest - 1) s names m) at names path posts (p .form) (p .next)
         → y ≡ counted posts (readSystem nest s names path posts at)
     system-found h = rw (system-step nest s names path posts at found) h
 
@@ -144,7 +151,8 @@ module _ (nest : ℕ) (s : List ℕ) (names : ℕ) (path : List ℕ) (posts at :
     unfolding FitsSystem
     new-fits t h = let k = rw h at (system-room s at nest names path posts found) in record { fits = omega arith }
 
-    pub group-entered : (g : ℕ) (q : List ℕ) → p .form ≡ Group g → (ltb (length path) 8 ≡ true → q ≡ path ++ (g ∷ [])) → q ≡ path ++ (g ∷ [])
+    pub group-entered : (g : ℕ) (q : List ℕ) → p .form ≡ Group g → (ltb (length path) 8 ≡ true → q ≡ path ++ (g ∷ []))
+        → q ≡ path ++ (g ∷ [])
     unfolding FitsSystem
     group-entered g q h i = let k = rw h at (system-room s at nest names path posts found) in i (lt-ltb (length path) 8 (k .1))
 
@@ -152,4 +160,22 @@ module _ (nest : ℕ) (s : List ℕ) (names : ℕ) (path : List ℕ) (posts at :
     unfolding FitsSystem
     another g h = let k = rw h at (system-room s at nest names path posts found) in k .2
 
-pub ruleset system-steps = (needs, at-nil, at-par, at-par-left, at-new, at-group, at-component, at-input, at-output, at-replicate, system-refused, system-found, system-deeper, system-falls, new-fits, group-entered, another)
+pub ruleset system-steps = (
+  needs,
+  at-nil,
+  at-par,
+  at-par-left,
+  at-new,
+  at-group,
+  at-component,
+  at-input,
+  at-output,
+  at-replicate,
+  system-refused,
+  system-found,
+  system-deeper,
+  system-falls,
+  new-fits,
+  group-entered,
+  another,
+)

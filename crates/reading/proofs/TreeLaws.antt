@@ -27,7 +27,8 @@ process-step zero s names at {f} e = absurd (omega (arith, process-level 0 names
 process-step (suc n) s names at e = rw (e, sub-one (suc n))
 
 -- One that is not ends with the form's refusal.
-pub process-stop : (nest : ℕ) (s : List ℕ) (names at : ℕ) {q p : ℕ} → processAt s at nest names ≡ refused q p → readProcess nest s names at ≡ refused q p
+pub process-stop : (nest : ℕ) (s : List ℕ) (names at : ℕ) {q p : ℕ} → processAt s at nest names ≡ refused q p
+    → readProcess nest s names at ≡ refused q p
 unfolding readProcess andThen
 process-stop zero s names at e = rw e
 process-stop (suc n) s names at e = rw e
@@ -39,7 +40,8 @@ pub record ProcessBegins (nest : ℕ) (s : List ℕ) (names at : ℕ) (p : Proce
   pub stands : processAt s at nest names ≡ got form next
   pub after : processFrom (λ ns m. readProcess (nest - 1) s ns m) at names form next ≡ got p k
 
-pub process-begins : (nest : ℕ) (s : List ℕ) (names at : ℕ) {p : Process} {k : ℕ} → readProcess nest s names at ≡ got p k → ProcessBegins nest s names at p k
+pub process-begins : (nest : ℕ) (s : List ℕ) (names at : ℕ) {p : Process} {k : ℕ} → readProcess nest s names at ≡ got p k
+    → ProcessBegins nest s names at p k
 process-begins nest s names at {p} {k} e = go (processAt s at nest names) refl
   where
     go : (x : Read Form) → processAt s at nest names ≡ x → ProcessBegins nest s names at p k
@@ -89,14 +91,17 @@ module _ (read : ℕ → List ℕ → ℕ → ℕ → Read System)
       every-then _ (read names path (posts + components p) m) _ (λ q k f.
       let j = of-found _ (read names path (posts + components p) m) (l names path (posts + components p) m i) f in
       omega arith))
-  few-from (Group g) next h = every-then _ (read names (path ++ (g ∷ [])) posts next) _ (λ p k e. of-found _ (read names (path ++ (g ∷ [])) posts next) (l names (path ++ (g ∷ [])) posts next few) e)
-  few-from (New t) next h = every-then _ (read (names + 1) path posts next) _ (λ p k e. of-found _ (read (names + 1) path posts next) (l (names + 1) path posts next few) e)
+  few-from (Group g) next h = every-then _ (read names (path ++ (g ∷ [])) posts next) _ (λ p k e.
+      of-found _ (read names (path ++ (g ∷ [])) posts next) (l names (path ++ (g ∷ [])) posts next few) e)
+  few-from (New t) next h = every-then _ (read (names + 1) path posts next) _ (λ p k e.
+      of-found _ (read (names + 1) path posts next) (l (names + 1) path posts next few) e)
   few-from (Component g) next h = every-then _ (process next) _ (λ p k e. omega arith)
   few-from (Input a) next h = absurd h
   few-from (Output a) next h = absurd h
   few-from Replicate next h = absurd h
 
-few-components : (nest : ℕ) (s : List ℕ) (names : ℕ) (path : List ℕ) (posts at : ℕ) → posts ≤ 32 → Every (λ p. posts + components p ≤ 32) (readSystem nest s names path posts at)
+few-components : (nest : ℕ) (s : List ℕ) (names : ℕ) (path : List ℕ) (posts at : ℕ) → posts ≤ 32
+    → Every (λ p. posts + components p ≤ 32) (readSystem nest s names path posts at)
 unfolding readSystem Every
 few-components zero s names path posts at h = every-then _ (systemAt s at 0 names path posts) _ (λ f next e. tt)
 few-components (suc n) s names path posts at h = every-then _ (systemAt s at (suc n) names path posts) _ (λ f next e.
@@ -157,7 +162,7 @@ pub sheet-parts : (s charter : List ℕ) {a : Sheet} {k : ℕ} → sheetOf s cha
 unfolding sheetOf readSheet toItsEnd
 sheet-parts s charter {a} {k} e =
     let t = passed (leb (length s) 4096 && leb (length charter) 4096) (readSheet s) 1 4096 e in
-    let h = parts (header s) (λ free at. andThen (readSystem 64 s (length free) [] 0 at) (λ system next. toItsEnd s (record { free = free; system = system }) next)) (t .then) in
-    let b = parts (readSystem 64 s (length (h .value)) [] 0 (h .place)) (λ system next. toItsEnd s (record { free = h .value; system = system }) next) (h .rest) in
+    let h = parts (header s) _ (t .then) in
+    let b = parts (readSystem 64 s (length (h .value)) [] 0 (h .place)) _ (h .rest) in
     let w = passed (eqb (b .place) (length s)) (got (record { free = h .value; system = b .value }) (b .place)) 3 (b .place) (b .rest) in
     sheet-made s charter (h .value) (h .place) (b .value) (b .place) a k (h .first) (b .first) (w .test) (w .then) (t .test)

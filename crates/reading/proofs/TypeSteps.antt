@@ -32,10 +32,12 @@ carried-small : (n : ℕ) (s : List ℕ) (m : ℕ) (r : NumberRead) (t : Number)
     → r ≡ number-read.Found t → t .value < 17 * 64 ^ 4
 carried-small n s m r t h e f = few-groups (n - 1) s m {t = t .value} {m = t .next} (omega arith) (rw f at (sym e))
 
-small : (n : ℕ) (s : List ℕ) (at : ℕ) (q : NumberRead) (g : Number) → q ≡ number-read.Found g → number q ≡ below n s at → g .value < n
+small : (n : ℕ) (s : List ℕ) (at : ℕ) (q : NumberRead) (g : Number) → q ≡ number-read.Found g → number q ≡ below n s at
+    → g .value < n
 small n s at q g f e = below-found n s at {b = g .value} {k = g .next} (rw f at (sym e))
 
-pub count-fits : (s : List ℕ) (at : ℕ) (q : NumberRead) (g : Number) → q ≡ number-read.Found g → number q ≡ below 5 s at → g .value ≤ 4
+pub count-fits : (s : List ℕ) (at : ℕ) (q : NumberRead) (g : Number) → q ≡ number-read.Found g → number q ≡ below 5 s at
+    → g .value ≤ 4
 count-fits s at q g f e = omega (arith, small 5 s at q g f e)
 
 pub scaled : (n : ℕ) (s : List ℕ) (m : ℕ) (r : NumberRead) (t : Number) → r ≡ number-read.Found t

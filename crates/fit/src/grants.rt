@@ -4,22 +4,27 @@ ghost use mathlib.Core.List.{List, map};
 ghost use Prim.Native.Nat.{ℕ, _<_, _≤_, _+_, _-_};
 ghost use Rattle.inference.specs.Counts.{_⊕_};
 ghost use lib.ListN.{take};
-ghost use lib.Dec.{ltb};
+ghost use lib.Dec.{ltb, eqb};
+ghost use mathlib.Core.Bool.{_&&_};
 ghost use Rattle.reading.specs.Told.{pathOf};
 ghost use Rattle.inference.specs.Lists.{every, any};
 ghost use Rattle.policy.specs.Syntax.{hasBit};
 ghost use Rattle.policy.specs.Grants.{storedCount, listed as listedIn};
-ghost use Rattle.policy.specs.Rows.{itemsAt, permissionsOf, flats, indexOf, giverIn, givenRows, givenAt, totalOf, joinedAt};
+ghost use Rattle.policy.specs.Rows.{itemsAt, permissionsOf, flats};
+ghost use Rattle.fit.specs.Givers.{indexOf, giverIn, givenRows, givenAt, totalOf, joinedAt};
+ghost use Rattle.reading.specs.Forms.{member};
+ghost use mathlib.Core.Bool.{cond};
 
-use crate::nodes::byte_in;
-use crate::nodes::node_at;
-use crate::nodes::word_in;
-use crate::wellformed::has_bit;
+use policy::nodes::byte_in;
+use policy::nodes::node_at;
+use policy::nodes::word_in;
+use policy::nodes::has_bit;
 use crate::Givers;
-use crate::Permissions;
-use crate::Span;
+use policy::Node;
+use policy::Permissions;
+use policy::Span;
 use crate::Total;
-use crate::Trees;
+use policy::Trees;
 use reading::paths;
 use reading::Path;
 
@@ -39,6 +44,32 @@ pub fn tree_for(trees: Trees, kind: usize) -> usize
     t
 }
 
+// How deep a node may stand to be reached, after a node: below one that is reached, one deeper than that.
+fn limit_after(node: Node, limit: usize, path: Path) -> usize
+    requires { ⌜ node .depth < 16 ⌝ }
+    ensures { λ r. ⌜ r ≡ cond (ltb limit (node .depth)) limit (cond (member (node .group) (pathOf path)) (node .depth + 1) (node .depth)) ⌝ }
+{
+    if limit < node.depth {
+        return limit;
+    }
+    if paths::has(path, node.group) {
+        node.depth + 1
+    } else {
+        node.depth
+    }
+}
+
+// Is a node of a group reached, where this is the limit after it?
+fn gives(node: Node, limit: usize, group: usize) -> bool
+    ensures { λ r. ⌜ r ≡ ltb (node .depth) limit && eqb (node .group) group ⌝ }
+{
+    if node.depth < limit {
+        node.group == group
+    } else {
+        false
+    }
+}
+
 // The row of the first node of a group that a path reaches in a tree, or 64.
 fn giver(nodes: &[usize], tree: Span, path: Path, group: usize) -> usize
     requires { ⌜ tree .to ≤ 64 ⌝ }
@@ -48,15 +79,9 @@ fn giver(nodes: &[usize], tree: Span, path: Path, group: usize) -> usize
     let mut i = tree.from;
     while i < tree.to {
         let node = node_at(nodes, i);
-        if node.depth <= limit {
-            if paths::has(path, node.group) {
-                if node.group == group {
-                    return i;
-                }
-                limit = node.depth + 1;
-            } else {
-                limit = node.depth;
-            }
+        limit = limit_after(node, limit, path);
+        if gives(node, limit, group) {
+            return i;
         }
         i += 1;
     }
@@ -74,9 +99,10 @@ pub fn givers(nodes: &[usize], tree: Span, path: Path) -> Givers
     let mut rows = [64usize; 8];
     let mut i: usize = 0;
     while i < 8 {
-        if i < len {
-            rows[i] = giver(nodes, tree, path, groups[i]);
+        if len <= i {
+            return Givers { rows, len };
         }
+        rows[i] = giver(nodes, tree, path, groups[i]);
         i += 1;
     }
     Givers { rows, len }
@@ -117,6 +143,14 @@ fn given_at(nodes: &[usize], row: usize) -> Permissions
     }
 }
 
+// Does a row give a flag?
+fn flag_at(nodes: &[usize], row: usize, value: usize) -> bool
+    requires { ⌜ 0 < value ⌝ }
+    ensures { λ r. ⌜ ((c : List ℕ) → r ≡ hasBit value (givenAt c (now (nodes .entry)) row .map)) ⌝ }
+{
+    has_bit(given_at(nodes, row).map, value)
+}
+
 // Is a flag granted?
 pub fn flag_granted(nodes: &[usize], givers: Givers, value: usize) -> bool
     requires { ⌜ 0 < value ⌝ }
@@ -129,7 +163,7 @@ pub fn flag_granted(nodes: &[usize], givers: Givers, value: usize) -> bool
         if len <= i {
             return false;
         }
-        if has_bit(given_at(nodes, rows[i]).map, value) {
+        if flag_at(nodes, rows[i], value) {
             return true;
         }
         i += 1;
@@ -172,6 +206,14 @@ fn join(total: Total, count: usize) -> Total
     }
 }
 
+// The stored count for a group that a row gives.
+fn count_at(c: &[u8], nodes: &[usize], row: usize, group: usize) -> usize
+    ensures { λ r. ⌜ storedCount r ≡ listedIn group (givenAt (now (c .entry)) (now (nodes .entry)) row .list) ⌝ }
+    ensures { λ r. ⌜ r < 65536 ⌝ }
+{
+    listed(c, given_at(nodes, row), group)
+}
+
 // The sum of what the path's groups grant for a group.
 pub fn count_granted(c: &[u8], nodes: &[usize], givers: Givers, group: usize) -> Total
     ensures { λ r. ⌜ totalOf r ≡ joinedAt group (now (c .entry)) (now (nodes .entry)) (givenRows givers) ⌝ }
@@ -187,7 +229,7 @@ pub fn count_granted(c: &[u8], nodes: &[usize], givers: Givers, group: usize) ->
         if len <= i {
             return total;
         }
-        total = join(total, listed(c, given_at(nodes, rows[i]), group));
+        total = join(total, count_at(c, nodes, rows[i], group));
         i += 1;
     }
     total

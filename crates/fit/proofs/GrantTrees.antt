@@ -1,0 +1,167 @@
+-- The tree of a kind in the table of a policy's nodes: which one it is, and questions 16 to 18 of an entry asked of its rows.
+use Prim.Native.Nat.{ℕ, zero, suc, _+_, _-_, _≤_, _<_}
+use mathlib.Core.Path.{_≡_, refl, sym, ap, _∙_}
+use mathlib.Core.Bool.{Bool, true, false, cond}
+use mathlib.Core.List.{List, [], _∷_, map}
+use mathlib.Core.Option.{Option, some, none as nothing}
+use native.Mathlib.Numerals.{add-one}
+use native.Mathlib.Omega.{arith}
+use borrow.Author.Tests.{le-ltb, lt-ltb, eq-eqb}
+use lib.Dec.{ltb, eqb, leb·suc-suc}
+use lib.ListN.{length, getD, take, drop, length-take, drop-of-length-le}
+use lib.Seq.{drop-cons, getD-take}
+use Rattle.reading.specs.Forms.{member}
+use Rattle.inference.specs.Lists.{every, any}
+use Rattle.inference.specs.Counts.{Count, atMost}
+use Rattle.inference.specs.Interface.{Entry, Permission, reading, writing, accessing, disclosing}
+use Rattle.policy.specs.Syntax.{Node, Tree, hasBit, alone}
+use Rattle.policy.specs.WellFormed.{groupsAt}
+use Rattle.policy.specs.Grants.{treeFor, reached, reachedIn, reachedFor, flagGranted, countGranted, joined, givenBy}
+use Rattle.policy.specs.Satisfies.{isTree, hasTree, pathReached, grantsOne}
+use Rattle.policy.specs.Rows.{flats, flatten}
+use Rattle.fit.specs.Givers.{givenAt, joinedAt, indexOf}
+use Rattle.policy.specs.Loads.{startOf, Holds, AllHeld, held-none, held-more}
+use Rattle.policy.specs.declared.Trees.{Trees}
+use Rattle.fit.proofs.GrantLaws.{giversIn, all-found, flag-given, counts-given}
+
+abbrev kindsOf : List Tree → List ℕ
+kindsOf policy = map (λ tree. tree .kind) policy
+
+-- What a kind's tree is, and that the t-th tree's rows hold it.
+pub record Lookup (c nodes : List ℕ) (trees : Trees) (kind : ℕ) (policy : List Tree) (t : ℕ) : Type 0 where
+  pub tree : Tree
+  pub is : treeFor kind policy ≡ some (tree .root)
+  pub held : Holds c nodes trees t tree
+
+-- The rows from `start` up to `end` are those of the kind's tree.
+pub record TreeRows (c nodes : List ℕ) (policy : List Tree) (kind start end : ℕ) : Type 0 where
+  pub root : Node
+  pub is : treeFor kind policy ≡ some root
+  pub fits : start + (end - start) ≤ 64
+  pub rows : flats c nodes start (end - start) ≡ flatten 0 (alone root)
+
+-- The first tree is of the kind, or it is a later one.
+module _ (kind : ℕ) (tree : Tree) (rest : List Tree) where
+  index-first : eqb (tree .kind) kind ≡ true → indexOf kind (kindsOf (tree ∷ rest)) ≡ 0
+  unfolding indexOf
+  index-first e = rw e
+
+  index-later : eqb (tree .kind) kind ≡ false → indexOf kind (kindsOf (tree ∷ rest)) ≡ suc (indexOf kind (kindsOf rest))
+  unfolding indexOf
+  index-later e = rw e
+
+  tree-first : eqb (tree .kind) kind ≡ true → treeFor kind (tree ∷ rest) ≡ some (tree .root)
+  unfolding treeFor
+  tree-first e = rw e
+
+  tree-later : eqb (tree .kind) kind ≡ false → treeFor kind (tree ∷ rest) ≡ treeFor kind rest
+  unfolding treeFor
+  tree-later e = rw e
+
+tree-or-none : (kind : ℕ) (policy : List Tree) → isTree (treeFor kind policy) ≡ ltb (indexOf kind (kindsOf policy)) (length policy)
+unfolding isTree treeFor indexOf
+tree-or-none kind [] = refl
+tree-or-none kind (tree ∷ rest) = go (eqb (tree .kind) kind) (tree-or-none kind rest)
+  where
+    go : (b : Bool) → isTree (treeFor kind rest) ≡ ltb (indexOf kind (kindsOf rest)) (length rest)
+        → isTree (cond b (some (tree .root)) (treeFor kind rest)) ≡ ltb (cond b 0 (suc (indexOf kind (kindsOf rest)))) (suc (length rest))
+    go true later = sym (lt-ltb 0 (suc (length rest)) (omega arith))
+    go false later = later ∙ sym (leb·suc-suc (suc (indexOf kind (kindsOf rest))) (length rest))
+
+module _ {c nodes : List ℕ} {trees : Trees} where
+  held-length : {t : ℕ} {policy : List Tree} → AllHeld c nodes trees t policy → t + length policy ≡ trees .len
+  held-length (held-none e) = omega (arith, e)
+  held-length (held-more h rest) = omega (arith, held-length rest)
+
+  held-kinds : {t : ℕ} {policy : List Tree} → trees .len ≤ length (trees .kinds) → AllHeld c nodes trees t policy
+      → drop t (take (trees .len) (trees .kinds)) ≡ kindsOf policy
+  held-kinds {t} k (held-none e) = drop-of-length-le (take (trees .len) (trees .kinds)) {i = t} (omega (arith, e, length-take (trees .len) (trees .kinds)))
+  held-kinds {t} k (held-more h rest) =
+      let l : t < trees .len = omega (arith, held-length rest) in
+      drop-cons (take (trees .len) (trees .kinds)) t 0 (omega (arith, length-take (trees .len) (trees .kinds)))
+      ∙ rw (getD-take, h .kind, held-kinds k rest)
+
+  moved : {kind s t : ℕ} {policy : List Tree} → s ≡ t → Lookup c nodes trees kind policy s → Lookup c nodes trees kind policy t
+  moved e l = rw e at l
+
+  -- Where the kind is found, its tree is held there.
+  found-at : (kind : ℕ) {t : ℕ} {policy : List Tree} → AllHeld c nodes trees t policy → indexOf kind (kindsOf policy) < length policy
+      → Lookup c nodes trees kind policy (t + indexOf kind (kindsOf policy))
+  found-at kind (held-none e) h = absurd (omega arith)
+  found-at kind {t} (held-more {tree} {rest} first others) h = go (eqb (tree .kind) kind) refl (λ k. found-at kind others k)
+    where
+      go : (b : Bool) → eqb (tree .kind) kind ≡ b → (indexOf kind (kindsOf rest) < length rest → Lookup c nodes trees kind rest (suc t + indexOf kind (kindsOf rest)))
+          → Lookup c nodes trees kind (tree ∷ rest) (t + indexOf kind (kindsOf (tree ∷ rest)))
+      go true e later = moved (omega (arith, index-first kind tree rest e)) (record { tree = tree; is = tree-first kind tree rest e; held = first })
+      go false e later =
+          let l : Lookup c nodes trees kind rest (suc t + indexOf kind (kindsOf rest)) = later (omega (arith, index-later kind tree rest e)) in
+          moved (omega (arith, index-later kind tree rest e)) (record { tree = l .tree; is = tree-later kind tree rest e ∙ l .is; held = l .held })
+
+-- A policy whose trees are held: its tree for a kind is the one that `tree_for` finds.
+module _ (c nodes : List ℕ) (trees : Trees) (policy : List Tree) (held : AllHeld c nodes trees 0 policy)
+    (few : trees .len ≤ 16) (kinds : length (trees .kinds) ≡ 16) (kind t : ℕ) (at : t ≡ indexOf kind (take (trees .len) (trees .kinds))) where
+  at-kind : t ≡ indexOf kind (kindsOf policy)
+  at-kind = at ∙ ap (indexOf kind) (held-kinds (omega arith) held)
+
+  pub has-tree : isTree (treeFor kind policy) ≡ ltb t (trees .len)
+  has-tree =
+      let n : length policy ≡ trees .len = omega (arith, held-length held) in
+      tree-or-none kind policy ∙ rw (sym at-kind, n)
+
+  -- Question 16 of an entry.
+  pub entry-tree : (e : Entry) → e .kind ≡ kind → hasTree policy e ≡ ltb t (trees .len)
+  unfolding hasTree
+  entry-tree e p = rw p has-tree
+
+  pub lookup : t < trees .len → Lookup c nodes trees kind policy t
+  lookup h = moved (omega (arith, at-kind)) (found-at kind held (omega (arith, at-kind, held-length held)))
+
+  pub tree-rows : t < trees .len → (start end : ℕ) → start ≡ startOf trees t → end ≡ getD (trees .ends) t 0 → TreeRows c nodes policy kind start end
+  tree-rows here start end p q = go (lookup here)
+    where
+      go : Lookup c nodes trees kind policy t → TreeRows c nodes policy kind start end
+      go l = record {
+          root = l .tree .root;
+          is = l .is;
+          fits = omega (arith, l .held .low, l .held .high);
+          rows = rw (p, q) (l .held .rows) }
+
+-- What these rows give to a path is what the policy grants it.
+module _ (c nodes : List ℕ) (policy : List Tree) (kind start end : ℕ) (tree : TreeRows c nodes policy kind start end)
+    (path rows : List ℕ) (given : rows ≡ giversIn c nodes path start (end - start)) where
+  reached-root : reachedFor policy kind path ≡ reached path (tree .root)
+  unfolding reachedFor reachedIn
+  reached-root = ap (reachedIn path) (tree .is)
+
+  pub path-reached : every (λ g. member g (groupsAt (reachedFor policy kind path))) path ≡ every (λ row. ltb row 64) rows
+  path-reached = rw (reached-root, given) (sym (all-found c nodes path start (end - start) (tree .root) (tree .fits) (tree .rows)))
+
+  pub flag-granted : (v : ℕ) → flagGranted v policy kind path ≡ any (λ row. hasBit v (givenAt c nodes row .map)) rows
+  unfolding flagGranted
+  flag-granted v = rw (reached-root, given) (sym (flag-given c nodes path start (end - start) (tree .root) (tree .fits) (tree .rows) v))
+
+  pub count-granted : (h : ℕ) → countGranted h policy kind path ≡ joinedAt h c nodes rows
+  unfolding countGranted
+  count-granted h = rw (reached-root, given) (sym (counts-given c nodes path start (end - start) (tree .root) (tree .fits) (tree .rows) h))
+
+  -- Questions 17 and 18 of an entry.
+  module _ (e : Entry) (of-kind : e .kind ≡ kind) (of-path : e .component .path ≡ path) where
+    pub entry-reached : pathReached policy e ≡ every (λ row. ltb row 64) rows
+    unfolding pathReached
+    entry-reached = rw (of-kind, of-path) path-reached
+
+    pub entry-reading : grantsOne policy e reading ≡ any (λ row. hasBit 1 (givenAt c nodes row .map)) rows
+    unfolding grantsOne
+    entry-reading = rw (of-kind, of-path) (flag-granted 1)
+
+    pub entry-writing : grantsOne policy e writing ≡ any (λ row. hasBit 2 (givenAt c nodes row .map)) rows
+    unfolding grantsOne
+    entry-writing = rw (of-kind, of-path) (flag-granted 2)
+
+    pub entry-accessing : grantsOne policy e accessing ≡ any (λ row. hasBit 4 (givenAt c nodes row .map)) rows
+    unfolding grantsOne
+    entry-accessing = rw (of-kind, of-path) (flag-granted 4)
+
+    pub entry-disclosing : (h : ℕ) (count : Count) → grantsOne policy e (disclosing h count) ≡ atMost count (joinedAt h c nodes rows)
+    unfolding grantsOne
+    entry-disclosing h count = rw (of-kind, of-path) (ap (atMost count) (count-granted h))

@@ -1,0 +1,52 @@
+-- The rows of the table of nodes that give to a path, and what they give together: the code's view of "reached" and of the
+-- grant (`GrantLaws`, `GrantTrees` of proofs/ tie it to document 01's definitions).
+use Prim.Native.Nat.{ℕ, zero, suc, _+_}
+use mathlib.Core.List.{List, [], _∷_}
+use mathlib.Core.Bool.{Bool, true, false, cond}
+use lib.ListN.{take}
+use lib.Dec.{ltb, eqb}
+use Rattle.reading.specs.Forms.{member}
+use Rattle.inference.specs.Counts.{Count, fin, unlimited, _⊕_}
+use Rattle.policy.specs.Syntax.{Permissions, Head}
+use Rattle.policy.specs.Grants.{listed}
+use Rattle.policy.specs.Rows.{nodeAt, permissionsOf, Flat}
+use Rattle.fit.specs.declared.Total.{Total}
+use Rattle.fit.specs.declared.Givers.{Givers}
+
+-- The nodes of a tree's rows that a path reaches: a node at a depth above `limit` stands below one that is not reached.
+unfoldable pub reachedIn : List ℕ → ℕ → List Flat → List Head
+reachedIn path limit [] = []
+reachedIn path limit (f ∷ later) =
+    cond (ltb limit (f .depth)) (reachedIn path limit later)
+    (cond (member (f .head .group) path) (f .head ∷ reachedIn path (f .depth + 1) later) (reachedIn path (f .depth) later))
+
+-- The row of the first reached node of a group, or 64; `row` is that of the first of the nodes.
+unfoldable pub giverIn : List ℕ → ℕ → ℕ → ℕ → List Flat → ℕ
+giverIn path g limit row [] = 64
+giverIn path g limit row (f ∷ later) =
+    cond (ltb limit (f .depth)) (giverIn path g limit (row + 1) later)
+    (cond (member (f .head .group) path)
+    (cond (eqb (f .head .group) g) row (giverIn path g (f .depth + 1) (row + 1) later))
+    (giverIn path g (f .depth) (row + 1) later))
+
+-- the rows that give to a path
+abbrev pub givenRows : Givers → List ℕ
+givenRows g = take (g .len) (g .rows)
+
+-- What a giver gives: the permissions of its row, nothing at 64.
+unfoldable pub givenAt : List ℕ → List ℕ → ℕ → Permissions
+givenAt c nodes row = cond (ltb row 64) (permissionsOf c (nodeAt nodes row .permissions)) (record { map = 0; list = [] })
+
+-- A sum of counts as a count.
+unfoldable pub totalOf : Total → Count
+totalOf t = cond (t .unlimited) unlimited (fin (t .sum))
+
+-- the counts for group h that rows give, joined
+unfoldable pub joinedAt : ℕ → List ℕ → List ℕ → List ℕ → Count
+joinedAt h c nodes [] = fin 0
+joinedAt h c nodes (row ∷ rest) = listed h (givenAt c nodes row .list) ⊕ joinedAt h c nodes rest
+
+-- which of a list of kinds is the first to be k; their number where none is
+unfoldable pub indexOf : ℕ → List ℕ → ℕ
+indexOf k [] = 0
+indexOf k (x ∷ xs) = cond (eqb x k) 0 (suc (indexOf k xs))

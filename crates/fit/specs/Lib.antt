@@ -1,0 +1,3 @@
+-- What the contracts of grants and of satisfaction cite.
+pub mod Givers
+pub mod Faults
