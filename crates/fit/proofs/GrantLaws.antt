@@ -1,8 +1,8 @@
 -- What a path reaches in a tree and what the reached nodes give, read off the tree's rows: the same as the definitions over the
 -- tree itself. A subtree's rows stand deeper than those that follow it, so a depth says where what lies below a node ends.
-use Prim.Native.Nat.{ℕ, zero, suc, _+_, _-_, _≤_, _<_}
+use Prim.Native.Nat.{ℕ, zero, suc, _+_, _≤_, _<_}
 use mathlib.Core.Path.{_≡_, refl, sym, ap, _∙_}
-use mathlib.Core.Bool.{Bool, true, false, cond, _&&_, _||_}
+use mathlib.Core.Bool.{Bool, true, false, cond, _||_}
 use mathlib.Core.List.{List, [], _∷_, _++_, map, append-assoc, append-nil}
 use native.Mathlib.Nat.{le-refl}
 use native.Mathlib.Numerals.{add-one}
@@ -11,11 +11,10 @@ use borrow.Author.Tests.{le-ltb, lt-ltb}
 use lib.Dec.{ltb, eqb}
 use Rattle.reading.specs.Forms.{member}
 use Rattle.inference.specs.Lists.{every, any, rising}
-use Rattle.inference.specs.Counts.{Count, fin, _⊕_}
 use Rattle.policy.specs.Syntax.{Permissions, Node, Nodes, none, more, Head, alone, hasBit}
 use Rattle.policy.specs.WellFormed.{groupsAt}
-use Rattle.policy.specs.Grants.{reachedAmong, reached, givenBy, listed, joined}
-use Rattle.policy.specs.Rows.{Flat, nodeAt, flatOf, permissionsOf, flats, flatten}
+use Rattle.policy.specs.Grants.{reachedAmong, reached, givenBy, joined}
+use Rattle.policy.specs.Rows.{Flat, nodeAt, flatOf, flats, flatten}
 use Rattle.fit.specs.Givers.{reachedIn, giverIn, givenAt, joinedAt}
 
 -- Rows that begin at a depth of at most d, or end.
@@ -91,9 +90,9 @@ unfolding reached reachedIn
 reached-tree path root =
     ap (reachedIn path 0) (sym (append-nil (flatten 0 (alone root)))) ∙ reached-rows path 0 (alone root) [] ends ∙ append-nil (reachedAmong path (alone root))
 
-pub flats-more : (c nodes : List ℕ) (start n : ℕ) → flats c nodes start (suc n) ≡ flatOf c (nodeAt nodes start) ∷ flats c nodes (start + 1) n
+flats-suc : (c nodes : List ℕ) (start n : ℕ) → flats c nodes start (suc n) ≡ flatOf c (nodeAt nodes start) ∷ flats c nodes (start + 1) n
 unfolding flats rising
-flats-more c nodes start n = rw add-one
+flats-suc c nodes start n = rw add-one
 
 or-cond : (a b : Bool) → a || b ≡ cond a true b
 or-cond true b = refl
@@ -126,7 +125,7 @@ module _ {C : Type 0} (c nodes path : List ℕ) (g : ℕ) (at : ℕ → C) (of :
       → at (giverIn path g limit start (flats c nodes start n)) ≡ of (reachedIn path limit (flats c nodes start n))
   giver-tells zero start limit h = no-row start limit
   giver-tells (suc n) start limit h =
-      rw (flats-more c nodes start n)
+      rw (flats-suc c nodes start n)
       (one-row (flatOf c (nodeAt nodes start)) (flats c nodes (start + 1) n) start limit (at-row start (omega arith))
       (λ l. giver-tells n (start + 1) l (omega arith)))
 

@@ -1,34 +1,31 @@
 -- The loops of src/grants.rt, step by step: each keeps an equation between what is asked of the whole list and of what is left
 -- of it.
-use Prim.Native.Nat.{ℕ, zero, suc, _+_, _-_, _*_, _%_, _≤_, _<_}
+use Prim.Native.Nat.{ℕ, _+_, _-_, _*_, _≤_, _<_}
 use mathlib.Core.Path.{_≡_, refl, sym, ap, _∙_}
-use mathlib.Core.Bool.{Bool, true, false, cond, _&&_, _||_}
+use mathlib.Core.Bool.{Bool, true, false, cond, _&&_}
 use mathlib.Core.List.{List, [], _∷_, _++_, map, append-assoc, append-nil}
-use native.Mathlib.Nat.{mod-lt}
-use native.Mathlib.Numerals.{add-one, sub-one}
+use native.Mathlib.Numerals.{add-one}
 use native.Mathlib.Omega.{arith}
-use borrow.Author.Tests.{ltb-true, ltb-false, le-ltb, lt-ltb, eq-eqb, ne-eqb, eqb-true}
+use borrow.Author.Tests.{ltb-true, le-ltb, lt-ltb, eq-eqb, ne-eqb}
 use lib.Dec.{ltb, eqb}
 use lib.ListN.{length, getD, take, drop, set, length-take, length-set, drop-of-length-le}
-use lib.Seq.{drop-cons, getD-take, take-suc-set, take-all}
+use lib.Seq.{drop-cons, getD-take, take-all}
 use Rattle.reading.specs.Forms.{member}
-use Rattle.reading.proofs.Tests.{tests}
 use Rattle.reading.proofs.PathLaws.{one-more}
-use Rattle.inference.specs.Lists.{every, any, rising}
+use Rattle.inference.specs.Lists.{every, any}
 use Rattle.inference.specs.Counts.{Count, fin, unlimited, _⊕_}
-use Rattle.policy.specs.Syntax.{Granted, hasBit}
+use Rattle.policy.specs.Syntax.{hasBit}
 use Rattle.policy.specs.Grants.{storedCount, listed}
 use Rattle.policy.specs.Rows.{Flat, nodeAt, wordIn, itemsAt, permissionsOf, flatOf, flats}
 use Rattle.fit.specs.Givers.{giverIn, givenAt, totalOf, joinedAt, indexOf}
 use Rattle.policy.specs.declared.Node.{Node}
 use Rattle.policy.specs.declared.Permissions.{Permissions as Stored}
 use Rattle.fit.specs.declared.Total.{Total}
-use Rattle.fit.proofs.GrantLaws.{flats-more}
+use Rattle.policy.proofs.NodeLaws.{node-steps}
+use Rattle.policy.proofs.RowLaws.{flats-more, flats-none, items-more, items-none, items-all}
+use Rattle.policy.proofs.KindSteps.{kinds-none}
 
--- The first n of a list, from the i-th on: empty, or the i-th and what follows.
-none-left : (l : List ℕ) (n i : ℕ) → n ≤ i → drop i (take n l) ≡ []
-none-left l n i h = drop-of-length-le (take n l) {i = i} (omega (arith, length-take n l))
-
+-- The first n of a list, from the i-th on: none past its end, before it the i-th and what follows.
 past-end : (l : List ℕ) (n i : ℕ) → length l ≤ i → drop i (take n l) ≡ []
 past-end l n i h = drop-of-length-le (take n l) {i = i} (omega (arith, length-take n l))
 
@@ -36,26 +33,26 @@ one-left : (l : List ℕ) (n i : ℕ) → i < n → i < length l → drop i (tak
 one-left l n i h k = rw (drop-cons (take n l) i 0 (omega (arith, length-take n l)), getD-take, add-one)
 
 -- The search for a kind has come to place i.
-pub record KindSoFar (kind n : ℕ) (l : List ℕ) (i : ℕ) : Type 0 where
+pub record TreeSoFar (kind n : ℕ) (l : List ℕ) (i : ℕ) : Type 0 where
   pub same : indexOf kind (take n l) ≡ i + indexOf kind (drop i (take n l))
 
-pub kind-starts : (kind n : ℕ) (l : List ℕ) → KindSoFar kind n l 0
-kind-starts kind n l = record { same = omega arith }
+pub tree-starts : (kind n : ℕ) (l : List ℕ) → TreeSoFar kind n l 0
+tree-starts kind n l = record { same = omega arith }
 
-module _ (kind n : ℕ) (l : List ℕ) (i : ℕ) (s : KindSoFar kind n l i) where
-  pub kind-ends : n ≤ i → i ≡ indexOf kind (take n l)
+module _ (kind n : ℕ) (l : List ℕ) (i : ℕ) (s : TreeSoFar kind n l i) where
+  pub tree-ends : n ≤ i → i ≡ indexOf kind (take n l)
   unfolding indexOf
-  kind-ends h = omega (arith, rw (none-left l n i h) at (s .same))
+  tree-ends h = omega (arith, rw (kinds-none l n i h) at (s .same))
 
-  pub kind-here : n ≤ 16 → length l ≡ 16 → i < n → getD l i 0 ≡ kind → i ≡ indexOf kind (take n l)
+  pub tree-here : n ≤ 16 → length l ≡ 16 → i < n → getD l i 0 ≡ kind → i ≡ indexOf kind (take n l)
   unfolding indexOf
-  kind-here j k h q = omega (arith, rw (one-left l n i h (omega arith), eq-eqb (getD l i 0) kind q) at (s .same))
+  tree-here j k h q = omega (arith, rw (one-left l n i h (omega arith), eq-eqb (getD l i 0) kind q) at (s .same))
 
-  pub kind-next : n ≤ 16 → length l ≡ 16 → i < n → (getD l i 0 ≡ kind → ⊥) → KindSoFar kind n l (i + 1)
+  pub tree-next : n ≤ 16 → length l ≡ 16 → i < n → (getD l i 0 ≡ kind → ⊥) → TreeSoFar kind n l (i + 1)
   unfolding indexOf
-  kind-next j k h q = record { same = omega (arith, rw (one-left l n i h (omega arith), ne-eqb (getD l i 0) kind q) at (s .same)) }
+  tree-next j k h q = record { same = omega (arith, rw (one-left l n i h (omega arith), ne-eqb (getD l i 0) kind q) at (s .same)) }
 
-pub ruleset kind-steps = (tests, kind-starts, kind-ends, kind-here, kind-next)
+pub ruleset tree-steps = (node-steps, tree-starts, tree-ends, tree-here, tree-next)
 
 -- Whether each row gives.
 pub record AllSoFar (n : ℕ) (l : List ℕ) (i : ℕ) : Type 0 where
@@ -67,7 +64,7 @@ all-starts n l = record { same = refl }
 module _ (n : ℕ) (l : List ℕ) (i : ℕ) (s : AllSoFar n l i) where
   pub all-end : n ≤ i → true ≡ every (λ row. ltb row 64) (take n l)
   unfolding every
-  all-end h = sym (rw (none-left l n i h) at (s .same))
+  all-end h = sym (rw (kinds-none l n i h) at (s .same))
 
   pub all-eight : length l ≡ 8 → 8 ≤ i → true ≡ every (λ row. ltb row 64) (take n l)
   unfolding every
@@ -81,7 +78,7 @@ module _ (n : ℕ) (l : List ℕ) (i : ℕ) (s : AllSoFar n l i) where
   unfolding every
   all-next k j h q = record { same = rw (one-left l n i h (omega arith), lt-ltb (getD l i 0) 64 q) at (s .same) }
 
-pub ruleset all-steps = (tests, all-starts, all-end, all-eight, all-missing, all-next)
+pub ruleset all-steps = (node-steps, all-starts, all-end, all-eight, all-missing, all-next)
 
 -- The limit after a node: below a node that is reached, one deeper than it; at one that is not, its depth.
 pub limit-below : (path : List ℕ) (g limit d : ℕ) (b : Bool) → d ≤ limit → b ≡ member g path → b ≡ true
@@ -91,10 +88,6 @@ limit-below path g limit d b h p q = rw (le-ltb limit d h, sym p, q)
 pub limit-beside : (path : List ℕ) (g limit d : ℕ) (b : Bool) → d ≤ limit → b ≡ member g path → b ≡ false
     → d ≡ cond (ltb limit d) limit (cond (member g path) (d + 1) d)
 limit-beside path g limit d b h p q = rw (le-ltb limit d h, sym p, q)
-
-pub depth-small : (nodes : List ℕ) (row : ℕ) (n : Node) → n ≡ nodeAt nodes row → n .depth < 16
-unfolding nodeAt
-depth-small nodes row n e = rw e (mod-lt (getD nodes (row * 5 + 4) 0) (omega arith))
 
 -- The search for a group's first reached node has come to row i.
 pub record GiverSoFar (nodes path : List ℕ) (g start end limit i : ℕ) : Type 0 where
@@ -119,24 +112,17 @@ giver-row path g limit row n c later = go (ltb limit (n .depth)) refl (member (n
     go false e true = rw (lt-ltb (n .depth) (n .depth + 1) (omega arith))
     go false e false = rw (le-ltb (n .depth) (n .depth) (omega arith))
 
-rows-left : (c nodes : List ℕ) (i end : ℕ) → i < end → flats c nodes i (end - i) ≡ flatOf c (nodeAt nodes i) ∷ flats c nodes (i + 1) (end - (i + 1))
-rows-left c nodes i end h =
-    let e : end - i ≡ suc (end - (i + 1)) = omega arith in
-    rw e (flats-more c nodes i (end - (i + 1)))
-
 module _ (nodes path : List ℕ) (g start end limit i : ℕ) (s : GiverSoFar nodes path g start end limit i) where
   pub giver-ends : end ≤ i → (c : List ℕ) → 64 ≡ giverIn path g 0 start (flats c nodes start (end - start))
-  unfolding giverIn flats rising
-  giver-ends h c =
-      let e : end - i ≡ 0 = omega arith in
-      sym (rw e at (s .same c))
+  unfolding giverIn
+  giver-ends h c = sym (rw (flats-none c nodes i end h) at (s .same c))
 
   -- At row i, with the node there, the limit after it, and whether it gives.
   module _ (h : i < end) (n : Node) (at : n ≡ nodeAt nodes i) (l : ℕ)
       (after : l ≡ cond (ltb limit (n .depth)) limit (cond (member (n .group) path) (n .depth + 1) (n .depth)))
       (b : Bool) (found : b ≡ ltb (n .depth) l && eqb (n .group) g) where
     at-row : (c : List ℕ) → giverIn path g 0 start (flats c nodes start (end - start)) ≡ cond b i (giverIn path g l (i + 1) (flats c nodes (i + 1) (end - (i + 1))))
-    at-row c = rw (s .same c, rows-left c nodes i end h, ← at, found, after) (giver-row path g limit i n c (flats c nodes (i + 1) (end - (i + 1))))
+    at-row c = rw (s .same c, flats-more c nodes i end h, ← at, found, after) (giver-row path g limit i n c (flats c nodes (i + 1) (end - (i + 1))))
 
     pub giver-here : b ≡ true → (c : List ℕ) → i ≡ giverIn path g 0 start (flats c nodes start (end - start))
     giver-here e c = sym (rw e at (at-row c))
@@ -144,7 +130,7 @@ module _ (nodes path : List ℕ) (g start end limit i : ℕ) (s : GiverSoFar nod
     pub giver-next : b ≡ false → GiverSoFar nodes path g start end l (i + 1)
     giver-next e = record { same = λ c. rw e at (at-row c) }
 
-pub ruleset giver-steps = (tests, limit-below, limit-beside, depth-small, giver-starts, giver-ends, giver-here, giver-next)
+pub ruleset giver-steps = (node-steps, limit-below, limit-beside, giver-starts, giver-ends, giver-here, giver-next)
 
 -- The givers of a path's first i groups are found.
 pub record GiversSoFar (nodes : List ℕ) (start end n : ℕ) (groups rows : List ℕ) (i : ℕ) : Type 0 where
@@ -164,7 +150,7 @@ module _ (nodes : List ℕ) (start end n : ℕ) (groups rows : List ℕ) (i : �
   pub givers-end : n ≤ i → (c : List ℕ) → take n rows ≡ map (λ g. giverIn (take n groups) g 0 start (flats c nodes start (end - start))) (take n groups)
   givers-end h =
       let e : n ≡ i = omega (arith, s .few) in
-      no-group-left (none-left groups n i h) (ap (λ m. take m rows) e)
+      no-group-left (kinds-none groups n i h) (ap (λ m. take m rows) e)
 
   pub givers-eight : length groups ≡ 8 → 8 ≤ i → (c : List ℕ) → take n rows ≡ map (λ g. giverIn (take n groups) g 0 start (flats c nodes start (end - start))) (take n groups)
   givers-eight k h =
@@ -175,11 +161,12 @@ module _ (nodes : List ℕ) (start end n : ℕ) (groups rows : List ℕ) (i : �
       → ((c : List ℕ) → v ≡ giverIn (take n groups) (getD groups i 0) 0 start (flats c nodes start (end - start)))
       → GiversSoFar nodes start end n groups (set rows i v) (i + 1)
   givers-next k j h v q = record {
-      whole = λ c. rw (one-more rows i v (s .long) j, append-assoc, q c) (rw (one-left groups n i h (omega arith)) at (s .whole c));
-      few = omega arith;
-      long = length-set rows i v ∙ s .long }
+    whole = λ c. rw (one-more rows i v (s .long) j, append-assoc, q c) (rw (one-left groups n i h (omega arith)) at (s .whole c));
+    few = omega arith;
+    long = length-set rows i v ∙ s .long;
+  }
 
-pub ruleset givers-steps = (tests, givers-start, givers-end, givers-eight, givers-next)
+pub ruleset givers-steps = (node-steps, givers-start, givers-end, givers-eight, givers-next)
 
 -- What a row gives, and that its list is one that the table can hold.
 pub row-given : (nodes : List ℕ) (row : ℕ) (n : Node) → row < 64 → n ≡ nodeAt nodes row → (c : List ℕ) → permissionsOf c (n .permissions) ≡ givenAt c nodes row
@@ -189,14 +176,6 @@ row-given nodes row n h e c = rw (lt-ltb row 64 h, e)
 pub none-given : (nodes : List ℕ) (row : ℕ) → 64 ≤ row → (c : List ℕ) → permissionsOf c (record { map = 0; list = 0; count = 0 }) ≡ givenAt c nodes row
 unfolding givenAt permissionsOf itemsAt
 none-given nodes row h c = rw (le-ltb row 64 h)
-
-pub list-small : (nodes : List ℕ) (row : ℕ) (n : Node) → n ≡ nodeAt nodes row → n .permissions .list < 8192
-unfolding nodeAt
-list-small nodes row n e = rw e (mod-lt (getD nodes (row * 5 + 2) 0) (omega arith))
-
-pub count-small : (nodes : List ℕ) (row : ℕ) (n : Node) → n ≡ nodeAt nodes row → n .permissions .count < 128
-unfolding nodeAt
-count-small nodes row n e = rw e (mod-lt (getD nodes (row * 5 + 3) 0) (omega arith))
 
 pub flag-row : (nodes : List ℕ) (row value : ℕ) (p : Stored) (b : Bool) → ((c : List ℕ) → permissionsOf c p ≡ givenAt c nodes row) → b ≡ hasBit value (p .map)
     → (c : List ℕ) → b ≡ hasBit value (givenAt c nodes row .map)
@@ -208,7 +187,7 @@ pub count-row : (c nodes : List ℕ) (row group : ℕ) (p : Stored) (n : ℕ) �
 unfolding permissionsOf
 count-row c nodes row group p n e q = rw (← e c) q
 
-pub ruleset given-steps = (tests, row-given, none-given, list-small, count-small, flag-row, count-row)
+pub ruleset given-steps = (node-steps, row-given, none-given, flag-row, count-row)
 
 -- Whether a row gives a flag.
 pub record FlagSoFar (value : ℕ) (nodes : List ℕ) (n : ℕ) (l : List ℕ) (i : ℕ) : Type 0 where
@@ -220,7 +199,7 @@ flag-starts value nodes n l = record { same = λ c. refl }
 module _ (value : ℕ) (nodes : List ℕ) (n : ℕ) (l : List ℕ) (i : ℕ) (s : FlagSoFar value nodes n l i) where
   pub flag-end : n ≤ i → (c : List ℕ) → false ≡ any (λ row. hasBit value (givenAt c nodes row .map)) (take n l)
   unfolding any
-  flag-end h c = sym (rw (none-left l n i h) at (s .same c))
+  flag-end h c = sym (rw (kinds-none l n i h) at (s .same c))
 
   pub flag-eight : length l ≡ 8 → 8 ≤ i → (c : List ℕ) → false ≡ any (λ row. hasBit value (givenAt c nodes row .map)) (take n l)
   unfolding any
@@ -235,43 +214,30 @@ module _ (value : ℕ) (nodes : List ℕ) (n : ℕ) (l : List ℕ) (i : ℕ) (s 
     unfolding any
     flag-next e = record { same = λ c. rw (one-left l n i h (omega arith), ← q c, e) at (s .same c) }
 
-pub ruleset flag-steps = (tests, flag-starts, flag-end, flag-eight, flag-here, flag-next)
+pub ruleset flag-steps = (node-steps, flag-starts, flag-end, flag-eight, flag-here, flag-next)
 
 -- The search for a group in a disclose list has come to item i.
 pub record ItemSoFar (c : List ℕ) (group n at i : ℕ) : Type 0 where
   pub same : listed group (itemsAt n c at) ≡ listed group (itemsAt (n - i) c (at + 3 * i))
 
 pub item-starts : (c : List ℕ) (group n at : ℕ) → ItemSoFar c group n at 0
-item-starts c group n at =
-    let e : n - 0 ≡ n = omega arith in
-    let p : at + 3 * 0 ≡ at = omega arith in
-    record { same = rw (e, p) }
-
-items-left : (c : List ℕ) (n at i : ℕ) → i < n
-    → itemsAt (n - i) c (at + 3 * i) ≡ record { group = getD c (at + 3 * i) 0; count = wordIn c (at + 3 * i + 1) } ∷ itemsAt (n - (i + 1)) c (at + 3 * (i + 1))
-unfolding itemsAt
-items-left c n at i h =
-    let e : n - i ≡ suc (n - (i + 1)) = omega arith in
-    let p : at + 3 * (i + 1) ≡ at + 3 * i + 3 = omega arith in
-    rw (e, p)
+item-starts c group n at = record { same = rw (items-all c n at) }
 
 module _ (c : List ℕ) (group n at i : ℕ) (s : ItemSoFar c group n at i) where
   pub item-ends : n ≤ i → storedCount 0 ≡ listed group (itemsAt n c at)
-  unfolding itemsAt listed storedCount
-  item-ends h =
-      let e : n - i ≡ 0 = omega arith in
-      sym (rw e at (s .same))
+  unfolding listed storedCount
+  item-ends h = sym (rw (items-none c n at i h) at (s .same))
 
   module _ (h : i < n) (b : ℕ) (q : b ≡ getD c (at + 3 * i) 0) where
     pub item-here : b ≡ group → (w : ℕ) → w ≡ wordIn c (at + 3 * i + 1) → storedCount w ≡ listed group (itemsAt n c at)
     unfolding listed
-    item-here e w p = rw (p) (sym (rw (items-left c n at i h, ← q, eq-eqb b group e) at (s .same)))
+    item-here e w p = rw (p) (sym (rw (items-more c n at i h, ← q, eq-eqb b group e) at (s .same)))
 
     pub item-next : (b ≡ group → ⊥) → ItemSoFar c group n at (i + 1)
     unfolding listed
-    item-next e = record { same = rw (items-left c n at i h, ← q, ne-eqb b group e) at (s .same) }
+    item-next e = record { same = rw (items-more c n at i h, ← q, ne-eqb b group e) at (s .same) }
 
-pub ruleset item-steps = (tests, item-starts, item-ends, item-here, item-next)
+pub ruleset item-steps = (node-steps, item-starts, item-ends, item-here, item-next)
 
 -- Counts joined.
 join-assoc : (a b d : Count) → (a ⊕ b) ⊕ d ≡ a ⊕ (b ⊕ d)
@@ -323,7 +289,7 @@ sum-starts group c nodes n l = record { whole = zero-join _; small = omega arith
 module _ (group : ℕ) (c nodes : List ℕ) (n : ℕ) (l : List ℕ) (t : Total) (i : ℕ) (s : SumSoFar group c nodes n l t i) where
   pub sum-end : n ≤ i → totalOf t ≡ joinedAt group c nodes (take n l)
   unfolding joinedAt
-  sum-end h = sym (join-zero (totalOf t)) ∙ (rw (none-left l n i h) at (s .whole))
+  sum-end h = sym (join-zero (totalOf t)) ∙ (rw (kinds-none l n i h) at (s .whole))
 
   pub sum-eight : length l ≡ 8 → 8 ≤ i → totalOf t ≡ joinedAt group c nodes (take n l)
   unfolding joinedAt
@@ -333,7 +299,8 @@ module _ (group : ℕ) (c nodes : List ℕ) (n : ℕ) (l : List ℕ) (t : Total)
       → (r : Total) → totalOf r ≡ totalOf t ⊕ storedCount w → r .sum ≤ t .sum + w → SumSoFar group c nodes n l r (i + 1)
   unfolding joinedAt
   sum-next k j h w q v r e m = record {
-      whole = rw (e, q) (join-assoc _ _ _ ∙ (rw (one-left l n i h (omega arith)) at (s .whole)));
-      small = omega (arith, s .small) }
+    whole = rw (e, q) (join-assoc _ _ _ ∙ (rw (one-left l n i h (omega arith)) at (s .whole)));
+    small = omega (arith, s .small);
+  }
 
-pub ruleset sum-steps = (tests, join-unlimited, join-finite, sum-starts, sum-end, sum-eight, sum-next)
+pub ruleset sum-steps = (node-steps, join-unlimited, join-finite, sum-starts, sum-end, sum-eight, sum-next)

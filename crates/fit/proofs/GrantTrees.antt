@@ -1,22 +1,21 @@
 -- The tree of a kind in the table of a policy's nodes: which one it is, and questions 16 to 18 of an entry asked of its rows.
-use Prim.Native.Nat.{ℕ, zero, suc, _+_, _-_, _≤_, _<_}
+use Prim.Native.Nat.{ℕ, suc, _+_, _-_, _≤_, _<_}
 use mathlib.Core.Path.{_≡_, refl, sym, ap, _∙_}
 use mathlib.Core.Bool.{Bool, true, false, cond}
 use mathlib.Core.List.{List, [], _∷_, map}
-use mathlib.Core.Option.{Option, some, none as nothing}
-use native.Mathlib.Numerals.{add-one}
+use mathlib.Core.Option.{some}
 use native.Mathlib.Omega.{arith}
-use borrow.Author.Tests.{le-ltb, lt-ltb, eq-eqb}
+use borrow.Author.Tests.{lt-ltb}
 use lib.Dec.{ltb, eqb, leb·suc-suc}
 use lib.ListN.{length, getD, take, drop, length-take, drop-of-length-le}
 use lib.Seq.{drop-cons, getD-take}
 use Rattle.reading.specs.Forms.{member}
 use Rattle.inference.specs.Lists.{every, any}
 use Rattle.inference.specs.Counts.{Count, atMost}
-use Rattle.inference.specs.Interface.{Entry, Permission, reading, writing, accessing, disclosing}
+use Rattle.inference.specs.Interface.{Entry, reading, writing, accessing, disclosing}
 use Rattle.policy.specs.Syntax.{Node, Tree, hasBit, alone}
 use Rattle.policy.specs.WellFormed.{groupsAt}
-use Rattle.policy.specs.Grants.{treeFor, reached, reachedIn, reachedFor, flagGranted, countGranted, joined, givenBy}
+use Rattle.policy.specs.Grants.{treeFor, reached, reachedIn, reachedFor, flagGranted, countGranted}
 use Rattle.policy.specs.Satisfies.{isTree, hasTree, pathReached, grantsOne}
 use Rattle.policy.specs.Rows.{flats, flatten}
 use Rattle.fit.specs.Givers.{givenAt, joinedAt, indexOf}
@@ -121,10 +120,11 @@ module _ (c nodes : List ℕ) (trees : Trees) (policy : List Tree) (held : AllHe
     where
       go : Lookup c nodes trees kind policy t → TreeRows c nodes policy kind start end
       go l = record {
-          root = l .tree .root;
-          is = l .is;
-          fits = omega (arith, l .held .low, l .held .high);
-          rows = rw (p, q) (l .held .rows) }
+        root = l .tree .root;
+        is = l .is;
+        fits = omega (arith, l .held .low, l .held .high);
+        rows = rw (p, q) (l .held .rows);
+      }
 
 -- What these rows give to a path is what the policy grants it.
 module _ (c nodes : List ℕ) (policy : List Tree) (kind start end : ℕ) (tree : TreeRows c nodes policy kind start end)

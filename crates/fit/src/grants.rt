@@ -1,32 +1,30 @@
 // What a policy grants a component: the nodes that its path reaches in the tree of a kind, and what they give together.
 ghost use mathlib.Core.Path.{_≡_};
+ghost use mathlib.Core.Bool.{cond, _&&_};
 ghost use mathlib.Core.List.{List, map};
 ghost use Prim.Native.Nat.{ℕ, _<_, _≤_, _+_, _-_};
-ghost use Rattle.inference.specs.Counts.{_⊕_};
-ghost use lib.ListN.{take};
 ghost use lib.Dec.{ltb, eqb};
-ghost use mathlib.Core.Bool.{_&&_};
+ghost use lib.ListN.{take};
+ghost use Rattle.reading.specs.Forms.{member};
 ghost use Rattle.reading.specs.Told.{pathOf};
+ghost use Rattle.inference.specs.Counts.{_⊕_};
 ghost use Rattle.inference.specs.Lists.{every, any};
 ghost use Rattle.policy.specs.Syntax.{hasBit};
 ghost use Rattle.policy.specs.Grants.{storedCount, listed as listedIn};
 ghost use Rattle.policy.specs.Rows.{itemsAt, permissionsOf, flats};
 ghost use Rattle.fit.specs.Givers.{indexOf, giverIn, givenRows, givenAt, totalOf, joinedAt};
-ghost use Rattle.reading.specs.Forms.{member};
-ghost use mathlib.Core.Bool.{cond};
-
-use policy::nodes::byte_in;
-use policy::nodes::node_at;
-use policy::nodes::word_in;
-use policy::nodes::has_bit;
 use crate::Givers;
 use policy::Node;
 use policy::Permissions;
 use policy::Span;
 use crate::Total;
 use policy::Trees;
-use reading::paths;
+use policy::nodes::byte_in;
+use policy::nodes::node_at;
+use policy::nodes::word_in;
+use policy::wellformed::has_bit;
 use reading::Path;
+use reading::paths;
 
 // The tree of a kind: its number, or the number of trees where there is none.
 pub fn tree_for(trees: Trees, kind: usize) -> usize
@@ -46,7 +44,7 @@ pub fn tree_for(trees: Trees, kind: usize) -> usize
 
 // How deep a node may stand to be reached, after a node: below one that is reached, one deeper than that.
 fn limit_after(node: Node, limit: usize, path: Path) -> usize
-    requires { ⌜ node .depth < 16 ⌝ }
+    requires { ⌜ node .depth < 8 ⌝ }
     ensures { λ r. ⌜ r ≡ cond (ltb limit (node .depth)) limit (cond (member (node .group) (pathOf path)) (node .depth + 1) (node .depth)) ⌝ }
 {
     if limit < node.depth {

@@ -96,5 +96,23 @@ module _ (k o : Known) (path : List ℕ) where
       → y ≡ fault (known k) (known o) path
   both-known t u e f p = rw (e, f) p
 
-pub ruleset need-steps = (tests, link-sends, link-receives, link-deeper, carried-sends, carried-receives, carried-deeper, no-channel,
-    on-channel, known-need, unknown-need, fails-eight, fails-nine, fails-ten, fails-none, no-such-channel, no-such-object, both-known)
+pub ruleset need-steps = (
+  tests,
+  link-sends,
+  link-receives,
+  link-deeper,
+  carried-sends,
+  carried-receives,
+  carried-deeper,
+  no-channel,
+  on-channel,
+  known-need,
+  unknown-need,
+  fails-eight,
+  fails-nine,
+  fails-ten,
+  fails-none,
+  no-such-channel,
+  no-such-object,
+  both-known,
+)

@@ -20,20 +20,23 @@ pub record Storing (row len : ℕ) (groups first table : List ℕ) (i : ℕ) : T
 
 pub store-first : (p : Path) (row len : ℕ) (t : List ℕ) → length (p .groups) ≡ 8 → len ≡ length (pathOf p) → Storing row len (p .groups) t t 0
 store-first p row len t h e = record {
-    left = let z : row + 1 + 0 ≡ row + 1 = omega arith in rw z;
-    same = refl;
-    few = omega (arith, length-take (p .len) (p .groups)) }
+  left = let z : row + 1 + 0 ≡ row + 1 = omega arith in rw z;
+  same = refl;
+  few = omega (arith, length-take (p .len) (p .groups));
+}
 
 pub store-next : (row len i : ℕ) (groups first t u : List ℕ) → Storing row len groups first t i → length groups ≡ 8 → i < len
     → u ≡ set t (row + 1 + i) (getD groups i 0 % 65536) → Storing row len groups first u (i + 1)
 unfolding stored
 store-next row len i groups first t u s g h e = record {
-    left = rw (e, lined) (rw (cut) at (s .left));
-    same = omega (arith, s .same, ap length e, length-set t (row + 1 + i) (getD groups i 0 % 65536));
-    few = s .few }
+  left = rw (e, lined) (rw (cut) at (s .left));
+  same = omega (arith, s .same, ap length e, length-set t (row + 1 + i) (getD groups i 0 % 65536));
+  few = s .few;
+}
   where
     lined : row + 1 + (i + 1) ≡ row + 1 + i + 1
     lined = omega arith
+
     cut : drop i (take len groups) ≡ getD groups i 0 ∷ drop (i + 1) (take len groups)
     cut = rw (drop-cons (take len groups) i 0 (omega (arith, length-take len groups, s .few)), getD-take, add-one)
 
@@ -49,10 +52,13 @@ store-last c len i p t first u s h e f = cut at-end (s .left) ∙ ap (λ (l : Li
   where
     at-end : drop i (take len (p .groups)) ≡ []
     at-end = drop-of-length-le (take len (p .groups)) {i = i} (omega (arith, length-take len (p .groups)))
+
     cut : {l m : List ℕ} → l ≡ [] → stored u (c * 1081 + 1 + i) l ≡ m → u ≡ m
     cut q r = rw q at r
+
     whole : take len (p .groups) ≡ pathOf p
     whole = rw f (take-own (p .len) (p .groups))
+
     begun : stored first (c * 1081 + 1) (pathOf p) ≡ stored (set t (c * 1081) (length (pathOf p) % 65536)) (c * 1081 + 1) (pathOf p)
     begun = rw (e, f)
 
@@ -68,12 +74,14 @@ copy-first row table = record { within = omega arith; full = refl; same = λ j h
 pub copy-next : (row i v : ℕ) (table groups : List ℕ) → Copied row table groups i → i < 8 → v ≡ getD table (row + (1 + i)) 0
     → Copied row table (set groups i v) (i + 1)
 copy-next row i v table groups s h e = record {
-    within = omega arith;
-    full = length-set groups i v ∙ s .full;
-    same = below-more (λ j. getD (set groups i v) j 0 ≡ getD table (row + (1 + j)) 0) i earlier here }
+  within = omega arith;
+  full = length-set groups i v ∙ s .full;
+  same = below-more (λ j. getD (set groups i v) j 0 ≡ getD table (row + (1 + j)) 0) i earlier here;
+}
   where
     earlier : (j : ℕ) → j < i → getD (set groups i v) j 0 ≡ getD table (row + (1 + j)) 0
     earlier j k = getD-set-other groups i j v 0 (λ q. omega arith) ∙ s .same j k
+
     here : getD (set groups i v) i 0 ≡ getD table (row + (1 + i)) 0
     here = getD-set-same groups i v 0 (omega (arith, s .full)) ∙ e
 

@@ -109,6 +109,27 @@ module _ (p : Path) (h : length (p .groups) ≡ 8) where
 pub no-row : (l : List ℕ) (r : ℕ) → length l ≤ r → 0 ≡ min (getD l r 0) (length l - (r + 1))
 no-row l r h = omega arith
 
-pub ruleset row-steps = (tests, in-scope, past-names, past-scope, unset, unread, bump-repeated, bump-once, bump-full, charge-set, charge-out,
-    charge-in-row, no-such-kind, no-such-column, charge-nothing, charge-read, charge-write, charge-access, charge-disclose,
-    len-below, len-full, no-row)
+pub ruleset row-steps = (
+  tests,
+  in-scope,
+  past-names,
+  past-scope,
+  unset,
+  unread,
+  bump-repeated,
+  bump-once,
+  bump-full,
+  charge-set,
+  charge-out,
+  charge-in-row,
+  no-such-kind,
+  no-such-column,
+  charge-nothing,
+  charge-read,
+  charge-write,
+  charge-access,
+  charge-disclose,
+  len-below,
+  len-full,
+  no-row,
+)

@@ -37,9 +37,10 @@ again (refused q p) = refl
 
 pub load-first : (count : ℕ) (s : List ℕ) (at : ℕ) (scope : List ℕ) → length scope ≡ 64 → Loading count s at scope at 0
 load-first count s at scope h = record {
-    few = omega arith;
-    long = h;
-    whole = λ k. let z : count - 0 ≡ count = omega arith in rw z (again (freeTypes count s at)) }
+  few = omega arith;
+  long = h;
+  whole = λ k. let z : count - 0 ≡ count = omega arith in rw z (again (freeTypes count s at));
+}
 
 -- One type more.
 one-read : (n : ℕ) (s : List ℕ) (at v next : ℕ) → 0 < n → typeAt s at ≡ got v next
@@ -64,12 +65,14 @@ module _ (count : ℕ) (s : List ℕ) (at : ℕ) (scope : List ℕ) (next names 
   pub load-next : (t : Number) (scope₁ : List ℕ) → r ≡ number-read.Found t → scope₁ ≡ set scope names (t .value)
       → Loading count s at scope₁ (t .next) (names + 1)
   load-next t scope₁ f b = record {
-      few = omega arith;
-      long = rw b (length-set scope names (t .value) ∙ o .long);
-      whole = λ k. o .whole k ∙ rw (step) (joined (freeTypes (count - names - 1) s (t .next)) (take names scope) (t .value)) ∙ more k }
+    few = omega arith;
+    long = rw b (length-set scope names (t .value) ∙ o .long);
+    whole = λ k. o .whole k ∙ rw (step) (joined (freeTypes (count - names - 1) s (t .next)) (take names scope) (t .value)) ∙ more k;
+  }
     where
       step : freeTypes (count - names) s next ≡ andThen (freeTypes (count - names - 1) s (t .next)) (λ ts m. got (t .value ∷ ts) m)
       step = one-read (count - names) s next (t .value) (t .next) (omega arith) (sym (rw f at e))
+
       more : count ≤ 64 → andThen (freeTypes (count - names - 1) s (t .next)) (λ us k. got ((take names scope ++ (t .value ∷ [])) ++ us) k)
           ≡ andThen (freeTypes (count - (names + 1)) s (t .next)) (λ us k. got (take (names + 1) scope₁ ++ us) k)
       more k =
@@ -82,6 +85,7 @@ module _ (count : ℕ) (s : List ℕ) (at : ℕ) (scope : List ℕ) (next names 
     where
       none : freeTypes (count - names) s next ≡ refused (q .question) (q .at)
       none = none-read (count - names) s next (q .question) (q .at) (omega arith) (sym (rw f at e))
+
       stopped : count ≤ 64 → freeTypes count s at ≡ refused (q .question) (q .at)
       stopped c = rw none at (o .whole c)
 
@@ -92,6 +96,7 @@ load-last count s at scope next names o h = record { loaded = λ ts k c g. told 
   where
     all : count ≤ 64 → freeTypes count s at ≡ got (take names scope ++ []) next
     all c = let z : count - names ≡ 0 = omega arith in rw z at (o .whole c)
+
     told : (ts : List ℕ) (k : ℕ) → got (take names scope ++ []) next ≡ got ts k → (names ≡ count) × (next ≡ k) × (take count scope ≡ ts)
     told ts k g =
         let l : take names scope ++ [] ≡ ts = cc in
@@ -119,6 +124,7 @@ module _ (s scope : List ℕ) (r : NumberRead) (e : number r ≡ below 33 s 0) w
     where
       small : c .value ≤ 64
       small = omega (arith, below-found 33 s 0 {b = c .value} {k = c .next} (sym (rw f at e)))
+
       told : (free : List ℕ) (at : ℕ) → header s ≡ got free at → (w .value ≡ length free) × (w .next ≡ at) × (take (length free) scope ≡ free)
       told free at g =
           let types : freeTypes (c .value) s (c .next) ≡ got free at = rw (← e, f) at g in
@@ -149,8 +155,9 @@ sheet-inferred s scope scope′ table table′ path r w e f h sheet end g =
     let l = f .loaded (sheet .free) (p .at) (p .free-types) in
     let t = system-total 64 s (length (sheet .free)) [] 0 (p .at) (sheet .system) (p .end) (p .body) in
     record {
-        first = rw (e, l .0, l .1, l .2, t) at (h .first);
-        number = let n : w .components ≡ 0 + components (sheet .system) = rw (e, l .0, l .1, t) at (h .number) in omega arith;
-        counted = rw (e, l .0, l .1, l .2, t) at (h .counted) }
+      first = rw (e, l .0, l .1, l .2, t) at (h .first);
+      number = let n : w .components ≡ 0 + components (sheet .system) = rw (e, l .0, l .1, t) at (h .number) in omega arith;
+      counted = rw (e, l .0, l .1, l .2, t) at (h .counted);
+    }
 
 pub ruleset sheet-steps = (needs, load-first, load-next, load-stop, load-last, no-header, header-loaded, sheet-inferred)

@@ -21,7 +21,7 @@ use Rattle.reading.specs.declared.FormRead.{FormRead}
 use Rattle.reading.specs.declared.FormRead.the-variants as form-read
 use Rattle.reading.specs.declared.Place.{Place}
 use Rattle.reading.specs.declared.Refusal.{Refusal}
-use Rattle.inference.proofs.WalkLaws.{worst-most, worstAll-append, chargedAll-append, bound, kept-below}
+use Rattle.inference.proofs.WalkLaws.{worst-most, worstAll-append, chargedAll-append, bound-in, kept-below, min-cong}
 use Rattle.inference.specs.Acts.{acts, actsOf, locate}
 use Rattle.inference.specs.Rows.{withPath}
 use Rattle.inference.specs.Walks.{worstAll, chargedAll, opens, Inferred, InferredAt}
@@ -31,10 +31,6 @@ use Rattle.inference.specs.declared.Walk.{Walk}
 pub with-least : (k a b m n : ℕ) → m ≡ min a b
     → _≡_ {A = SystemWalk} (record { next = k; fault = m; components = n }) (record { next = k; fault = min a b; components = n })
 with-least k a b m n e = rw e
-
-same-tree : {t u : Grown System} (posts : ℕ) (path : List ℕ) (names : ℕ) (scope scope′ table table′ : List ℕ) (r : SystemWalk) → t ≡ u
-    → InferredAt posts path u names scope scope′ table table′ r → InferredAt posts path t names scope scope′ table table′ r
-same-tree posts path names scope scope′ table table′ r e h = rw e h
 
 nothing : (t : Grown System) (at posts : ℕ) (path : List ℕ) (names : ℕ) (scope table : List ℕ) → t ≡ record { tree = nilₛ; next = at }
     → InferredAt posts path t names scope scope table table (record { next = at; fault = 11; components = posts })
@@ -71,9 +67,9 @@ module _ (n : ℕ) (s : List ℕ) (names : ℕ) (path : List ℕ) (posts at : �
 
     pub by-form : (p : Place) (w : SystemWalk) → r ≡ form-read.Found p
         → InferredAt posts path (systemGrown (λ ns l j m. systemTree (n - 1) s ns l j m) (λ m. processTree (n - 1) s names m) at names path posts (p .form) (p .next))
-          names scope scope′ table table′ w
+        names scope scope′ table table′ w
         → InferredAt posts path (systemTree n s names path posts at) names scope scope′ table table′ w
-    by-form p w h i = same-tree posts path names scope scope′ table table′ w (system-step n s names path posts at (p .form) (p .next) (found p h)) i
+    by-form p w h i = rw (system-step n s names path posts at (p .form) (p .next) (found p h)) i
 
 -- The arms of the match on a form.
 module _ (names : ℕ) (path : List ℕ) (posts : ℕ) (f : Form) (h : opens names path posts f ≡ true) where
@@ -95,69 +91,70 @@ module _ (names : ℕ) (path : List ℕ) (posts : ℕ) (f : Form) (h : opens nam
 
 module _ (grow : ℕ → List ℕ → ℕ → ℕ → Grown System) (process : ℕ → Grown Process) (at names : ℕ) (path : List ℕ) (posts : ℕ) (f : Form) (next : ℕ)
     (scope scope′ table table′ : List ℕ) where
-  pub form-nil : f ≡ Nil → InferredAt posts path (systemGrown grow process at names path posts f next) names scope scope table table
+  abbrev grown : Grown System
+  grown = systemGrown grow process at names path posts f next
+
+  pub form-nil : f ≡ Nil → InferredAt posts path grown names scope scope table table
       (record { next = next; fault = 11; components = posts })
   unfolding systemGrown
-  form-nil e = nothing (systemGrown grow process at names path posts f next) next posts path names scope table (rw e)
+  form-nil e = nothing grown next posts path names scope table (rw e)
 
-  pub form-input : (a : Fields) → f ≡ Input a → InferredAt posts path (systemGrown grow process at names path posts f next) names scope scope table table
+  pub form-input : (a : Fields) → f ≡ Input a → InferredAt posts path grown names scope scope table table
       (record { next = at; fault = 11; components = posts })
   unfolding systemGrown
-  form-input a e = nothing (systemGrown grow process at names path posts f next) at posts path names scope table (rw e)
+  form-input a e = nothing grown at posts path names scope table (rw e)
 
-  pub form-output : (a : Fields) → f ≡ Output a → InferredAt posts path (systemGrown grow process at names path posts f next) names scope scope table table
+  pub form-output : (a : Fields) → f ≡ Output a → InferredAt posts path grown names scope scope table table
       (record { next = at; fault = 11; components = posts })
   unfolding systemGrown
-  form-output a e = nothing (systemGrown grow process at names path posts f next) at posts path names scope table (rw e)
+  form-output a e = nothing grown at posts path names scope table (rw e)
 
-  pub form-repl : f ≡ Replicate → InferredAt posts path (systemGrown grow process at names path posts f next) names scope scope table table
+  pub form-repl : f ≡ Replicate → InferredAt posts path grown names scope scope table table
       (record { next = at; fault = 11; components = posts })
   unfolding systemGrown
-  form-repl e = nothing (systemGrown grow process at names path posts f next) at posts path names scope table (rw e)
+  form-repl e = nothing grown at posts path names scope table (rw e)
 
   module _ (w : SystemWalk) where
-    abbrev Done : Type 0
-    Done = InferredAt posts path (systemGrown grow process at names path posts f next) names scope scope′ table table′ w
-
     pub form-par : f ≡ Par
-        → InferredAt posts path (beside parₛ (grow names path posts next) (λ l m. grow names path (posts + components l) m)) names scope scope′ table table′ w → Done
+        → InferredAt posts path (beside parₛ (grow names path posts next) (λ l m. grow names path (posts + components l) m)) names scope scope′ table table′ w → InferredAt posts path grown names scope scope′ table table′ w
     unfolding systemGrown
     form-par e h = rw e h
 
-    pub form-new : (t : ℕ) → f ≡ New t → InferredAt posts path (under (newₛ t) (grow (names + 1) path posts next)) names scope scope′ table table′ w → Done
+    pub form-new : (t : ℕ) → f ≡ New t → InferredAt posts path (under (newₛ t) (grow (names + 1) path posts next)) names scope scope′ table table′ w → InferredAt posts path grown names scope scope′ table table′ w
     unfolding systemGrown
     form-new t e h = rw e h
 
-    pub form-head : (g : ℕ) → f ≡ Head g → InferredAt posts path (under (compₛ g) (process next)) names scope scope′ table table′ w → Done
+    pub form-head : (g : ℕ) → f ≡ Head g → InferredAt posts path (under (compₛ g) (process next)) names scope scope′ table table′ w → InferredAt posts path grown names scope scope′ table table′ w
     unfolding systemGrown
     form-head g e h = rw e h
 
     pub form-group : (g : ℕ) (deeper : List ℕ) → f ≡ Group g → opens names path posts f ≡ true
         → (ltb (length path) 8 ≡ true → deeper ≡ path ++ (g ∷ []))
-        → InferredAt posts deeper (grow names deeper posts next) names scope scope′ table table′ w → Done
+        → InferredAt posts deeper (grow names deeper posts next) names scope scope′ table table′ w → InferredAt posts path grown names scope scope′ table table′ w
     unfolding systemGrown under locate components
     form-group g deeper e o d h = let q = d (group-opens names path posts f o g e) in
         rw e (record {
-            place = rw q at (h .place);
-            first = rw q at (h .first);
-            number = rw q at (h .number);
-            counted = rw q at (h .counted);
-            kept = h .kept })
+          place = rw q at (h .place);
+          first = rw q at (h .first);
+          number = rw q at (h .number);
+          counted = rw q at (h .counted);
+          kept = h .kept;
+        })
 
 -- Under one name more.
 module _ (t : Grown System) (names u posts : ℕ) (path scope scope₁ scope′ table table′ : List ℕ) (w : SystemWalk) where
   pub under-new : scope₁ ≡ set scope names u → length scope ≡ 64 → names < 64 → InferredAt posts path t (names + 1) scope₁ scope′ table table′ w
       → InferredAt posts path (under (newₛ u) t) names scope scope′ table table′ w
   unfolding under locate components
-  under-new e l k h = record {
-      place = h .place;
-      first = rw (widened) at (h .first);
-      number = h .number;
-      counted = rw (widened) at (h .counted);
-      kept = kept-below scope scope₁ scope′ names u e (h .kept) }
-    where
-      widened : take (names + 1) scope₁ ≡ take names scope ++ (u ∷ [])
-      widened = rw e (bound scope names u (omega arith))
+  under-new e l k h =
+      let widened = bound-in scope scope₁ names u e (omega arith) in
+      record {
+        place = h .place;
+        first = rw widened at (h .first);
+        number = h .number;
+        counted = rw widened at (h .counted);
+        kept = kept-below scope scope₁ scope′ names u e (h .kept);
+      }
 
 -- A component.
 module _ (t : Grown Process) (names g posts : ℕ) (path own scope scope′ table table₁ table′ : List ℕ) (w : Walk) where
@@ -166,11 +163,12 @@ module _ (t : Grown Process) (names g posts : ℕ) (path own scope scope′ tabl
       → InferredAt posts path (under (compₛ g) t) names scope scope′ table table′ (record { next = w .next; fault = w .fault; components = posts + 1 })
   unfolding under locate components worstAll chargedAll actsOf
   component-found o d q h = record {
-      place = h .place;
-      first = once (rw (d o) at (h .first)) (worst-most _);
-      number = refl;
-      counted = rw (q, d o) at (h .counted);
-      kept = h .kept }
+    place = h .place;
+    first = once (rw (d o) at (h .first)) (worst-most _);
+    number = refl;
+    counted = rw (q, d o) at (h .counted);
+    kept = h .kept;
+  }
     where
       once : {a b : ℕ} → a ≡ b → b ≤ 11 → a ≡ min b 11
       once i j = omega arith
@@ -181,17 +179,36 @@ module _ (n : ℕ) (s : List ℕ) (names : ℕ) (path : List ℕ) (posts at : �
       → InferredAt (l .components) path (systemTree n s names path (l .components) (l .next)) names scope₁ scope′ table₁ table′ r
       → w ≡ record { next = r .next; fault = min (l .fault) (r .fault); components = r .components }
       → InferredAt posts path (beside parₛ (systemTree n s names path posts at) (λ p m. systemTree n s names path (posts + components p) m))
-        names scope scope′ table table′ w
+      names scope scope′ table table′ w
   unfolding beside under locate components
   after-left h i e = rw (e, ← h .place, ← h .number) (record {
-      place = i .place;
-      first = rw (worstAll-append) (rw (h .kept) at (firsts (h .first) (i .first)));
-      number = omega (arith, h .number, i .number);
-      counted = rw (chargedAll-append, ← h .counted) (rw (h .kept) at (i .counted));
-      kept = i .kept ∙ h .kept })
-    where
-      firsts : {a d x y : ℕ} → a ≡ x → d ≡ y → min a d ≡ min x y
-      firsts p q = rw (p, q)
+    place = i .place;
+    first = rw (worstAll-append) (min-cong (h .first) (rw (h .kept) at (i .first)));
+    number = omega (arith, h .number, i .number);
+    counted = rw (chargedAll-append, ← h .counted) (rw (h .kept) at (i .counted));
+    kept = i .kept ∙ h .kept;
+  })
 
-pub ruleset system-steps = (needs, with-least, nest-left, room-to-open, no-form, by-form, new-opens, group-opens, head-opens, head-number, form-nil, form-input,
-    form-output, form-repl, form-par, form-new, form-head, form-group, under-new, component-found, after-left)
+pub ruleset system-steps = (
+  needs,
+  with-least,
+  nest-left,
+  room-to-open,
+  no-form,
+  by-form,
+  new-opens,
+  group-opens,
+  head-opens,
+  head-number,
+  form-nil,
+  form-input,
+  form-output,
+  form-repl,
+  form-par,
+  form-new,
+  form-head,
+  form-group,
+  under-new,
+  component-found,
+  after-left,
+)

@@ -11,6 +11,9 @@ use Rattle.inference.specs.Needs.{needOf}
 use Rattle.inference.specs.Rows.{charge, withPath}
 use Rattle.inference.specs.Walks.{faultOf, worst, charged, worstAll, chargedAll}
 
+pub min-cong : {a b c d : ℕ} → a ≡ c → b ≡ d → min a b ≡ min c d
+min-cong p q = rw (p, q)
+
 -- The first question that fails is at most 11.
 min-assoc : (a b c : ℕ) → min (min a b) c ≡ min a (min b c)
 min-assoc a b c = omega arith
@@ -49,6 +52,9 @@ chargedAll-append t (l ∷ xs) ys =
 -- The scope after a name was bound, and what is kept of it.
 pub bound : (l : List ℕ) (n t : ℕ) → n < length l → take (n + 1) (set l n t) ≡ take n l ++ (t ∷ [])
 bound l n t h = rw add-one (take-suc-set l n t h)
+
+pub bound-in : (l m : List ℕ) (n t : ℕ) → m ≡ set l n t → n < length l → take (n + 1) m ≡ take n l ++ (t ∷ [])
+bound-in l m n t e h = rw e (bound l n t h)
 
 pub kept-below : (l m k : List ℕ) (n t : ℕ) → m ≡ set l n t → take (n + 1) k ≡ take (n + 1) m → take n k ≡ take n l
 kept-below l m k n t e h =

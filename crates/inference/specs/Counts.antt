@@ -9,7 +9,6 @@ pub data Count : Type 0 where
   unlimited : Count
 
 infixl 60 _⊕_
-
 -- joined
 unfoldable pub _⊕_ : Count → Count → Count
 _⊕_ (fin m) (fin n) = fin (m + n)

@@ -36,12 +36,13 @@ disclosuresOf kind acts =
 
 unfoldable pub entryOf : Component → List Act → ℕ → Entry
 entryOf c acts kind = record {
-    component = c;
-    kind = kind;
-    read = any (λ a. isRead kind (needOf a)) acts;
-    write = any (λ a. isWrite kind (needOf a)) acts;
-    access = any (λ a. isAccess kind (needOf a)) acts;
-    disclose = disclosuresOf kind acts }
+  component = c;
+  kind = kind;
+  read = any (λ a. isRead kind (needOf a)) acts;
+  write = any (λ a. isWrite kind (needOf a)) acts;
+  access = any (λ a. isAccess kind (needOf a)) acts;
+  disclose = disclosuresOf kind acts;
+}
 
 unfoldable pub isEmpty : {A : Type 0} → List A → Bool
 isEmpty [] = true

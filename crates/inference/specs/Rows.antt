@@ -63,12 +63,13 @@ disclosuresAt table component kind =
 -- the entry of a component and a kind that a table holds
 unfoldable pub entryAt : List ℕ → ℕ → ℕ → Entry
 entryAt table component kind = record {
-    component = record { number = component; path = pathAt table component };
-    kind = kind;
-    read = isSet (cell table component kind 64);
-    write = isSet (cell table component kind 65);
-    access = isSet (cell table component kind 66);
-    disclose = disclosuresAt table component kind }
+  component = record { number = component; path = pathAt table component };
+  kind = kind;
+  read = isSet (cell table component kind 64);
+  write = isSet (cell table component kind 65);
+  access = isSet (cell table component kind 66);
+  disclose = disclosuresAt table component kind;
+}
 
 -- the entries of a component that a table holds
 unfoldable pub rowEntries : List ℕ → ℕ → List Entry

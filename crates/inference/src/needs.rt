@@ -4,13 +4,12 @@ ghost use Rattle.reading.specs.Told.{pathOf};
 ghost use Rattle.inference.specs.Needs.{need, linkNeed, carriedNeed, needOn};
 ghost use Rattle.inference.specs.Walks.{fault};
 ghost use Rattle.inference.specs.Told.{known};
-
 use crate::Known;
 use crate::Need;
-use reading::paths;
-use reading::types::shape_of;
 use reading::Path;
 use reading::Shape;
+use reading::paths;
+use reading::types::shape_of;
 
 // An act on G[H[T]]: T plain.
 fn link_need(sends: bool, group: usize, inner: Shape) -> Need
@@ -43,7 +42,10 @@ fn carried_need(sends: bool, group: usize, carried: Shape) -> Need
                 Need::Read(kind)
             }
         }
-        Shape::Channel { group: _, carried: t } => link_need(sends, group, shape_of(t)),
+        Shape::Channel {
+            group: _,
+            carried: t,
+        } => link_need(sends, group, shape_of(t)),
     }
 }
 
@@ -75,11 +77,7 @@ fn typed_fault(channel: usize, object: usize, path: Path) -> usize
         Shape::Plain(_) => 8,
         Shape::Channel { group, carried } => {
             if carried == object {
-                if paths::has(path, group) {
-                    11
-                } else {
-                    10
-                }
+                if paths::has(path, group) { 11 } else { 10 }
             } else {
                 9
             }

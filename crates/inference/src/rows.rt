@@ -6,7 +6,6 @@ ghost use Prim.Native.Nat.{_+_, _-_, _%_, _<_, min};
 ghost use Rattle.reading.specs.Told.{pathOf};
 ghost use lib.ListN.{length, getD, set};
 ghost use Rattle.inference.specs.Rows.{bumped, charge, chargeAt, chargeCell, pathAt, withPath};
-
 use crate::Need;
 use reading::Path;
 
@@ -17,11 +16,7 @@ pub fn bump(count: u16, repeated: bool) -> u16
     if repeated {
         65535
     } else {
-        if count < 65534 {
-            count + 1
-        } else {
-            count
-        }
+        if count < 65534 { count + 1 } else { count }
     }
 }
 
@@ -40,7 +35,11 @@ fn charge_cell(table: &mut [u16], component: usize, kind: usize, column: usize, 
 {
     if kind < 16 {
         if column < 67 {
-            charge_at(table, component * 1081 + (9 + (kind * 67 + column)), repeated);
+            charge_at(
+                table,
+                component * 1081 + (9 + (kind * 67 + column)),
+                repeated,
+            );
         }
     }
 }
@@ -86,11 +85,7 @@ pub fn store_path(table: &mut [u16], component: usize, path: Path)
 pub fn cell_at(table: &[u16], at: usize) -> usize
     ensures { λ r. ⌜ r ≡ getD (now (table .entry)) at 0 ⌝ }
 {
-    if at < table.len() {
-        wide(table[at])
-    } else {
-        0
-    }
+    if at < table.len() { wide(table[at]) } else { 0 }
 }
 
 fn wide(x: u16) -> usize

@@ -2,7 +2,6 @@
 ghost use mathlib.Core.Path.{_≡_};
 ghost use lib.ListN.{take, set, getElem?};
 ghost use Rattle.inference.specs.Told.{known};
-
 use crate::Known;
 
 // The type of a name.

@@ -6,16 +6,15 @@ ghost use Rattle.reading.specs.Syntax.{Sheet};
 ghost use Rattle.reading.specs.Read.{got};
 ghost use Rattle.reading.specs.System.{readSheet};
 ghost use Rattle.inference.specs.Walks.{InferredSheet, LoadedTypes, LoadedFree};
-
-use crate::scope::bind;
-use crate::systems::infer_system;
 use crate::Spot;
 use crate::SystemWalk;
+use crate::scope::bind;
+use crate::systems::infer_system;
+use reading::Number;
+use reading::NumberRead;
 use reading::bytes::byte_below;
 use reading::paths;
 use reading::types::type_at;
-use reading::Number;
-use reading::NumberRead;
 
 // Binds the types that stand from a place on, `count` of them; the number bound and the place after them.
 fn load_types(s: &[u8], at: usize, count: usize, scope: &mut [usize]) -> Number

@@ -1,3 +1,4 @@
+-- What an act on a channel needs, by the shape of what the channel carries.
 use Rattle.inference.proofs.NeedSteps.{need-steps}
 use borrow.Author.Needs.{needs}
 use Rattle.inference.proofs.needs.carried_need.Statement.{statement}

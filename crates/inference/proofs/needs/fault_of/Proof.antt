@@ -1,3 +1,4 @@
+-- Questions 7 to 10 of one act: an unknown name fails question 7, else the typed questions answer.
 use Rattle.inference.proofs.NeedSteps.{need-steps}
 use borrow.Author.Needs.{needs}
 use Rattle.inference.proofs.needs.fault_of.Statement.{statement}

@@ -1,3 +1,4 @@
+-- What an act on a channel of channels needs: each return follows from the shape that was matched and from whether the act sends.
 use Rattle.inference.proofs.NeedSteps.{need-steps}
 use borrow.Author.Needs.{needs}
 use Rattle.inference.proofs.needs.link_need.Statement.{statement}

@@ -1,3 +1,4 @@
+-- What an act on a type needs: the shape of the type, then that of what it carries.
 use Rattle.inference.proofs.NeedSteps.{need-steps}
 use borrow.Author.Needs.{needs}
 use Rattle.inference.proofs.needs.need_of.Statement.{statement}

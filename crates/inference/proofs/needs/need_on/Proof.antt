@@ -1,3 +1,4 @@
+-- What an act needs where its channel's name may be out of scope.
 use Rattle.inference.proofs.NeedSteps.{need-steps}
 use borrow.Author.Needs.{needs}
 use Rattle.inference.proofs.needs.need_on.Statement.{statement}

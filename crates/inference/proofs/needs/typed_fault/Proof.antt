@@ -1,3 +1,4 @@
+-- Questions 8 to 10 of one act: the shape of the channel's type and the tests made on it fix the answer.
 use Rattle.inference.proofs.NeedSteps.{need-steps}
 use borrow.Author.Needs.{needs}
 use Rattle.inference.proofs.needs.typed_fault.Statement.{statement}

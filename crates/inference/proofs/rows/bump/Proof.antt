@@ -1,3 +1,4 @@
+-- One more: unlimited under a repeat, and no further than the largest finite count.
 use Rattle.inference.proofs.RowSteps.{row-steps}
 use borrow.Author.Needs.{needs}
 use Rattle.inference.proofs.rows.bump.Statement.{statement}

@@ -1,3 +1,4 @@
+-- A cell of the table, 0 past its end.
 use Rattle.inference.proofs.RowSteps.{row-steps}
 use borrow.Author.Needs.{needs}
 use Rattle.inference.proofs.rows.cell_at.Statement.{statement}

@@ -1,3 +1,4 @@
+-- One cell counted once more; past the table's end nothing is written.
 use Rattle.inference.proofs.RowSteps.{row-steps}
 use borrow.Author.Needs.{needs}
 use Rattle.inference.proofs.rows.charge_at.Statement.{statement}

@@ -1,3 +1,4 @@
+-- The cell of a component, a kind and a column, where there is such a kind and column.
 use Rattle.inference.proofs.RowSteps.{row-steps}
 use borrow.Author.Needs.{needs}
 use Rattle.inference.proofs.rows.charge_cell.Statement.{statement}

@@ -1,3 +1,4 @@
+-- What an act needs goes to its own column: each arm of the match is one clause of `charge`.
 use Rattle.inference.proofs.RowSteps.{row-steps}
 use borrow.Author.Needs.{needs}
 use Rattle.inference.proofs.rows.charge_need.Statement.{statement}

@@ -1,3 +1,4 @@
+-- A path's length is the number that it keeps, or 8 where that is more.
 use Rattle.inference.proofs.RowSteps.{row-steps}
 use Rattle.inference.proofs.rows.path_len.Statement.{statement}
 use Rattle.inference.proofs.rows.path_len.Tie as tie

@@ -1,3 +1,5 @@
+-- A path is read back group by group. The loop's invariant: each place passed holds what stands in the row. The measure is
+-- what is left of the eight places.
 use Prim.Native.Nat.{_-_}
 use Rattle.inference.proofs.PathRows.{Copied, path-rows}
 use borrow.Author.Needs.{needs}

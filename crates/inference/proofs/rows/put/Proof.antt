@@ -1,3 +1,4 @@
+-- A number written to a cell, cut to two bytes; past the table's end nothing is written.
 use Rattle.inference.proofs.RowSteps.{row-steps}
 use borrow.Author.Needs.{needs}
 use Rattle.inference.proofs.rows.put.Statement.{statement}

@@ -1,3 +1,5 @@
+-- A path is stored group by group. The loop's invariant: what is left to store makes of the table now what all of it makes of
+-- the table at first. The measure is what is left of the path.
 use borrow.Author.Needs.{needs}
 use Prim.Native.Nat.{_-_}
 use Rattle.inference.proofs.PathRows.{Storing, path-rows}

@@ -1,3 +1,4 @@
+-- Binding a name sets its level; past the end of the memory both the code and `set` leave the list as it is.
 use Rattle.inference.proofs.RowSteps.{row-steps}
 use borrow.Author.Needs.{needs}
 use Rattle.inference.proofs.scope.bind.Statement.{statement}

@@ -1,3 +1,4 @@
+-- The type of a name: the element at its level among the first `names`, and none past them or past the memory.
 use Rattle.inference.proofs.RowSteps.{row-steps}
 use borrow.Author.Needs.{needs}
 use Rattle.inference.proofs.scope.type_of.Statement.{statement}

@@ -1,3 +1,4 @@
+-- A whole sheet: the free names' types and the system that the reader reads are those that the walk goes over.
 use Rattle.inference.proofs.SheetSteps.{sheet-steps}
 use borrow.Author.Needs.{needs}
 use Rattle.inference.proofs.sheet.infer_within.Statement.{statement}

@@ -1,3 +1,4 @@
+-- The free names of a sheet: its count is below 33, so there is room for all of them.
 use Rattle.inference.proofs.SheetSteps.{sheet-steps}
 use borrow.Author.Needs.{needs}
 use Rattle.inference.proofs.sheet.load_free.Statement.{statement}

@@ -1,3 +1,5 @@
+-- Stored types are bound one after another. The loop's invariant: the types bound so far, followed by those still to be read,
+-- are those that there are in all. The measure is how many are left.
 use Rattle.inference.proofs.SheetSteps.{sheet-steps}
 use borrow.Author.Needs.{needs}
 use Prim.Native.Nat.{_-_}

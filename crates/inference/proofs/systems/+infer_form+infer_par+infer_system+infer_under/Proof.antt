@@ -1,3 +1,5 @@
+-- The walk over a system finds the components of the tree at its place. Each return is one lemma of SystemSteps; the measure
+-- is three times the nesting that is left, and a little more on the way from a form to its parts.
 use Rattle.inference.proofs.SystemSteps.{system-steps, under-new, nest-left}
 use native.Mathlib.Omega.{arith}
 use borrow.Author.Needs.{needs}
@@ -91,7 +93,11 @@ infer-under-returns : (t : ℕ) → infer-under-lts.Need-returns (
   infer-system.Post,
 ) (infer-under-at t) infer-under.Post
 infer-under-returns t c =
-    under-new _ _ _ _ _ _ _ _ _ _ _ (c .before .before .before .before .before .before .before .before .before .bind .ensures) (search needs) (search needs) (c .before .before .before .before .infer-system .ensures)
+    under-new _ _ _ _ _ _ _ _ _ _ _
+    (c .before .before .before .before .before .before .before .before .before .bind .ensures)
+    (search needs)
+    (search needs)
+    (c .before .before .before .before .infer-system .ensures)
 
 pub +infer-form+infer-par+infer-system+infer-under-spec : {M : Type 1} → statement M
 +infer-form+infer-par+infer-system+infer-under-spec =

@@ -1,3 +1,4 @@
+-- A component: its path is stored, then its process is walked, so the table has its path and then its acts.
 use Rattle.inference.proofs.SystemSteps.{component-found}
 use borrow.Author.Needs.{needs}
 use Rattle.inference.proofs.systems.infer_component.Statement.{statement}
@@ -5,7 +6,11 @@ use Rattle.inference.proofs.systems.infer_component.Tie as tie
 
 returns : tie.Need-returns
 returns c =
-    component-found _ _ _ _ _ _ _ _ _ _ _ _ (search needs) (c .before .before .before .before .before .before .before .before .before .before .before .with .ensures) (c .before .before .before .before .before .before .before .before .before .store-path .ensures) (c .before .before .before .before .infer-process .ensures)
+    component-found _ _ _ _ _ _ _ _ _ _ _ _
+    (search needs)
+    (c .before .before .before .before .before .before .before .before .before .before .before .with .ensures)
+    (c .before .before .before .before .before .before .before .before .before .store-path .ensures)
+    (c .before .before .before .before .infer-process .ensures)
 
 pub infer-component-spec : {M : Type 1} → statement M
 infer-component-spec =

@@ -1,3 +1,4 @@
+-- What a walk over a system found, with the first question that failed before it: the lesser number.
 use Rattle.inference.proofs.SystemSteps.{system-steps}
 use borrow.Author.Needs.{needs}
 use Rattle.inference.proofs.systems.with_fault.Statement.{statement}

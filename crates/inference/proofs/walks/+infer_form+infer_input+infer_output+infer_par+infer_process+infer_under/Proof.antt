@@ -1,3 +1,5 @@
+-- The walk over a process finds the acts of the tree at its place. Each return is one lemma of WalkSteps; the measure is four
+-- times the nesting that is left, and a little more on the way from a form to its parts.
 use Rattle.inference.proofs.WalkSteps.{walk-steps, under-new, after-input, after-output, nest-left}
 use native.Mathlib.Omega.{arith}
 use borrow.Author.Needs.{needs}
@@ -116,7 +118,11 @@ infer-input-returns : (t : ℕ) → infer-input-lts.Need-returns (
   with-fault-reads.Learnt,
 ) (infer-input-at t) infer-input.Post
 infer-input-returns t c =
-    after-input _ _ _ _ _ _ _ _ _ _ _ _ _ _ (c .before .before .before .before .before .before .before .before .before .before .input-fault .ensures .0) (c .before .before .before .before .before .before .before .before .before .before .input-fault .ensures .1) (c .before .before .before .before .before .infer-under .ensures) (c .with-fault .ensures)
+    after-input _ _ _ _ _ _ _ _ _ _ _ _ _ _
+    (c .with-fault .ensures)
+    (c .before .before .before .before .before .before .before .before .before .before .input-fault .ensures .0)
+    (c .before .before .before .before .before .before .before .before .before .before .input-fault .ensures .1)
+    (c .before .before .before .before .before .infer-under .ensures)
 
 infer-output-returns : (t : ℕ) → infer-output-lts.Need-returns (
   output-fault-reads.Asked,
@@ -127,7 +133,11 @@ infer-output-returns : (t : ℕ) → infer-output-lts.Need-returns (
   with-fault-reads.Learnt,
 ) (infer-output-at t) infer-output.Post
 infer-output-returns t c =
-    after-output _ _ _ _ _ _ _ _ _ _ _ _ _ _ (c .before .before .before .before .before .before .before .before .before .before .output-fault .ensures .0) (c .before .before .before .before .before .before .before .before .before .before .output-fault .ensures .1) (c .before .before .before .before .before .infer-process .ensures) (c .with-fault .ensures)
+    after-output _ _ _ _ _ _ _ _ _ _ _ _ _ _
+    (c .with-fault .ensures)
+    (c .before .before .before .before .before .before .before .before .before .before .output-fault .ensures .0)
+    (c .before .before .before .before .before .before .before .before .before .before .output-fault .ensures .1)
+    (c .before .before .before .before .before .infer-process .ensures)
 
 infer-process-infer-form-requires : (t : ℕ) → infer-process-lts.Need-infer-form-requires (
   process-at-reads.Asked,
@@ -145,7 +155,11 @@ infer-under-returns : (t : ℕ) → infer-under-lts.Need-returns (
   infer-process.Post,
 ) (infer-under-at t) infer-under.Post
 infer-under-returns t c =
-    under-new _ _ _ _ _ _ _ _ _ _ _ (c .before .before .before .before .before .before .before .before .before .bind .ensures) (search needs) (search needs) (c .before .before .before .before .infer-process .ensures)
+    under-new _ _ _ _ _ _ _ _ _ _ _
+    (c .before .before .before .before .before .before .before .before .before .bind .ensures)
+    (search needs)
+    (search needs)
+    (c .before .before .before .before .infer-process .ensures)
 
 pub +infer-form+infer-input+infer-output+infer-par+infer-process+infer-under-spec :
     {M : Type 1} → statement M

@@ -1,3 +1,4 @@
+-- An act is typed and counted: its need and its fault are those of the types that were handed in.
 use Rattle.inference.proofs.WalkSteps.{act-steps}
 use borrow.Author.Needs.{needs}
 use Rattle.inference.proofs.walks.infer_act.Statement.{statement}

@@ -1,3 +1,4 @@
+-- An input's act, with its channel's type looked up in the scope.
 use Rattle.inference.proofs.WalkSteps.{act-steps}
 use borrow.Author.Needs.{needs}
 use Rattle.inference.proofs.walks.input_fault.Statement.{statement}

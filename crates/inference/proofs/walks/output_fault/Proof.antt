@@ -1,3 +1,4 @@
+-- An output's act, with both its names' types looked up in the scope.
 use Rattle.inference.proofs.WalkSteps.{act-steps}
 use borrow.Author.Needs.{needs}
 use Rattle.inference.proofs.walks.output_fault.Statement.{statement}

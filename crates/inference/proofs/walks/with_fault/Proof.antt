@@ -1,3 +1,4 @@
+-- What a walk found, with the first question that failed before it: the lesser number.
 use Rattle.inference.proofs.WalkSteps.{act-steps}
 use borrow.Author.Needs.{needs}
 use Rattle.inference.proofs.walks.with_fault.Statement.{statement}
