@@ -15,7 +15,7 @@ use Rattle.policy.specs.Syntax.{Permissions, Node, Nodes, none, more, Head, alo
 use Rattle.policy.specs.WellFormed.{groupsAt}
 use Rattle.policy.specs.Grants.{reachedAmong, reached, givenBy, joined}
 use Rattle.policy.specs.Rows.{Flat, nodeAt, flatOf, flats, flatten}
-use Rattle.fit.specs.Givers.{reachedIn, giverIn, givenAt, joinedAt}
+use Rattle.fit.specs.Givers.{reachedIn, giverIn, givenAt, joinedAt, giversIn}
 
 -- Rows that begin at a depth of at most d, or end.
 data Within (d : ℕ) : List Flat → Type 0 where
@@ -145,10 +145,6 @@ joined-map : (h : ℕ) (c nodes : List ℕ) (hs : List Head) (f : ℕ → ℕ) �
 unfolding joinedAt joined
 joined-map h c nodes hs f e [] = refl
 joined-map h c nodes hs f e (g ∷ gs) = rw (e g, joined-map h c nodes hs f e gs)
-
--- The rows that give to a path in a tree, which is in n rows from `start` on.
-abbrev pub giversIn : List ℕ → List ℕ → List ℕ → ℕ → ℕ → List ℕ
-giversIn c nodes path start n = map (λ g. giverIn path g 0 start (flats c nodes start n)) path
 
 module _ (c nodes path : List ℕ) (start n : ℕ) (root : Node) (fits : start + n ≤ 64) (rows : flats c nodes start n ≡ flatten 0 (alone root)) where
   reached-here : reachedIn path 0 (flats c nodes start n) ≡ reached path root

@@ -18,10 +18,10 @@ use Rattle.policy.specs.WellFormed.{groupsAt}
 use Rattle.policy.specs.Grants.{treeFor, reached, reachedIn, reachedFor, flagGranted, countGranted}
 use Rattle.policy.specs.Satisfies.{isTree, hasTree, pathReached, grantsOne}
 use Rattle.policy.specs.Rows.{flats, flatten}
-use Rattle.fit.specs.Givers.{givenAt, joinedAt, indexOf}
+use Rattle.fit.specs.Givers.{givenAt, joinedAt, indexOf, giversIn}
 use Rattle.policy.specs.Loads.{startOf, Holds, AllHeld, held-none, held-more}
 use Rattle.policy.specs.declared.Trees.{Trees}
-use Rattle.fit.proofs.GrantLaws.{giversIn, all-found, flag-given, counts-given}
+use Rattle.fit.proofs.GrantLaws.{all-found, flag-given, counts-given}
 
 abbrev kindsOf : List Tree → List ℕ
 kindsOf policy = map (λ tree. tree .kind) policy

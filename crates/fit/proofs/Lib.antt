@@ -2,3 +2,5 @@
 pub mod GrantLaws
 pub mod GrantTrees
 pub mod GrantSteps
+pub mod EntryLaws
+pub mod EntrySteps

@@ -1,7 +1,7 @@
 -- The rows of the table of nodes that give to a path, and what they give together: the code's view of "reached" and of the
 -- grant (`GrantLaws`, `GrantTrees` of proofs/ tie it to document 01's definitions).
 use Prim.Native.Nat.{ℕ, zero, suc, _+_}
-use mathlib.Core.List.{List, [], _∷_}
+use mathlib.Core.List.{List, [], _∷_, map}
 use mathlib.Core.Bool.{Bool, true, false, cond}
 use lib.ListN.{take}
 use lib.Dec.{ltb, eqb}
@@ -9,7 +9,7 @@ use Rattle.reading.specs.Forms.{member}
 use Rattle.inference.specs.Counts.{Count, fin, unlimited, _⊕_}
 use Rattle.policy.specs.Syntax.{Permissions, Head}
 use Rattle.policy.specs.Grants.{listed}
-use Rattle.policy.specs.Rows.{nodeAt, permissionsOf, Flat}
+use Rattle.policy.specs.Rows.{nodeAt, permissionsOf, Flat, flats}
 use Rattle.fit.specs.declared.Total.{Total}
 use Rattle.fit.specs.declared.Givers.{Givers}
 
@@ -29,7 +29,11 @@ giverIn path g limit row (f ∷ later) =
     (cond (eqb (f .head .group) g) row (giverIn path g (f .depth + 1) (row + 1) later))
     (giverIn path g (f .depth) (row + 1) later))
 
--- the rows that give to a path
+-- The rows that give to a path in a tree, which is in n rows from `start` on.
+abbrev pub giversIn : List ℕ → List ℕ → List ℕ → ℕ → ℕ → List ℕ
+giversIn c nodes path start n = map (λ g. giverIn path g 0 start (flats c nodes start n)) path
+
+-- the rows that give to a path, as the code holds them
 abbrev pub givenRows : Givers → List ℕ
 givenRows g = take (g .len) (g .rows)
 

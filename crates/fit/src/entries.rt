@@ -1,12 +1,13 @@
 // Questions 16 to 18: does the policy satisfy the interface that a table of components holds?
 ghost use mathlib.Core.Path.{_≡_};
 ghost use mathlib.Core.List.{List};
-ghost use Prim.Native.Nat.{ℕ, _<_, _≤_, min};
+ghost use Prim.Native.Nat.{ℕ, _<_, _≤_, _-_, min};
 ghost use Rattle.inference.specs.Counts.{atMost};
-ghost use Rattle.inference.specs.Rows.{countOf, entryAt, rowEntries, tableEntries};
+ghost use Rattle.inference.specs.Rows.{countOf, pathAt, entryAt, rowEntries, tableEntries};
 ghost use Rattle.policy.specs.Syntax.{Tree};
-ghost use Rattle.fit.specs.Givers.{totalOf};
 ghost use Rattle.policy.specs.Loads.{Bounded, AllHeld};
+ghost use Rattle.fit.specs.Givers.{givenRows, totalOf, giversIn};
+ghost use Rattle.fit.specs.Covers.{flagCovers, flagsCover, countCovers, countsCoverFrom, rowsFault};
 ghost use Rattle.fit.specs.Faults.{entryFault, entriesFault};
 
 use crate::grants::all_given;
@@ -14,13 +15,14 @@ use crate::grants::count_granted;
 use crate::grants::flag_granted;
 use crate::grants::givers;
 use crate::grants::tree_for;
-use policy::wellformed::span_of;
 use crate::Givers;
 use crate::Total;
-use policy::Trees;
+use inference::rows::path_of;
 use interface::count_at;
 use interface::map_at;
-use inference::rows::path_of;
+use policy::wellformed::span_of;
+use policy::Span;
+use policy::Trees;
 
 // Is a needed count at most a granted sum?
 fn within(needed: usize, granted: Total) -> bool
@@ -35,14 +37,21 @@ fn within(needed: usize, granted: Total) -> bool
     needed <= granted.sum
 }
 
-fn flag_covered(needed: usize, nodes: &[usize], givers: Givers, value: usize) -> bool {
+// Is a flag granted, where it is needed?
+fn flag_covered(needed: usize, nodes: &[usize], givers: Givers, value: usize) -> bool
+    requires { ⌜ 0 < value ⌝ }
+    ensures { λ r. ⌜ ((c : List ℕ) → r ≡ flagCovers value c (now (nodes .entry)) (givenRows givers) needed) ⌝ }
+{
     if needed == 0 {
         return true;
     }
     flag_granted(nodes, givers, value)
 }
 
-fn flags_covered(table: &[u16], component: usize, kind: usize, nodes: &[usize], givers: Givers) -> bool {
+fn flags_covered(table: &[u16], component: usize, kind: usize, nodes: &[usize], givers: Givers) -> bool
+    requires { ⌜ (component < 32) × (kind < 16) ⌝ }
+    ensures { λ r. ⌜ ((c : List ℕ) → r ≡ flagsCover c (now (nodes .entry)) (givenRows givers) (now (table .entry)) component kind) ⌝ }
+{
     if !flag_covered(count_at(table, component, kind, 64), nodes, givers, 1) {
         return false;
     }
@@ -52,18 +61,49 @@ fn flags_covered(table: &[u16], component: usize, kind: usize, nodes: &[usize], 
     flag_covered(count_at(table, component, kind, 66), nodes, givers, 4)
 }
 
-fn counts_covered(c: &[u8], table: &[u16], component: usize, kind: usize, nodes: &[usize], givers: Givers) -> bool {
+// Is a count of disclosures into a group granted, where it is needed?
+fn count_covered(needed: usize, c: &[u8], nodes: &[usize], givers: Givers, group: usize) -> bool
+    ensures { λ r. ⌜ r ≡ countCovers group (now (c .entry)) (now (nodes .entry)) (givenRows givers) needed ⌝ }
+{
+    if needed == 0 {
+        return true;
+    }
+    within(needed, count_granted(c, nodes, givers, group))
+}
+
+fn counts_covered(c: &[u8], table: &[u16], component: usize, kind: usize, nodes: &[usize], givers: Givers) -> bool
+    requires { ⌜ (component < 32) × (kind < 16) ⌝ }
+    ensures { λ r. ⌜ r ≡ countsCoverFrom 0 64 (now (c .entry)) (now (nodes .entry)) (givenRows givers) (now (table .entry)) component kind ⌝ }
+{
     let mut group: usize = 0;
     while group < 64 {
-        let needed = count_at(table, component, kind, group);
-        if needed != 0 {
-            if !within(needed, count_granted(c, nodes, givers, group)) {
-                return false;
-            }
+        if !count_covered(count_at(table, component, kind, group), c, nodes, givers, group) {
+            return false;
         }
         group += 1;
     }
     true
+}
+
+// The first of questions 17 and 18 that the entry of a component and a kind fails in the kind's tree, or 19.
+fn tree_fault(c: &[u8], nodes: &[usize], tree: Span, table: &[u16], component: usize, kind: usize) -> usize
+    requires { ⌜ (tree .to ≤ 64) × (component < 32) × (kind < 16) ⌝ }
+    ensures { λ r. ⌜ r ≡ rowsFault (now (c .entry)) (now (nodes .entry))
+        (giversIn (now (c .entry)) (now (nodes .entry)) (pathAt (now (table .entry)) component) (tree .from) (tree .to - tree .from))
+        (now (table .entry)) component kind ⌝ }
+{
+    let found = givers(nodes, tree, path_of(table, component));
+    if !all_given(found) {
+        return 17;
+    }
+    if !flags_covered(table, component, kind, nodes, found) {
+        return 18;
+    }
+    if counts_covered(c, table, component, kind, nodes, found) {
+        19
+    } else {
+        18
+    }
 }
 
 // The first of questions 16 to 18 that the entry of a component and a kind fails, or 19.
@@ -79,18 +119,7 @@ fn entry_fault(c: &[u8], nodes: &[usize], trees: Trees, table: &[u16], component
     if trees.len <= t {
         return 16;
     }
-    let found = givers(nodes, span_of(trees, t), path_of(table, component));
-    if !all_given(found) {
-        return 17;
-    }
-    if !flags_covered(table, component, kind, nodes, found) {
-        return 18;
-    }
-    if counts_covered(c, table, component, kind, nodes, found) {
-        19
-    } else {
-        18
-    }
+    tree_fault(c, nodes, span_of(trees, t), table, component, kind)
 }
 
 fn least(a: usize, b: usize) -> usize

@@ -1,10 +1,10 @@
 // What the program `list` prints for an entry of an interface: kind, path, then of r, w, a, dG:count those held.
 ghost use mathlib.Core.Path.{_≡_};
-ghost use mathlib.Core.List.{[], _∷_};
-ghost use Prim.Native.Nat.{_<_, _≤_};
-ghost use lib.ListN.{length, getD};
+ghost use mathlib.Core.List.{[], _∷_, _++_};
+ghost use Prim.Native.Nat.{_+_, _*_, _<_, _≤_, _%_};
+ghost use lib.ListN.{set, getD};
 ghost use Rattle.interface.specs.Writes.{Stored};
-ghost use Rattle.listing.specs.Text.{decimalOf, decimal, dots, pathText, bytesAt, hasBit, flagText, countText, itemText, itemsText, itemsAt, lineAt, nextAt};
+ghost use Rattle.listing.specs.Text.{decimalOf, decimal, dots, pathText, bytesAt, hasBit, flagText, flagsText, countText, itemText, textOf, itemAt, itemsText, itemsAt, headText, itemsIn, endOf, lineAt, nextAt};
 
 // A line that was composed: how long it is, and the place of the next entry.
 pub struct Line {
@@ -25,13 +25,21 @@ fn byte(s: &[u8], at: usize) -> usize
     if at < s.len() { wide(s[at]) } else { 0 }
 }
 
-fn put(out: &mut [u8], at: usize, value: usize) -> usize
-    requires { ⌜ at < 1000000 ⌝ }
-    ensures { λ r. ⌜ Stored (now (out .entry)) (now (out .exit)) at (value ∷ []) r ⌝ }
+// Stores a byte, where there is room.
+fn store(out: &mut [u8], at: usize, value: usize)
+    ensures { λ r. ⌜ now (out .exit) ≡ set (now (out .entry)) at (value % 256) ⌝ }
 {
     if at < out.len() {
         out[at] = (value % 256) as u8;
     }
+}
+
+// Stores a byte and answers the next place.
+fn put(out: &mut [u8], at: usize, value: usize) -> usize
+    requires { ⌜ at < 1000000 ⌝ }
+    ensures { λ r. ⌜ Stored (now (out .entry)) (now (out .exit)) at (value ∷ []) r ⌝ }
+{
+    store(out, at, value);
     at + 1
 }
 
@@ -39,6 +47,7 @@ fn put(out: &mut [u8], at: usize, value: usize) -> usize
 fn put_digits(out: &mut [u8], at: usize, n: usize, digits: usize) -> usize
     requires { ⌜ (at < 900000) × (digits ≤ 5) ⌝ }
     ensures { λ r. ⌜ Stored (now (out .entry)) (now (out .exit)) at (decimalOf digits n) r ⌝ }
+    ensures near { λ r. ⌜ r ≤ at + digits ⌝ }
 {
     if digits == 0 {
         return at;
@@ -53,26 +62,28 @@ fn put_digits(out: &mut [u8], at: usize, n: usize, digits: usize) -> usize
 fn put_decimal(out: &mut [u8], at: usize, n: usize) -> usize
     requires { ⌜ at < 900000 ⌝ }
     ensures { λ r. ⌜ Stored (now (out .entry)) (now (out .exit)) at (decimal n) r ⌝ }
+    ensures near { λ r. ⌜ r ≤ at + 5 ⌝ }
 {
     put_digits(out, at, n, 5)
 }
 
 // A dot and a group.
-fn put_dot(group: usize, out: &mut [u8], at: usize) -> usize {
+fn put_dot(group: usize, out: &mut [u8], at: usize) -> usize
+    requires { ⌜ at < 800000 ⌝ }
+    ensures { λ r. ⌜ Stored (now (out .entry)) (now (out .exit)) at (46 ∷ decimal group) r ⌝ }
+{
     let next = put(out, at, 46);
     put_decimal(out, next, group)
 }
 
-// The groups of a path, parted by dots.
-fn put_path(s: &[u8], from: usize, len: usize, out: &mut [u8], at: usize) -> usize
-    requires { ⌜ (from < 1000000000) × (len < 256) × (at < 100000) ⌝ }
-    ensures { λ r. ⌜ Stored (now (out .entry)) (now (out .exit)) at (pathText (bytesAt len (now (s .entry)) from)) r ⌝ }
+// Groups, a dot before each.
+fn put_dots(s: &[u8], from: usize, len: usize, out: &mut [u8], at: usize) -> usize
+    requires { ⌜ (from < 1000000000) × (len < 256) × (at < 200000) ⌝ }
+    ensures { λ r. ⌜ Stored (now (out .entry)) (now (out .exit)) at (dots (bytesAt len (now (s .entry)) from)) r ⌝ }
+    ensures near { λ r. ⌜ r ≤ at + 6 * len ⌝ }
 {
-    if len == 0 {
-        return at;
-    }
-    let mut next = put_decimal(out, at, byte(s, from));
-    let mut i: usize = 1;
+    let mut next = at;
+    let mut i: usize = 0;
     while i < len {
         next = put_dot(byte(s, from + i), out, next);
         i += 1;
@@ -80,10 +91,24 @@ fn put_path(s: &[u8], from: usize, len: usize, out: &mut [u8], at: usize) -> usi
     next
 }
 
+// The groups of a path, parted by dots.
+fn put_path(s: &[u8], from: usize, len: usize, out: &mut [u8], at: usize) -> usize
+    requires { ⌜ (from < 100000000) × (len < 256) × (at < 100000) ⌝ }
+    ensures { λ r. ⌜ Stored (now (out .entry)) (now (out .exit)) at (pathText (bytesAt len (now (s .entry)) from)) r ⌝ }
+    ensures near { λ r. ⌜ r ≤ at + 6 * len ⌝ }
+{
+    if len == 0 {
+        return at;
+    }
+    let next = put_decimal(out, at, byte(s, from));
+    put_dots(s, from + 1, len - 1, out, next)
+}
+
 // A space and a letter, where a bit of the map stands.
 fn put_flag(map: usize, value: usize, letter: usize, out: &mut [u8], at: usize) -> usize
     requires { ⌜ (0 < value) × (at < 900000) ⌝ }
     ensures { λ r. ⌜ Stored (now (out .entry)) (now (out .exit)) at (flagText (hasBit value map) letter) r ⌝ }
+    ensures near { λ r. ⌜ r ≤ at + 2 ⌝ }
 {
     if map / value % 2 == 0 {
         return at;
@@ -104,27 +129,47 @@ fn put_count(count: usize, out: &mut [u8], at: usize) -> usize
     }
 }
 
-// A space, d, the group, a colon, the count.
-fn put_item(group: usize, count: usize, out: &mut [u8], at: usize) -> usize
+// A colon and a count.
+fn put_colon(count: usize, out: &mut [u8], at: usize) -> usize
     requires { ⌜ at < 800000 ⌝ }
-    ensures { λ r. ⌜ Stored (now (out .entry)) (now (out .exit)) at (itemText group count) r ⌝ }
+    ensures { λ r. ⌜ Stored (now (out .entry)) (now (out .exit)) at (58 ∷ countText count) r ⌝ }
 {
-    let a = put(out, at, 32);
-    let b = put(out, a, 100);
-    let c = put_decimal(out, b, group);
-    let d = put(out, c, 58);
-    put_count(count, out, d)
+    let next = put(out, at, 58);
+    put_count(count, out, next)
 }
 
+// A space, d, the group, a colon, the count.
+fn put_item(group: usize, count: usize, out: &mut [u8], at: usize) -> usize
+    requires { ⌜ at < 700000 ⌝ }
+    ensures { λ r. ⌜ Stored (now (out .entry)) (now (out .exit)) at (itemText group count) r ⌝ }
+{
+    let space = put(out, at, 32);
+    let letter = put(out, space, 100);
+    let number = put_decimal(out, letter, group);
+    put_colon(count, out, number)
+}
+
+// The item that stands at a place.
+fn put_item_at(s: &[u8], place: usize, out: &mut [u8], at: usize) -> usize
+    requires { ⌜ (place < 2000000000) × (at < 700000) ⌝ }
+    ensures { λ r. ⌜ Stored (now (out .entry)) (now (out .exit)) at (textOf (itemAt (now (s .entry)) place)) r ⌝ }
+{
+    let group = byte(s, place);
+    let low = byte(s, place + 1);
+    let high = byte(s, place + 2);
+    put_item(group, low + 256 * high, out, at)
+}
+
+// The items that stand from a place on.
 fn put_items(s: &[u8], from: usize, count: usize, out: &mut [u8], at: usize) -> usize
     requires { ⌜ (from < 1000000000) × (count < 256) × (at < 100000) ⌝ }
     ensures { λ r. ⌜ Stored (now (out .entry)) (now (out .exit)) at (itemsText (itemsAt count (now (s .entry)) from)) r ⌝ }
+    ensures near { λ r. ⌜ r ≤ at + 13 * count ⌝ }
 {
     let mut next = at;
     let mut i: usize = 0;
     while i < count {
-        let place = from + 3 * i;
-        next = put_item(byte(s, place), byte(s, place + 1) + 256 * byte(s, place + 2), out, next);
+        next = put_item_at(s, from + 3 * i, out, next);
         i += 1;
     }
     next
@@ -132,21 +177,54 @@ fn put_items(s: &[u8], from: usize, count: usize, out: &mut [u8], at: usize) -> 
 
 // The flags of a map.
 fn put_flags(map: usize, out: &mut [u8], at: usize) -> usize
-    requires { ⌜ at < 800000 ⌝ }
+    requires { ⌜ at < 50000 ⌝ }
+    ensures { λ r. ⌜ Stored (now (out .entry)) (now (out .exit)) at (flagsText (hasBit 1 map) (hasBit 2 map) (hasBit 4 map)) r ⌝ }
+    ensures near { λ r. ⌜ r ≤ at + 6 ⌝ }
 {
-    let a = put_flag(map, 1, 114, out, at);
-    let b = put_flag(map, 2, 119, out, a);
-    put_flag(map, 4, 97, out, b)
+    let read = put_flag(map, 1, 114, out, at);
+    let write = put_flag(map, 2, 119, out, read);
+    put_flag(map, 4, 97, out, write)
 }
 
 // How many items the list of an entry has.
-fn item_count(s: &[u8], map: usize, at: usize) -> usize {
-    if map / 16 % 2 == 0 { 0 } else { byte(s, at) }
+fn item_count(s: &[u8], map: usize, list: usize) -> usize
+    ensures { λ r. ⌜ r ≡ itemsIn (hasBit 16 map) (now (s .entry)) list ⌝ }
+    ensures few { λ r. ⌜ r < 256 ⌝ }
+{
+    if map / 16 % 2 == 0 { 0 } else { byte(s, list) }
 }
 
 // The place after an entry's map, or after its list.
-fn after(map: usize, at: usize, items: usize) -> usize {
-    if map / 16 % 2 == 0 { at } else { at + 1 + 3 * items }
+fn after(map: usize, list: usize, items: usize) -> usize
+    requires { ⌜ (list < 1000000000) × (items < 256) ⌝ }
+    ensures { λ r. ⌜ r ≡ endOf (hasBit 16 map) list items ⌝ }
+{
+    if map / 16 % 2 == 0 {
+        list
+    } else {
+        list + 1 + 3 * items
+    }
+}
+
+// The kind of an entry, a space, and its path.
+fn put_head(s: &[u8], at: usize, len: usize, out: &mut [u8]) -> usize
+    requires { ⌜ (at < 1000000) × (len < 256) ⌝ }
+    ensures { λ r. ⌜ Stored (now (out .entry)) (now (out .exit)) 0 (headText (getD (now (s .entry)) at 0) (bytesAt len (now (s .entry)) (at + 2))) r ⌝ }
+    ensures near { λ r. ⌜ r ≤ 2000 ⌝ }
+{
+    let kind = put_decimal(out, 0, byte(s, at));
+    let space = put(out, kind, 32);
+    put_path(s, at + 2, len, out, space)
+}
+
+// The flags of an entry, its items, and a newline.
+fn put_tail(s: &[u8], map: usize, from: usize, items: usize, out: &mut [u8], at: usize) -> usize
+    requires { ⌜ (from < 1000000000) × (items < 256) × (at < 50000) ⌝ }
+    ensures { λ r. ⌜ Stored (now (out .entry)) (now (out .exit)) at (flagsText (hasBit 1 map) (hasBit 2 map) (hasBit 4 map) ++ (itemsText (itemsAt items (now (s .entry)) from) ++ (10 ∷ []))) r ⌝ }
+{
+    let flags = put_flags(map, out, at);
+    let end = put_items(s, from, items, out, flags);
+    put(out, end, 10)
 }
 
 // Composes the line of the entry at a place of an interface, from the first byte of `out` on.
@@ -159,13 +237,10 @@ pub fn entry_line(s: &[u8], at: usize, out: &mut [u8]) -> Line
     let map = byte(s, at + 2 + len);
     let list = at + 3 + len;
     let items = item_count(s, map, list);
-    let a = put_decimal(out, 0, byte(s, at));
-    let b = put(out, a, 32);
-    let c = put_path(s, at + 2, len, out, b);
-    let d = put_flags(map, out, c);
-    let e = put_items(s, list + 1, items, out, d);
+    let next = after(map, list, items);
+    let head = put_head(s, at, len, out);
     Line {
-        len: put(out, e, 10),
-        next: after(map, list, items),
+        len: put_tail(s, map, list + 1, items, out, head),
+        next: next,
     }
 }

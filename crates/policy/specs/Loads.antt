@@ -1,23 +1,27 @@
 -- What the policy's reader answers and what it leaves in the table of nodes.
-use Prim.Native.Nat.{ℕ, zero, suc, _+_, _-_, _≤_, min}
+use Prim.Native.Nat.{ℕ, zero, suc, _+_, _-_, _<_, _≤_, min}
 use mathlib.Core.Path.{_≡_}
-use mathlib.Core.List.{List, [], _∷_, _++_, map}
+use mathlib.Core.List.{List, [], _∷_, _++_}
 use mathlib.Core.Bool.{Bool, true, false, cond}
-use lib.ListN.{length, getD, take}
-use Rattle.reading.specs.Read.{Read, got, refused}
+use lib.ListN.{length, getD, set, replicate}
+use Rattle.reading.specs.Read.{Read, got, refused, andThen, byteAt, below}
+use Rattle.reading.specs.System.{toItsEnd}
 use Rattle.reading.specs.Told.{number}
 use Rattle.reading.specs.declared.NumberRead.{NumberRead}
 use Rattle.reading.specs.declared.Refusal.{Refusal}
 use Rattle.policy.specs.declared.PermissionsRead.{PermissionsRead}
 use Rattle.policy.specs.declared.PermissionsRead.the-variants as permissions-read
+use Rattle.policy.specs.declared.Permissions.{Permissions as Stored}
+use Rattle.policy.specs.declared.Node.{Node as Row}
+use Rattle.policy.specs.declared.Opening.{Opening}
+use Rattle.policy.specs.declared.OpeningRead.{OpeningRead}
+use Rattle.policy.specs.declared.OpeningRead.the-variants as opening-read
 use Rattle.policy.specs.declared.Trees.{Trees}
-use Rattle.policy.specs.declared.Span.{Span}
-use Rattle.policy.specs.Syntax.{Granted, Permissions, Node, Nodes, alone, headsOf, Tree}
-use Rattle.policy.specs.Reading.{children, readNode}
+use Rattle.policy.specs.Syntax.{Granted, Permissions, Node, Nodes, Head, alone, headsOf, Tree}
+use Rattle.policy.specs.Reading.{asEleven, children, readPermissions, readNode, readTrees}
 use Rattle.policy.specs.WellFormed.{kindsDistinct, noneAbove, sameHeads, fenced}
-use Rattle.policy.specs.Satisfies.{hasTree, pathReached, covered}
-use Rattle.inference.specs.Interface.{Entry, holdsAny}
-use Rattle.policy.specs.Rows.{permissionsOf, Flat, flats, flatten}
+use Rattle.inference.specs.Lists.{every}
+use Rattle.policy.specs.Rows.{permissionsOf, flatOf, flats, flatten, passesIn}
 
 -- permissions that were read, by where they stand
 abbrev pub permissionsRead : List ℕ → PermissionsRead → Read Permissions
@@ -27,6 +31,49 @@ permissionsRead c (permissions-read.Refused r) = refused (r .question) (r .at)
 abbrev pub whyOf : PermissionsRead → Refusal
 whyOf (permissions-read.Found p) = record { question = 0; at = 0 }
 whyOf (permissions-read.Refused r) = r
+
+-- What is stored of permissions fits its cells, and so does what is stored of a node.
+pub record PermissionsFit (p : Stored) : Type 0 where
+  pub small-map : p .map < 32
+  pub small-list : p .list < 8192
+  pub small-count : p .count < 128
+
+pub record NodeFits (n : Row) : Type 0 where
+  pub small-group : n .group < 64
+  pub small-permissions : PermissionsFit (n .permissions)
+  pub small-depth : n .depth < 8
+
+abbrev pub permissionsFit : PermissionsRead → Type 0
+permissionsFit (permissions-read.Found p) = PermissionsFit (p .permissions)
+permissionsFit (permissions-read.Refused r) = Unit {0}
+
+-- A node without its children, and how many follow.
+pub record Opened : Type 0 where
+  pub head : Head
+  pub children : ℕ
+
+unfoldable pub readOpening : List ℕ → ℕ → Read Opened
+readOpening c at =
+    andThen (below 64 c at) (λ g m.
+    andThen (readPermissions c m) (λ p k.
+    andThen (byteAt c k) (λ n e. got (record { head = record { group = g; permissions = p }; children = n }) e)))
+
+abbrev pub openingRead : List ℕ → OpeningRead → Read Opened
+openingRead c (opening-read.Found o) = got (record { head = flatOf c (o .node) .head; children = o .children }) (o .next)
+openingRead c (opening-read.Refused r) = refused (r .question) (r .at)
+
+pub record OpeningFits (depth : ℕ) (o : Opening) : Type 0 where
+  pub fits : NodeFits (o .node)
+  pub at-depth : o .node .depth ≡ depth
+  pub few : o .children < 256
+
+abbrev pub openingFits : ℕ → OpeningRead → Type 0
+openingFits depth (opening-read.Found o) = OpeningFits depth o
+openingFits depth (opening-read.Refused r) = Unit {0}
+
+abbrev pub whyNot : OpeningRead → Refusal
+whyNot (opening-read.Found o) = record { question = 0; at = 0 }
+whyNot (opening-read.Refused r) = r
 
 -- an item of which only the group is kept
 unfoldable pub groupOnly : Read Granted → Read ℕ
@@ -59,6 +106,22 @@ pub record Loaded (c : List ℕ) (read : Read Nodes) (depth used : ℕ) (nodes n
   pub rows : (ns : Nodes) (next : ℕ) → read ≡ got ns next
       → flats c nodes′ 0 (used + length (headsOf ns)) ≡ flats c nodes 0 used ++ flatten depth ns
 
+-- No trees, and one tree more: its kind, and the row after its last node.
+unfoldable pub noTrees : Trees
+noTrees = record { reads = true; len = 0; kinds = replicate 16 0; ends = replicate 16 0 }
+
+unfoldable pub withTree : Trees → ℕ → ℕ → Trees
+withTree trees kind end = record {
+  reads = true;
+  len = trees .len + 1;
+  kinds = set (trees .kinds) (trees .len) kind;
+  ends = set (trees .ends) (trees .len) end;
+}
+
+-- `count` trees, to the end of the policy
+unfoldable pub treesToEnd : ℕ → List ℕ → ℕ → Read (List Tree)
+treesToEnd count c at = asEleven (andThen (readTrees count c 0 at) (λ trees k. toItsEnd c trees k))
+
 -- The row where a tree begins.
 unfoldable pub startOf : Trees → ℕ → ℕ
 startOf trees zero = 0
@@ -88,18 +151,11 @@ pub data LoadedPolicy (c : List ℕ) (read : Read (List Tree)) (nodes : List ℕ
   loaded : {policy : List Tree} {end : ℕ} → read ≡ got policy end → trees .reads ≡ true → Bounded trees
       → AllHeld c nodes trees 0 policy → LoadedPolicy c read nodes trees
 
+-- Do all trees pass question 13, 14 or 15, put to their rows?
+unfoldable pub allPass : ℕ → List Tree → Bool
+allPass question policy = every (λ t. passesIn question (flatten 0 (alone (t .root)))) policy
+
 -- The first of questions 12 to 15 that a policy fails, or 16.
 unfoldable pub policyFault : List Tree → ℕ
 policyFault policy =
     cond (kindsDistinct policy) (cond (noneAbove policy) (cond (sameHeads policy) (cond (fenced policy) 16 15) 14) 13) 12
-
--- The first of questions 16 to 18 that an entry fails, or 19; an entry without a permission is none and fails none.
-unfoldable pub entryFault : List Tree → Entry → ℕ
-entryFault policy e =
-    cond (holdsAny e)
-    (cond (hasTree policy e) (cond (pathReached policy e) (cond (covered policy e) 19 18) 17) 16) 19
-
--- The first that any entry fails, or 19.
-unfoldable pub entriesFault : List Tree → List Entry → ℕ
-entriesFault policy [] = 19
-entriesFault policy (e ∷ rest) = min (entryFault policy e) (entriesFault policy rest)

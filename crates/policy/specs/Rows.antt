@@ -8,23 +8,21 @@ use lib.ListN.{getD, set, take, replicate}
 use lib.Dec.{ltb, eqb}
 use Rattle.reading.specs.Forms.{member}
 use Rattle.inference.specs.Lists.{every, any, rising}
-use Rattle.inference.specs.Counts.{Count, fin, unlimited, _⊕_}
 use Rattle.policy.specs.Syntax.{Granted, Permissions, Nodes, none, more, Head, hasBit}
 use Rattle.policy.specs.WellFormed.{allAgree, disclosedTo, groupsAt}
-use Rattle.policy.specs.Grants.{listed}
 use Rattle.policy.specs.declared.Node.{Node}
 use Rattle.policy.specs.declared.Permissions.{Permissions as Stored}
-use Rattle.policy.specs.declared.Total.{Total}
-use Rattle.policy.specs.declared.Givers.{Givers}
 
 unfoldable pub nodeAt : List ℕ → ℕ → Node
 nodeAt nodes row = record {
-    group = getD nodes (row * 5) 0 % 64;
-    permissions = record {
-        map = getD nodes (row * 5 + 1) 0 % 32;
-        list = getD nodes (row * 5 + 2) 0 % 8192;
-        count = getD nodes (row * 5 + 3) 0 % 128 };
-    depth = getD nodes (row * 5 + 4) 0 % 16 }
+  group = getD nodes (row * 5) 0 % 64;
+  permissions = record {
+    map = getD nodes (row * 5 + 1) 0 % 32;
+    list = getD nodes (row * 5 + 2) 0 % 8192;
+    count = getD nodes (row * 5 + 3) 0 % 128;
+  };
+  depth = getD nodes (row * 5 + 4) 0 % 8;
+}
 
 unfoldable pub withNode : List ℕ → ℕ → Node → List ℕ
 withNode nodes row n =
@@ -94,45 +92,15 @@ fenceOf (f ∷ later) = f .head .group ∷ groupsAt (headsIn (belowIn (f .depth)
 unfoldable pub isMarked : List ℕ → ℕ → Bool
 isMarked marks h = not (eqb (getD marks h 0) 0)
 
+-- Are all of these groups marked?
+unfoldable pub allMarked : List ℕ → List ℕ → Bool
+allMarked marks hs = every (λ h. ltb h 64 && isMarked marks h) hs
+
+-- the groups that a list discloses to
+unfoldable pub listedGroups : List Granted → List ℕ
+listedGroups ds = map (λ d. d .group) ds
+
 -- Questions 13, 14 and 15 over a tree's rows.
 unfoldable pub passesIn : ℕ → List Flat → Bool
 passesIn question fs =
     cond (eqb question 13) (freshBelow (replicate 8 0) fs) (cond (eqb question 14) (allAgree (headsIn fs)) (allKept fs))
-
--- The nodes of a tree's rows that a path reaches: a node at a depth above `limit` stands below one that is not reached.
-unfoldable pub reachedIn : List ℕ → ℕ → List Flat → List Head
-reachedIn path limit [] = []
-reachedIn path limit (f ∷ later) =
-    cond (ltb limit (f .depth)) (reachedIn path limit later)
-    (cond (member (f .head .group) path) (f .head ∷ reachedIn path (f .depth + 1) later) (reachedIn path (f .depth) later))
-
--- The row of the first reached node of a group, or 64; `row` is that of the first of the nodes.
-unfoldable pub giverIn : List ℕ → ℕ → ℕ → ℕ → List Flat → ℕ
-giverIn path g limit row [] = 64
-giverIn path g limit row (f ∷ later) =
-    cond (ltb limit (f .depth)) (giverIn path g limit (row + 1) later)
-    (cond (member (f .head .group) path)
-    (cond (eqb (f .head .group) g) row (giverIn path g (f .depth + 1) (row + 1) later))
-    (giverIn path g (f .depth) (row + 1) later))
-
--- the rows that give to a path
-abbrev pub givenRows : Givers → List ℕ
-givenRows g = take (g .len) (g .rows)
-
--- What a giver gives: the permissions of its row, nothing at 64.
-unfoldable pub givenAt : List ℕ → List ℕ → ℕ → Permissions
-givenAt c nodes row = cond (ltb row 64) (permissionsOf c (nodeAt nodes row .permissions)) (record { map = 0; list = [] })
-
--- A sum of counts as a count.
-unfoldable pub totalOf : Total → Count
-totalOf t = cond (t .unlimited) unlimited (fin (t .sum))
-
--- the counts for group h that rows give, joined
-unfoldable pub joinedAt : ℕ → List ℕ → List ℕ → List ℕ → Count
-joinedAt h c nodes [] = fin 0
-joinedAt h c nodes (row ∷ rest) = listed h (givenAt c nodes row .list) ⊕ joinedAt h c nodes rest
-
--- which of a list of kinds is the first to be k; their number where none is
-unfoldable pub indexOf : ℕ → List ℕ → ℕ
-indexOf k [] = 0
-indexOf k (x ∷ xs) = cond (eqb x k) 0 (suc (indexOf k xs))

@@ -1,7 +1,5 @@
-// Policies (document 01: charters): their reading, questions 11 to 15, and whether they satisfy an interface, questions 16 to
-// 18. The nodes of a policy that is read stand in a table, in reading order.
-pub mod fit;
-pub mod grants;
+// Policies (document 01: charters): their reading and questions 11 to 15. The nodes of a policy that is read stand in a table, in
+// reading order.
 pub mod nodes;
 pub mod read;
 pub mod wellformed;
@@ -33,6 +31,18 @@ pub struct Node {
     pub depth: usize,
 }
 
+// A node without its children: its fields, how many children follow it, and the place of the first.
+pub struct Opening {
+    pub node: Node,
+    pub children: usize,
+    pub next: usize,
+}
+
+pub enum OpeningRead {
+    Found(Opening),
+    Refused(Refusal),
+}
+
 // The trees of a policy: how many, and for each its kind and the table's row after its last node. Where the policy does not
 // read, `reads` is false.
 pub struct Trees {
@@ -46,16 +56,4 @@ pub struct Trees {
 pub struct Span {
     pub from: usize,
     pub to: usize,
-}
-
-// A sum of counts.
-pub struct Total {
-    pub unlimited: bool,
-    pub sum: usize,
-}
-
-// What gives to a path: for each of its groups the row of the group's first reached node, or 64.
-pub struct Givers {
-    pub rows: [usize; 8],
-    pub len: usize,
 }

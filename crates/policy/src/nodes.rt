@@ -3,7 +3,6 @@ ghost use mathlib.Core.Path.{_≡_};
 ghost use Prim.Native.Nat.{_<_, _≤_};
 ghost use lib.ListN.{getD, set};
 ghost use Rattle.policy.specs.Rows.{nodeAt, withNode, wordIn};
-
 use crate::Node;
 use crate::Permissions;
 
@@ -27,7 +26,7 @@ pub fn node_at(nodes: &[usize], row: usize) -> Node
     Node {
         group: cell(nodes, base) % 64,
         permissions,
-        depth: cell(nodes, base + 4) % 16,
+        depth: cell(nodes, base + 4) % 8,
     }
 }
 
@@ -54,7 +53,7 @@ pub fn store_node(nodes: &mut [usize], row: usize, node: Node)
 }
 
 fn wide(b: u8) -> usize
-    ensures { λ r. ⌜ r ≡ b ⌝ }
+    ensures { λ r. ⌜ (r ≡ b) × (r < 256) ⌝ }
 {
     b as usize
 }

@@ -6,20 +6,21 @@ ghost use lib.ListN.{length, take};
 ghost use mathlib.Core.Bool.{false};
 ghost use Rattle.reading.specs.Told.{number, refusalOf};
 ghost use Rattle.policy.specs.Reading.{twoBytes, isCount, itemAt, readList, countedList, readPermissions, readNode, readPolicy};
-ghost use Rattle.policy.specs.Loads.{permissionsRead, whyOf, groupOnly, countOnly, nodeRead, childrenRead, Loaded, LoadedPolicy};
-
-use crate::nodes::store_node;
+ghost use Rattle.policy.specs.Loads.{permissionsRead, permissionsFit, whyOf, whyNot, groupOnly, countOnly, openingRead, openingFits, readOpening, nodeRead, childrenRead, Loaded, withTree, noTrees, treesToEnd, LoadedPolicy};
 use crate::Node;
+use crate::Opening;
+use crate::OpeningRead;
 use crate::Permissions;
 use crate::PermissionsAt;
 use crate::PermissionsRead;
 use crate::Trees;
-use reading::bytes::byte_at;
-use reading::bytes::byte_below;
-use reading::bytes::refusal;
+use crate::nodes::store_node;
 use reading::Number;
 use reading::NumberRead;
 use reading::Refusal;
+use reading::bytes::byte_at;
+use reading::bytes::byte_below;
+use reading::bytes::refusal;
 
 fn fault(at: usize) -> NumberRead
     ensures { λ r. ⌜ r ≡ NumberRead.Refused (record { question = 11; at = at }) ⌝ }
@@ -124,7 +125,9 @@ fn not_permissions(read: NumberRead) -> PermissionsRead
 
 // A permission map with its list: where it stands, not what it holds.
 fn permissions_at(c: &[u8], at: usize) -> PermissionsRead
+    requires { ⌜ length (now c) ≤ 4096 ⌝ }
     ensures { λ r. ⌜ permissionsRead (now (c .entry)) r ≡ readPermissions (now (c .entry)) at ⌝ }
+    ensures { λ r. ⌜ permissionsFit r ⌝ }
 {
     let first = byte_below(c, at, 32);
     let NumberRead::Found(map) = first else {
@@ -166,6 +169,53 @@ fn why(read: PermissionsRead) -> Refusal
     }
 }
 
+fn not_opening(read: NumberRead) -> OpeningRead
+    ensures { λ r. ⌜ r ≡ OpeningRead.Refused (refusalOf read) ⌝ }
+{
+    OpeningRead::Refused(refusal(read))
+}
+
+// A node without its children, at a depth.
+fn read_opening(c: &[u8], at: usize, depth: usize) -> OpeningRead
+    requires { ⌜ (depth < 8) × (length (now c) ≤ 4096) ⌝ }
+    ensures { λ r. ⌜ openingRead (now (c .entry)) r ≡ readOpening (now (c .entry)) at ⌝ }
+    ensures { λ r. ⌜ openingFits depth r ⌝ }
+{
+    let first = byte_below(c, at, 64);
+    let NumberRead::Found(group) = first else {
+        return not_opening(first);
+    };
+    let second = permissions_at(c, group.next);
+    let PermissionsRead::Found(found) = second else {
+        return OpeningRead::Refused(why(second));
+    };
+    let third = byte_at(c, found.next);
+    let NumberRead::Found(count) = third else {
+        return not_opening(third);
+    };
+    let permissions = found.permissions;
+    let node = Node {
+        group: group.value,
+        permissions,
+        depth,
+    };
+    OpeningRead::Found(Opening {
+        node,
+        children: count.value,
+        next: count.next,
+    })
+}
+
+// Why a node was not read.
+fn why_not(read: OpeningRead) -> Refusal
+    ensures { λ r. ⌜ r ≡ whyNot read ⌝ }
+{
+    match read {
+        OpeningRead::Found(_) => Refusal { question: 0, at: 0 },
+        OpeningRead::Refused(r) => r,
+    }
+}
+
 // Reads a node and the nodes below it into the table from row `used` on; the number found is that of the rows then used.
 // `level` more nodes may be nested.
 fn read_node(c: &[u8], at: usize, level: usize, used: usize, nodes: &mut [usize]) -> NumberRead
@@ -178,30 +228,31 @@ fn read_node(c: &[u8], at: usize, level: usize, used: usize, nodes: &mut [usize]
     if 64 <= used {
         return fault(at);
     }
-    let first = byte_below(c, at, 64);
-    let NumberRead::Found(group) = first else {
-        return first;
+    let read = read_opening(c, at, 8 - level);
+    let OpeningRead::Found(opening) = read else {
+        return NumberRead::Refused(why_not(read));
     };
-    let second = permissions_at(c, group.next);
-    let PermissionsRead::Found(found) = second else {
-        return NumberRead::Refused(why(second));
-    };
-    let third = byte_at(c, found.next);
-    let NumberRead::Found(count) = third else {
-        return third;
-    };
-    let permissions = found.permissions;
-    let node = Node {
-        group: group.value,
-        permissions,
-        depth: 8 - level,
-    };
+    let node = opening.node;
     store_node(nodes, used, node);
-    read_children(c, count.next, count.value, level - 1, used + 1, nodes)
+    read_children(
+        c,
+        opening.next,
+        opening.children,
+        level - 1,
+        used + 1,
+        nodes,
+    )
 }
 
 // Reads `count` nodes, one after another.
-fn read_children(c: &[u8], at: usize, count: usize, level: usize, used: usize, nodes: &mut [usize]) -> NumberRead
+fn read_children(
+    c: &[u8],
+    at: usize,
+    count: usize,
+    level: usize,
+    used: usize,
+    nodes: &mut [usize],
+) -> NumberRead
     requires { ⌜ (level < 8) × (count < 256) × (length (now nodes) ≡ 320) × (length (now c) ≤ 4096) ⌝ }
     ensures { λ r. ⌜ Loaded (now (c .entry)) (childrenRead level (now (c .entry)) count used at) (8 - level) used (now (nodes .entry)) (now (nodes .exit)) r ⌝ }
 {
@@ -233,6 +284,7 @@ fn unread() -> Trees
 // One tree more: its kind, and the row after its last node.
 fn with_tree(trees: Trees, kind: usize, end: usize) -> Trees
     requires { ⌜ trees .len < 16 ⌝ }
+    ensures { λ r. ⌜ r ≡ withTree trees kind end ⌝ }
 {
     let at = trees.len;
     let mut kinds = trees.kinds;
@@ -247,7 +299,9 @@ fn with_tree(trees: Trees, kind: usize, end: usize) -> Trees
     }
 }
 
-fn no_trees() -> Trees {
+fn no_trees() -> Trees
+    ensures { λ r. ⌜ r ≡ noTrees ⌝ }
+{
     Trees {
         reads: true,
         len: 0,
@@ -259,6 +313,7 @@ fn no_trees() -> Trees {
 // Reads `count` trees, one after another, to the end of the policy.
 fn read_trees(c: &[u8], at: usize, count: usize, nodes: &mut [usize]) -> Trees
     requires { ⌜ (count ≤ 16) × (length (now nodes) ≡ 320) × (length (now c) ≤ 4096) ⌝ }
+    ensures { λ r. ⌜ LoadedPolicy (now (c .entry)) (treesToEnd count (now (c .entry)) at) (now (nodes .exit)) r ⌝ }
 {
     let mut trees = no_trees();
     let mut next = at;

@@ -4,23 +4,22 @@ ghost use mathlib.Core.List.{List};
 ghost use mathlib.Core.Bool.{_&&_};
 ghost use Prim.Native.Nat.{ℕ, _<_, _≤_, _+_, _-_};
 ghost use lib.ListN.{getD, take, drop, replicate};
-ghost use lib.Dec.{ltb};
+ghost use lib.Dec.{eqb};
 ghost use Rattle.reading.specs.Forms.{member};
 ghost use Rattle.inference.specs.Lists.{every};
-ghost use Rattle.policy.specs.Syntax.{Tree, alone, hasBit};
+ghost use Rattle.policy.specs.Syntax.{Tree, hasBit};
 ghost use Rattle.policy.specs.WellFormed.{distinct, sameList, samePermissions, agree, allAgree, disclosedTo};
-ghost use Rattle.policy.specs.Rows.{nodeAt, itemsAt, permissionsOf, flatOf, flats, flatten, freshBelow, headsIn, belowIn, keptIn, allKept, isMarked, fenceOf, passesIn};
-ghost use Rattle.policy.specs.Loads.{startOf, Bounded, AllHeld, policyFault};
-
-use crate::nodes::byte_in;
-use crate::nodes::node_at;
-use crate::nodes::word_in;
+ghost use Rattle.policy.specs.Rows.{nodeAt, wordIn, itemsAt, permissionsOf, flatOf, flats, freshBelow, headsIn, belowIn, keptIn, allKept, isMarked, allMarked, listedGroups, fenceOf, passesIn};
+ghost use Rattle.policy.specs.Loads.{startOf, Bounded, AllHeld, allPass, policyFault};
 use crate::Node;
 use crate::Permissions;
 use crate::Span;
 use crate::Trees;
-use reading::paths;
+use crate::nodes::byte_in;
+use crate::nodes::node_at;
+use crate::nodes::word_in;
 use reading::Path;
+use reading::paths;
 
 pub fn has_bit(map: usize, value: usize) -> bool
     requires { ⌜ 0 < value ⌝ }
@@ -73,12 +72,23 @@ fn none_above(nodes: &[usize], tree: Span) -> bool
         if paths::has(Path { groups, len: depth }, node.group) {
             return false;
         }
-        if depth < 8 {
-            groups[depth] = node.group;
-        }
+        groups[depth] = node.group;
         i += 1;
     }
     true
+}
+
+// The same item at two places?
+fn same_item(c: &[u8], a: usize, b: usize) -> bool
+    requires { ⌜ (a < 9000) × (b < 9000) ⌝ }
+    ensures { λ r. ⌜ r ≡ (eqb (getD (now (c .entry)) a 0) (getD (now (c .entry)) b 0)
+        && eqb (wordIn (now (c .entry)) (a + 1)) (wordIn (now (c .entry)) (b + 1))) ⌝ }
+{
+    if byte_in(c, a) == byte_in(c, b) {
+        word_in(c, a + 1) == word_in(c, b + 1)
+    } else {
+        false
+    }
 }
 
 // The same items in two lists?
@@ -88,10 +98,7 @@ fn same_items(c: &[u8], a: usize, b: usize, count: usize) -> bool
 {
     let mut i: usize = 0;
     while i < count {
-        if byte_in(c, a + 3 * i) != byte_in(c, b + 3 * i) {
-            return false;
-        }
-        if word_in(c, a + 3 * i + 1) != word_in(c, b + 3 * i + 1) {
+        if !same_item(c, a + 3 * i, b + 3 * i) {
             return false;
         }
         i += 1;
@@ -113,7 +120,19 @@ fn same_permissions(c: &[u8], p: Permissions, q: Permissions) -> bool
     same_items(c, p.list, q.list, p.count)
 }
 
-// Do all nodes after a row agree with the row's: another group, or the same map and list?
+// Another group, or the same map and list?
+fn agrees(c: &[u8], a: Node, b: Node) -> bool
+    requires { ⌜ (a .permissions .list < 8192) × (b .permissions .list < 8192) × (a .permissions .count < 128) ⌝ }
+    ensures { λ r. ⌜ r ≡ agree (flatOf (now (c .entry)) a .head) (flatOf (now (c .entry)) b .head) ⌝ }
+{
+    if a.group == b.group {
+        same_permissions(c, a.permissions, b.permissions)
+    } else {
+        true
+    }
+}
+
+// Do all nodes after a row agree with the row's?
 fn agrees_after(c: &[u8], nodes: &[usize], row: usize, to: usize) -> bool
     requires { ⌜ (row < to) × (to ≤ 64) ⌝ }
     ensures { λ r. ⌜ r ≡ every (agree (flatOf (now (c .entry)) (nodeAt (now (nodes .entry)) row) .head))
@@ -122,11 +141,8 @@ fn agrees_after(c: &[u8], nodes: &[usize], row: usize, to: usize) -> bool
     let node = node_at(nodes, row);
     let mut i = row + 1;
     while i < to {
-        let later = node_at(nodes, i);
-        if later.group == node.group {
-            if !same_permissions(c, node.permissions, later.permissions) {
-                return false;
-            }
+        if !agrees(c, node, node_at(nodes, i)) {
+            return false;
         }
         i += 1;
     }
@@ -173,7 +189,7 @@ fn marked(nodes: &[usize], row: usize, to: usize) -> [usize; 64]
 // Is each group of a list marked?
 fn list_marked(c: &[u8], p: Permissions, marks: [usize; 64]) -> bool
     requires { ⌜ (p .list < 8192) × (p .count < 128) ⌝ }
-    ensures { λ r. ⌜ r ≡ every (λ d. ltb (d .group) 64 && isMarked marks (d .group)) (itemsAt (p .count) (now (c .entry)) (p .list)) ⌝ }
+    ensures { λ r. ⌜ r ≡ allMarked marks (listedGroups (itemsAt (p .count) (now (c .entry)) (p .list))) ⌝ }
 {
     let mut i: usize = 0;
     while i < p.count {
@@ -192,7 +208,7 @@ fn list_marked(c: &[u8], p: Permissions, marks: [usize; 64]) -> bool
 // Is every group disclosed to by the nodes below a row marked?
 fn kept_below(c: &[u8], nodes: &[usize], row: usize, to: usize, marks: [usize; 64]) -> bool
     requires { ⌜ (row < to) × (to ≤ 64) ⌝ }
-    ensures { λ r. ⌜ r ≡ every (λ h. ltb h 64 && isMarked marks h)
+    ensures { λ r. ⌜ r ≡ allMarked marks
         (disclosedTo (headsIn (belowIn (nodeAt (now (nodes .entry)) row .depth) (flats (now (c .entry)) (now (nodes .entry)) (row + 1) (to - (row + 1)))))) ⌝ }
 {
     let depth = node_at(nodes, row).depth;
@@ -273,7 +289,7 @@ fn tree_passes(question: usize, c: &[u8], nodes: &[usize], tree: Span) -> bool
 fn all_pass(question: usize, c: &[u8], nodes: &[usize], trees: Trees) -> bool
     requires { ⌜ Bounded trees ⌝ }
     ensures { λ r. ⌜ ((policy : List Tree) → AllHeld (now (c .entry)) (now (nodes .entry)) trees 0 policy
-        → r ≡ every (λ t. passesIn question (flatten 0 (alone (t .root)))) policy) ⌝ }
+        → r ≡ allPass question policy) ⌝ }
 {
     let mut t: usize = 0;
     while t < trees.len {
@@ -299,5 +315,9 @@ pub fn policy_fault(c: &[u8], nodes: &[usize], trees: Trees) -> usize
     if !all_pass(14, c, nodes, trees) {
         return 14;
     }
-    if all_pass(15, c, nodes, trees) { 16 } else { 15 }
+    if all_pass(15, c, nodes, trees) {
+        16
+    } else {
+        15
+    }
 }

@@ -7,7 +7,8 @@ use Rattle.reading.specs.Read.{Read, got, refused}
 use Rattle.inference.specs.Interface.{Entry}
 use Rattle.policy.specs.Syntax.{Tree}
 use Rattle.policy.specs.Reading.{readPolicy}
-use Rattle.policy.specs.Loads.{policyFault, entriesFault}
+use Rattle.policy.specs.Loads.{policyFault}
+use Rattle.fit.specs.Faults.{entriesFault}
 
 -- The first of questions 12 to 18 that fails, or 19.
 unfoldable pub policyThenEntries : List Tree → List Entry → ℕ

@@ -13,7 +13,7 @@ use crate::Answer;
 use interface::interface_len;
 use interface::write_interface;
 use inference::sheet::infer;
-use policy::fit::fit;
+use fit::entries::fit;
 use policy::read::read_policy;
 use policy::wellformed::policy_fault;
 use reading::system::read;
