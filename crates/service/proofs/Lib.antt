@@ -3,3 +3,4 @@ pub mod Computed
 pub mod Table
 pub mod Cases
 pub mod JudgeLaws
+pub mod CheckSteps

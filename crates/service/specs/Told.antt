@@ -1,5 +1,5 @@
 -- Which number and values of document 01 each case of a service's answer is, and what a call of `check` promises.
-use Prim.Native.Nat.{ℕ}
+use Prim.Native.Nat.{ℕ, _<_}
 use mathlib.Core.Path.{_≡_}
 use mathlib.Core.List.{List}
 use lib.ListN.{getD}
@@ -40,4 +40,4 @@ pub record Clear (table : List ℕ) : Type 0 where
 -- Bytes that are written where there is room for them.
 pub record Delivered (bytes output output′ : List ℕ) (r : Answer) : Type 0 where
   pub answer : told r ≡ written output (fitting output bytes) .answer
-  pub lent : output′ ≡ written output (fitting output bytes) .lent
+  pub lent : ((i : ℕ) → getD bytes i 0 < 256) → output′ ≡ written output (fitting output bytes) .lent
