@@ -1,7 +1,5 @@
 // The program `list`: reads `sheet.bin` and `charter.bin` in the folder it is run in (an absent file as empty), and prints
 // `accepted` and the interface, an entry a line, or `refused N`.
-ghost use Prim.Native.Nat.{_≤_};
-
 use libc::STDOUT_FILENO;
 use listing::entry_line;
 use service::checking::check;
@@ -18,22 +16,34 @@ fn load(path: &[u8], buf: &mut [u8]) -> usize {
     n
 }
 
-// How much of a line of 4,096 bytes is printed: all of it, since no entry's line is that long.
-fn shown(len: usize) -> usize
-    ensures { λ r. ⌜ r ≤ 4096 ⌝ }
-{
-    if len < 4096 { len } else { 4096 }
+// The first bytes of a buffer. What is read, composed or answered fits its buffer, so the whole buffer is never taken.
+fn first(buf: &[u8], n: usize) -> &[u8] {
+    if buf.len() < n {
+        return buf;
+    }
+    &buf[..n]
 }
 
-// Prints an interface, an entry a line. Each entry has at least four bytes, so the turns suffice.
-fn print_entries(interface: &[u8]) {
+// Prints the entry at a place of an interface; the place after it, or the same place at the end.
+fn print_entry(interface: &[u8], at: usize) -> usize {
+    if interface.len() <= at {
+        return at;
+    }
+    if 16384 <= at {
+        return at;
+    }
     let mut text = [0u8; 4096];
+    let line = entry_line(interface, at, &mut text);
+    io::write_all(STDOUT_FILENO, first(&text, line.len));
+    line.next
+}
+
+// Prints an interface, an entry a line. Each entry has at least four bytes, so 4,096 turns reach the end.
+fn print_entries(interface: &[u8]) {
     let mut at: usize = 0;
     let mut turns: usize = 4096;
-    while at < interface.len() && 0 < turns {
-        let line = entry_line(interface, at, &mut text);
-        io::write_all(STDOUT_FILENO, &text[..shown(line.len)]);
-        at = line.next;
+    while 0 < turns {
+        at = print_entry(interface, at);
         turns -= 1;
     }
 }
@@ -44,11 +54,11 @@ fn main() {
     let mut output = [0u8; 16384];
     let s = load(b"sheet.bin", &mut sheet);
     let c = load(b"charter.bin", &mut charter);
-    let answer = check(&sheet[..s], &charter[..c], &mut output);
+    let answer = check(first(&sheet, s), first(&charter, c), &mut output);
     match answer {
         Answer::Accepted(n) => {
             io::write_all(STDOUT_FILENO, b"accepted\n");
-            print_entries(&output[..n]);
+            print_entries(first(&output, n));
         }
         Answer::Refused(n) => {
             io::write_all(STDOUT_FILENO, b"refused ");

@@ -1,0 +1,16 @@
+-- The loop ends because the turns run out; it promises nothing else.
+use Prim.Native.Nat.{_≤_}
+use borrow.Author.Needs.{needs}
+use Rattle.list.proofs.print_entries.Statement.{statement}
+use Rattle.list.proofs.print_entries.Tie as tie
+
+abbrev Inv-loop : tie.InvT-loop
+Inv-loop interface at₀ turns₀ at turns = turns ≤ 4096
+
+abbrev μ-loop : tie.MeasureT-loop
+μ-loop interface at₀ turns₀ at turns = turns
+
+pub print-entries-spec : {M : Type 1} → statement M
+print-entries-spec =
+    tie.close
+    (tie.spec Inv-loop μ-loop (λ c. search needs) (λ c κs. search needs) (λ c. search needs) (λ c. search needs) (λ c. search needs) (λ c. search needs))
