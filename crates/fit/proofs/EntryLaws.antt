@@ -113,6 +113,7 @@ module _ (policy : List Tree) (table : List ℕ) (n k : ℕ) where
         four true true false w = refl
         four true false z w = refl
         four false y z w = refl
+
         flag-one : (col : ℕ) (q : Permission) (v : ℕ) → one q ≡ flagGiven v c nodes rows → (not (isSet (cell table n k col)) || one q) ≡ flagCovers v c nodes rows (cell table n k col)
         flag-one col q v e = unfold flagCovers in ap (λ (b : Bool). not (isSet (cell table n k col)) || b) e
 
@@ -216,18 +217,20 @@ pub record KindsSoFar (c nodes : List ℕ) (trees : Trees) (table : List ℕ) (n
 
 pub kinds-start : (c nodes : List ℕ) (trees : Trees) (table : List ℕ) (n : ℕ) → KindsSoFar c nodes trees table n 19 0
 kinds-start c nodes trees table n = record {
-    within = omega arith;
-    most = omega arith;
-    whole = λ policy held. omega (arith, faults-most policy (map (entryAt table n) (rising 0 16))) }
+  within = omega arith;
+  most = omega arith;
+  whole = λ policy held. omega (arith, faults-most policy (map (entryAt table n) (rising 0 16)));
+}
 
 module _ (c nodes : List ℕ) (trees : Trees) (table : List ℕ) (n first kind : ℕ) (so : KindsSoFar c nodes trees table n first kind) where
   pub kinds-next : kind < 16 → (fault next : ℕ) → ((policy : List Tree) → AllHeld c nodes trees 0 policy → fault ≡ entryFault policy (entryAt table n kind))
       → next ≡ min first fault → KindsSoFar c nodes trees table n next (kind + 1)
   kinds-next here fault next e f = record {
-      within = omega arith;
-      most = omega (arith, so .most);
-      whole = λ policy held. least-next first fault next _ _ _ (so .whole policy held)
-          (kind-first policy table n kind here ∙ ap (λ (v : ℕ). min v (kindsFault policy table n (kind + 1) (16 - (kind + 1)))) (sym (e policy held))) f }
+    within = omega arith;
+    most = omega (arith, so .most);
+    whole = λ policy held. least-next first fault next _ _ _ (so .whole policy held)
+        (kind-first policy table n kind here ∙ ap (λ (v : ℕ). min v (kindsFault policy table n (kind + 1) (16 - (kind + 1)))) (sym (e policy held))) f;
+  }
 
   pub kinds-end : 16 ≤ kind → (policy : List Tree) → AllHeld c nodes trees 0 policy → first ≡ entriesFault policy (rowEntries table n)
   unfolding entriesFault
@@ -245,18 +248,20 @@ pub rows-start : (c nodes : List ℕ) (trees : Trees) (table : List ℕ) (m : �
 rows-start c nodes trees table m =
     let z : m - 0 ≡ m = omega arith in
     record {
-    within = omega arith;
-    most = omega arith;
-    whole = λ policy held. rw z (omega (arith, faults-most policy (gather (rowEntries table) (rising 0 m)))) }
+      within = omega arith;
+      most = omega arith;
+      whole = λ policy held. rw z (omega (arith, faults-most policy (gather (rowEntries table) (rising 0 m))));
+    }
 
 module _ (c nodes : List ℕ) (trees : Trees) (table : List ℕ) (m first i : ℕ) (so : RowsSoFar c nodes trees table m first i) where
   pub rows-next : i < m → (fault next : ℕ) → ((policy : List Tree) → AllHeld c nodes trees 0 policy → fault ≡ entriesFault policy (rowEntries table i))
       → next ≡ min first fault → RowsSoFar c nodes trees table m next (i + 1)
   rows-next here fault next e f = record {
-      within = omega arith;
-      most = omega (arith, so .most);
-      whole = λ policy held. least-next first fault next _ _ _ (so .whole policy held)
-          (row-first policy table i m here ∙ ap (λ (v : ℕ). min v (rowsFrom policy table (i + 1) (m - (i + 1)))) (sym (e policy held))) f }
+    within = omega arith;
+    most = omega (arith, so .most);
+    whole = λ policy held. least-next first fault next _ _ _ (so .whole policy held)
+        (row-first policy table i m here ∙ ap (λ (v : ℕ). min v (rowsFrom policy table (i + 1) (m - (i + 1)))) (sym (e policy held))) f;
+  }
 
   pub rows-end : m ≤ i → (policy : List Tree) → AllHeld c nodes trees 0 policy → first ≡ entriesFault policy (tableEntries table m)
   unfolding entriesFault gather tableEntries

@@ -110,9 +110,10 @@ module _ (c nodes rows table : List ℕ) (n k group : ℕ) (so : GroupsSoFar c n
   pub group-passes : (x : ℕ) (b : Bool) → group < 64 → x ≡ cell table n k group → b ≡ countCovers group c nodes rows x → not b ≡ false
       → GroupsSoFar c nodes rows table n k (group + 1)
   group-passes x b here e f g = record {
-      within = omega arith;
-      same = turn here ∙ ap (λ (t : Bool). t && countsCoverFrom (group + 1) (64 - (group + 1)) c nodes rows table n k)
-          (ap (countCovers group c nodes rows) (sym e) ∙ sym f ∙ not-false b g) }
+    within = omega arith;
+    same = turn here ∙ ap (λ (t : Bool). t && countsCoverFrom (group + 1) (64 - (group + 1)) c nodes rows table n k)
+        (ap (countCovers group c nodes rows) (sym e) ∙ sym f ∙ not-false b g);
+  }
 
   pub groups-end : 64 ≤ group → true ≡ countsCoverFrom 0 64 c nodes rows table n k
   unfolding countsCoverFrom every
@@ -139,8 +140,23 @@ module _ (c nodes rows table : List ℕ) (n k : ℕ) where
   unfolding rowsFault allGiven
   all-covered a b d e f g h i j = rw (← e, not-false a f, ← g, not-false b h, ← i, j) refl
 
-pub ruleset entry-steps = (needs, sum-unlimited, sum-too-small, sum-compared, flag-spared, flag-asked, count-spared, count-asked,
-    read-fails, write-fails, access-decides, groups-start, group-fails, group-passes, groups-end)
+pub ruleset entry-steps = (
+  needs,
+  sum-unlimited,
+  sum-too-small,
+  sum-compared,
+  flag-spared,
+  flag-asked,
+  count-spared,
+  count-asked,
+  read-fails,
+  write-fails,
+  access-decides,
+  groups-start,
+  group-fails,
+  group-passes,
+  groups-end,
+)
 
 -- The rows that were found are those of the path in the table's row.
 module _ (c nodes rows path path′ table : List ℕ) (n k start len : ℕ) (is : path ≡ path′)

@@ -9,20 +9,19 @@ ghost use Rattle.policy.specs.Loads.{Bounded, AllHeld};
 ghost use Rattle.fit.specs.Givers.{givenRows, totalOf, giversIn};
 ghost use Rattle.fit.specs.Covers.{flagCovers, flagsCover, countCovers, countsCoverFrom, rowsFault};
 ghost use Rattle.fit.specs.Faults.{entryFault, entriesFault};
-
+use crate::Givers;
+use crate::Total;
 use crate::grants::all_given;
 use crate::grants::count_granted;
 use crate::grants::flag_granted;
 use crate::grants::givers;
 use crate::grants::tree_for;
-use crate::Givers;
-use crate::Total;
 use inference::rows::path_of;
 use interface::count_at;
 use interface::map_at;
-use policy::wellformed::span_of;
 use policy::Span;
 use policy::Trees;
+use policy::wellformed::span_of;
 
 // Is a needed count at most a granted sum?
 fn within(needed: usize, granted: Total) -> bool
@@ -48,7 +47,13 @@ fn flag_covered(needed: usize, nodes: &[usize], givers: Givers, value: usize) ->
     flag_granted(nodes, givers, value)
 }
 
-fn flags_covered(table: &[u16], component: usize, kind: usize, nodes: &[usize], givers: Givers) -> bool
+fn flags_covered(
+    table: &[u16],
+    component: usize,
+    kind: usize,
+    nodes: &[usize],
+    givers: Givers,
+) -> bool
     requires { ⌜ (component < 32) × (kind < 16) ⌝ }
     ensures { λ r. ⌜ ((c : List ℕ) → r ≡ flagsCover c (now (nodes .entry)) (givenRows givers) (now (table .entry)) component kind) ⌝ }
 {
@@ -71,13 +76,26 @@ fn count_covered(needed: usize, c: &[u8], nodes: &[usize], givers: Givers, group
     within(needed, count_granted(c, nodes, givers, group))
 }
 
-fn counts_covered(c: &[u8], table: &[u16], component: usize, kind: usize, nodes: &[usize], givers: Givers) -> bool
+fn counts_covered(
+    c: &[u8],
+    table: &[u16],
+    component: usize,
+    kind: usize,
+    nodes: &[usize],
+    givers: Givers,
+) -> bool
     requires { ⌜ (component < 32) × (kind < 16) ⌝ }
     ensures { λ r. ⌜ r ≡ countsCoverFrom 0 64 (now (c .entry)) (now (nodes .entry)) (givenRows givers) (now (table .entry)) component kind ⌝ }
 {
     let mut group: usize = 0;
     while group < 64 {
-        if !count_covered(count_at(table, component, kind, group), c, nodes, givers, group) {
+        if !count_covered(
+            count_at(table, component, kind, group),
+            c,
+            nodes,
+            givers,
+            group,
+        ) {
             return false;
         }
         group += 1;
@@ -86,7 +104,14 @@ fn counts_covered(c: &[u8], table: &[u16], component: usize, kind: usize, nodes:
 }
 
 // The first of questions 17 and 18 that the entry of a component and a kind fails in the kind's tree, or 19.
-fn tree_fault(c: &[u8], nodes: &[usize], tree: Span, table: &[u16], component: usize, kind: usize) -> usize
+fn tree_fault(
+    c: &[u8],
+    nodes: &[usize],
+    tree: Span,
+    table: &[u16],
+    component: usize,
+    kind: usize,
+) -> usize
     requires { ⌜ (tree .to ≤ 64) × (component < 32) × (kind < 16) ⌝ }
     ensures { λ r. ⌜ r ≡ rowsFault (now (c .entry)) (now (nodes .entry))
         (giversIn (now (c .entry)) (now (nodes .entry)) (pathAt (now (table .entry)) component) (tree .from) (tree .to - tree .from))
@@ -107,7 +132,14 @@ fn tree_fault(c: &[u8], nodes: &[usize], tree: Span, table: &[u16], component: u
 }
 
 // The first of questions 16 to 18 that the entry of a component and a kind fails, or 19.
-fn entry_fault(c: &[u8], nodes: &[usize], trees: Trees, table: &[u16], component: usize, kind: usize) -> usize
+fn entry_fault(
+    c: &[u8],
+    nodes: &[usize],
+    trees: Trees,
+    table: &[u16],
+    component: usize,
+    kind: usize,
+) -> usize
     requires { ⌜ (component < 32) × (kind < 16) × Bounded trees ⌝ }
     ensures { λ r. ⌜ ((policy : List Tree) → AllHeld (now (c .entry)) (now (nodes .entry)) trees 0 policy
         → r ≡ entryFault policy (entryAt (now (table .entry)) component kind)) ⌝ }

@@ -193,12 +193,13 @@ module _ (table : List ℕ) (n : ℕ) (acts : List Act) (h : Counted table n act
   entry-cells : (k : ℕ) → k < 16 → (c : Component) → c .number ≡ n → c .path ≡ pathAt table n → entryAt table n k ≡ entryOf c acts k
   unfolding entryAt entryOf
   entry-cells k q c e f = λ i. record {
-      component = record { number = sym e i; path = sym f i };
-      kind = k;
-      read = flag-cell k 64 q (omega arith) (isRead k) (λ a. lands-read k (needOf a) (narrow a)) i;
-      write = flag-cell k 65 q (omega arith) (isWrite k) (λ a. lands-write k (needOf a) (narrow a)) i;
-      access = flag-cell k 66 q (omega arith) (isAccess k) (λ a. lands-access k (needOf a) (narrow a)) i;
-      disclose = disclosures-cells k q i }
+    component = record { number = sym e i; path = sym f i };
+    kind = k;
+    read = flag-cell k 64 q (omega arith) (isRead k) (λ a. lands-read k (needOf a) (narrow a)) i;
+    write = flag-cell k 65 q (omega arith) (isWrite k) (λ a. lands-write k (needOf a) (narrow a)) i;
+    access = flag-cell k 66 q (omega arith) (isAccess k) (λ a. lands-access k (needOf a) (narrow a)) i;
+    disclose = disclosures-cells k q i;
+  }
 
   -- a row whose cells are the counts of acts holds their entries
   pub row-entries : (c : Component) → c .number ≡ n → c .path ≡ pathAt table n

@@ -139,8 +139,9 @@ form-group s at nest names path posts = every-then P (byteAt s at) _ (λ code ne
 -- A path with one more group fits a row.
 fits-more : (path : List ℕ) (g : ℕ) → FitsRow path → length path < 8 → g < 64 → FitsRow (path ++ (g ∷ []))
 fits-more path g h short small = record {
-    short = rw (length-append path (g ∷ [])) (omega arith);
-    groups = λ i p. each i (rw (length-append path (g ∷ [])) at p) }
+  short = rw (length-append path (g ∷ [])) (omega arith);
+  groups = λ i p. each i (rw (length-append path (g ∷ [])) at p);
+}
   where
     each : (i : ℕ) → i < length path + 1 → getD (path ++ (g ∷ [])) i 0 < 64
     each i p = go (ℕ-discrete i (length path))
@@ -182,7 +183,7 @@ module _ (read : ℕ → List ℕ → ℕ → ℕ → Read System) (process : �
       let z : parₛ (x .value) (y .value) ≡ p = cc in
       let w : y .place ≡ k = cc in
       let mono = later names path (posts + components (x .value)) (x .place) (y .value) (y .place) (y .first) in
-      rw (← z) (      store-append posts (posts + components (x .value))
+      rw (← z) (store-append posts (posts + components (x .value))
       (l names path posts next scope (x .value) (x .place) (x .first) fits (omega arith))
       (ap (λ (n : ℕ). posts + n) (sym (located-count posts path scope (x .value))))
       (l names path (posts + components (x .value)) (x .place) scope (y .value) (y .place) (y .first) fits (omega arith)))
@@ -190,7 +191,7 @@ module _ (read : ℕ → List ℕ → ℕ → ℕ → Read System) (process : �
       let x = parts (read names (path ++ (b ∷ [])) posts next) (λ u j. got (groupₛ b u) j) e in
       let z : groupₛ b (x .value) ≡ p = cc in
       let w : x .place ≡ k = cc in
-      rw (← z) (      l names (path ++ (b ∷ [])) posts next scope (x .value) (x .place) (x .first) (fits-more path b fits (h .1) g) (omega arith))
+      rw (← z) (l names (path ++ (b ∷ [])) posts next scope (x .value) (x .place) (x .first) (fits-more path b fits (h .1) g) (omega arith))
   store-from (New t) next h g {p} {k} e few =
       let x = parts (read (names + 1) path posts next) (λ u j. got (newₛ t u) j) e in
       let z : newₛ t (x .value) ≡ p = cc in
@@ -202,10 +203,11 @@ module _ (read : ℕ → List ℕ → ℕ → ℕ → Read System) (process : �
       let w : x .place ≡ k = cc in
       let c : Owner = record { number = posts; path = path ++ (b ∷ []) } in
       rw (← z) (store-more (record {
-          number = refl;
-          fits = fits-more path b fits (h .1) g;
-          own = own-acts c false scope (x .value);
-          few = omega (arith, open-acts c false scope (x .value), a next (x .value) (x .place) (x .first)) })
+        number = refl;
+        fits = fits-more path b fits (h .1) g;
+        own = own-acts c false scope (x .value);
+        few = omega (arith, open-acts c false scope (x .value), a next (x .value) (x .place) (x .first));
+      })
       store-none)
   store-from (Input i) next h g e few = never e
   store-from (Output i) next h g e few = never e
@@ -230,7 +232,7 @@ store-read zero s names path posts at scope p k e fits few =
     let a = parts (systemAt s at 0 names path posts) (λ f next. refused 5 at) e in never (a .rest)
 store-read (suc n) s names path posts at scope p k e fits few =
     let a = parts (systemAt s at (suc n) names path posts)
-        (λ f next. systemFrom (λ ns q i m. readSystem n s ns q i m) (λ m. readProcess n s names m) at names path posts f next) e in
+    (λ f next. systemFrom (λ ns q i m. readSystem n s ns q i m) (λ m. readProcess n s names m) at names path posts f next) e in
     store-from (λ ns q i m. readSystem n s ns q i m) (λ m. readProcess n s names m)
     (λ ns q i m r j f. omega (arith, place-after (m + 1) (λ b. readSystem n b ns q i m) (read-system-local n ns q i m) s f))
     (λ ns q i m sc r j f fi fe. store-read n s ns q i m sc r j f fi fe)

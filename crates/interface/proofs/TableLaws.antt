@@ -68,6 +68,7 @@ agree-path table table′ n small long long′ same =
   where
     len : (i : ℕ) → i < length (take 8 (drop (n * 1081 + 1) table)) → i < 8
     len i p = let e : length (take 8 (drop (n * 1081 + 1) table)) ≡ min 8 (length (drop (n * 1081 + 1) table)) = length-take 8 (drop (n * 1081 + 1) table) in omega arith
+
     each : (i : ℕ) → i < 8 → getD (take 8 (drop (n * 1081 + 1) table)) i 0 ≡ getD (take 8 (drop (n * 1081 + 1) table′)) i 0
     each i p =
         getD-take 8 (drop (n * 1081 + 1) table) i 0 p ∙ getD-drop (n * 1081 + 1) table i 0
@@ -80,7 +81,7 @@ module _ (table : List ℕ) (n : ℕ) (small : n < 32) (long : length table ≡ 
   stored-length =
       let e : n * 1081 + 0 ≡ n * 1081 = omega arith in
       let h : getD (stored table (n * 1081) (length path ∷ path)) (n * 1081 + 0) 0 ≡ length path % 65536 =
-          stored-in table (n * 1081) (length path ∷ path) 0 (omega arith) (rw long (omega (arith, fits .short))) in
+      stored-in table (n * 1081) (length path ∷ path) 0 (omega arith) (rw long (omega (arith, fits .short))) in
       ap (λ (i : ℕ). getD (stored table (n * 1081) (length path ∷ path)) i 0) (sym e) ∙ h
       ∙ mod-eq-of-lt (omega (arith, fits .short))
 
@@ -89,7 +90,7 @@ module _ (table : List ℕ) (n : ℕ) (small : n < 32) (long : length table ≡ 
   stored-group i p =
       let e : n * 1081 + 1 + i ≡ n * 1081 + suc i = omega arith in
       let h : getD (stored table (n * 1081) (length path ∷ path)) (n * 1081 + suc i) 0 ≡ getD path i 0 % 65536 =
-          stored-in table (n * 1081) (length path ∷ path) (suc i) (omega arith) (rw long (omega (arith, fits .short))) in
+      stored-in table (n * 1081) (length path ∷ path) (suc i) (omega arith) (rw long (omega (arith, fits .short))) in
       ap (λ (j : ℕ). getD (stored table (n * 1081) (length path ∷ path)) j 0) e ∙ h
       ∙ mod-eq-of-lt (omega (arith, fits .groups i p))
 
@@ -105,14 +106,16 @@ module _ (table : List ℕ) (n : ℕ) (small : n < 32) (long : length table ≡ 
     where
       l8 : length (drop (n * 1081 + 1) (withPath table n path)) ≡ 34592 - (n * 1081 + 1)
       l8 = length-drop (n * 1081 + 1) (withPath table n path) ∙ ap (λ (k : ℕ). k - (n * 1081 + 1)) length-with-path
+
       len : length (take (length path) (take 8 (drop (n * 1081 + 1) (withPath table n path)))) ≡ length path
       len =
           let a : length (take (length path) (take 8 (drop (n * 1081 + 1) (withPath table n path))))
-              ≡ min (length path) (length (take 8 (drop (n * 1081 + 1) (withPath table n path))))
-              = length-take (length path) (take 8 (drop (n * 1081 + 1) (withPath table n path))) in
+          ≡ min (length path) (length (take 8 (drop (n * 1081 + 1) (withPath table n path))))
+          = length-take (length path) (take 8 (drop (n * 1081 + 1) (withPath table n path))) in
           let b : length (take 8 (drop (n * 1081 + 1) (withPath table n path))) ≡ min 8 (length (drop (n * 1081 + 1) (withPath table n path)))
-              = length-take 8 (drop (n * 1081 + 1) (withPath table n path)) in
+          = length-take 8 (drop (n * 1081 + 1) (withPath table n path)) in
           omega (arith, l8, fits .short)
+
       each : (i : ℕ) → i < length (take (length path) (take 8 (drop (n * 1081 + 1) (withPath table n path))))
           → getD (take (length path) (take 8 (drop (n * 1081 + 1) (withPath table n path)))) i 0 ≡ getD path i 0
       each i p =
@@ -174,17 +177,19 @@ module _ (table : List ℕ) (n : ℕ) (small : n < 32) (long : length table ≡ 
   row-counted : Clear n table → Counted (rowOf table n l) n (actsOf l)
   unfolding rowOf Clear cell
   row-counted clear = record {
-      few = ok .few;
-      cells = λ k c p q.
-          charged-count n small k c p q (withPath table n (l .component .path))
-          (length-with-path table n small long (l .component .path) (ok .fits)) (fin 0)
-          (unfold withPath countNumber in (stored-after table (n * 1081) (cellOf n k c) (length (l .component .path) ∷ l .component .path) (past k c)
-          ∙ clear (cellOf n k c) (beyond k c)))
-          (ok .own) (unfold Few in omega (arith, ok .few))
-          ∙ ap countNumber (nothing-join (total (λ a. lands k c (needOf a)) (actsOf l))) }
+    few = ok .few;
+    cells = λ k c p q.
+        charged-count n small k c p q (withPath table n (l .component .path))
+        (length-with-path table n small long (l .component .path) (ok .fits)) (fin 0)
+        (unfold withPath countNumber in (stored-after table (n * 1081) (cellOf n k c) (length (l .component .path) ∷ l .component .path) (past k c)
+        ∙ clear (cellOf n k c) (beyond k c)))
+        (ok .own) (unfold Few in omega (arith, ok .few))
+        ∙ ap countNumber (nothing-join (total (λ a. lands k c (needOf a)) (actsOf l)));
+  }
     where
       past : (k c : ℕ) → n * 1081 + length (length (l .component .path) ∷ l .component .path) ≤ cellOf n k c
       past k c = unfold cellOf in omega (arith, ok .fits .short)
+
       beyond : (k c : ℕ) → n * 1081 ≤ cellOf n k c
       beyond k c = unfold cellOf in omega arith
 
@@ -227,17 +232,22 @@ row-in-table table n l rest ok more h long clear =
   where
     small : n < 32
     small = omega arith
+
     long′ : length (rowOf table n l) ≡ 34592
     long′ = length-row table n small long l ok
+
     kept : (i : ℕ) → i < suc n * 1081 → getD (chargedAll (rowOf table n l) rest) i 0 ≡ getD (rowOf table n l) i 0
     kept i p = rows-kept rest (suc n) more h (rowOf table n l) long′ i p
+
     below : (k c : ℕ) → k < 16 → c < 67 → cellOf n k c < suc n * 1081
     below k c p q = unfold cellOf in omega arith
+
     counted : Counted (chargedAll (rowOf table n l) rest) n (actsOf l)
     counted = record {
-        few = ok .few;
-        cells = λ k c p q. unfold cell in (kept (cellOf n k c) (below k c p q)
-            ∙ unfold cell in (row-counted table n small long l ok clear .cells k c p q)) }
+      few = ok .few;
+      cells = λ k c p q. unfold cell in (kept (cellOf n k c) (below k c p q)
+          ∙ unfold cell in (row-counted table n small long l ok clear .cells k c p q));
+    }
 
 -- The table of components that are stored one after another holds their entries.
 pub table-from : (ls : List Located) (n : ℕ) → AllStorable n ls → n + length ls ≤ 32 → (table : List ℕ) → length table ≡ 34592

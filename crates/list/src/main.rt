@@ -2,8 +2,8 @@
 // `accepted` and the interface, an entry a line, or `refused N`.
 use libc::STDOUT_FILENO;
 use listing::entry_line;
-use service::checking::check;
 use service::Answer;
+use service::checking::check;
 
 // Reads a file into a buffer, as much as fits; an absent file has no bytes.
 fn load(path: &[u8], buf: &mut [u8]) -> usize {

@@ -154,7 +154,7 @@ unfolding readSystem systemTree orNothing
 system-total zero s names path posts at p k e = never (parts (systemAt s at 0 names path posts) (λ form next. refused 5 at) e .rest)
 system-total (suc n) s names path posts at p k e =
     let h = parts (systemAt s at (suc n) names path posts) (λ form next.
-        systemFrom (λ ns p j m. readSystem n s ns p j m) (λ m. readProcess n s names m) at names path posts form next) e in
+    systemFrom (λ ns p j m. readSystem n s ns p j m) (λ m. readProcess n s names m) at names path posts form next) e in
     rw (h .first)
     (system-same (λ ns p j m. readSystem n s ns p j m) (λ ns p j m. systemTree n s ns p j m) (λ m. readProcess n s names m) (λ m. processTree n s names m)
     at names path posts (h .value) (h .place) (λ ns p j m. system-total n s ns p j m) (λ m. process-total n s names m) p k (h .rest))

@@ -100,14 +100,16 @@ module _ (bytes output : List ℕ) (len : ℕ) (is : len ≡ length bytes) where
   pub no-room : length output < len → Delivered bytes output output (answer-case.Refused 19)
   unfolding fitting written ask
   no-room h = record {
-      answer = rw (lt-leb (length bytes) (length output) (omega arith)) refl;
-      lent = λ small. rw (lt-leb (length bytes) (length output) (omega arith)) refl }
+    answer = rw (lt-leb (length bytes) (length output) (omega arith)) refl;
+    lent = λ small. rw (lt-leb (length bytes) (length output) (omega arith)) refl;
+  }
 
   pub room : (output′ : List ℕ) (r : ℕ) → len ≤ length output → Stored output output′ 0 bytes r → Delivered bytes output output′ (answer-case.Accepted len)
   unfolding fitting written ask
   room output′ r h s = record {
-      answer = rw (le-leb (length bytes) (length output) (omega arith)) (ap passed is);
-      lent = λ small. rw (le-leb (length bytes) (length output) (omega arith)) (s .left ∙ store-all output (all-bytes bytes small) (omega arith)) }
+    answer = rw (le-leb (length bytes) (length output) (omega arith)) (ap passed is);
+    lent = λ small. rw (le-leb (length bytes) (length output) (omega arith)) (s .left ∙ store-all output (all-bytes bytes small) (omega arith));
+  }
 
 -- A refusal leaves the output as it was.
 refused-leaves : (s c output : List ℕ) (n : ℕ) → judged s c ≡ failed n → Checked s c output output (answer-case.Refused n)
@@ -154,8 +156,9 @@ module _ (s c table table′ : List ℕ) (walk : SystemWalk) (reads : Reads s c)
       → Checked s c output output′ r
   unfolding checked interfaceFor
   delivered output output′ r p d = record {
-      answer = rw (p .accepted) (d .answer);
-      lent = rw (p .accepted) (d .lent (each-byte (interface-bytes s c (reads .tree) (reads .end) whole))) }
+    answer = rw (p .accepted) (d .answer);
+    lent = rw (p .accepted) (d .lent (each-byte (interface-bytes s c (reads .tree) (reads .end) whole)));
+  }
 
   pub all-pass : (output output′ : List ℕ) (fault : ℕ) (r : Answer) → 11 ≤ walk .fault → fault ≡ laterFault c (tableEntries table′ (walk .components)) → 19 ≤ fault
       → Delivered (interfaceBytes (tableEntries table′ (walk .components))) output output′ r → Checked s c output output′ r

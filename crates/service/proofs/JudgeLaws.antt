@@ -218,9 +218,10 @@ pub record Passes (s c : List ℕ) (sheet : Sheet) : Type 0 where
 later-passes : (s c : List ℕ) (sheet : Sheet) (r : Read (List Tree)) → judged s c ≡ later sheet r → 19 ≤ afterPolicy r (interface sheet) → Passes s c sheet
 unfolding later afterPolicy afterReading
 later-passes s c sheet (got policy next) e h = record {
-    policy = policy;
-    accepted = e ∙ later-policy sheet policy (passed (record { sheet = sheet; policy = policy }))
-        ∙ goes-on 19 (policyThenEntries policy (interface sheet)) (passed (record { sheet = sheet; policy = policy })) h }
+  policy = policy;
+  accepted = e ∙ later-policy sheet policy (passed (record { sheet = sheet; policy = policy }))
+      ∙ goes-on 19 (policyThenEntries policy (interface sheet)) (passed (record { sheet = sheet; policy = policy })) h;
+}
 later-passes s c sheet (refused q at) e h = absurd (omega arith)
 
 pub judged-accepts : (s c : List ℕ) (sheet : Sheet) (k : ℕ) → sheetOf s c ≡ got sheet k → 11 ≤ worstAll (located sheet)

@@ -8,16 +8,15 @@ ghost use Rattle.inference.specs.Interface.{interfaceBytes};
 ghost use Rattle.service.specs.Check.{checked};
 ghost use Rattle.service.specs.Told.{told, questionOf, Reads, Clear, Delivered, Checked};
 ghost use Rattle.service.specs.Later.{laterFault};
-
 use crate::Answer;
+use fit::entries::fit;
+use inference::sheet::infer;
 use interface::interface_len;
 use interface::write_interface;
-use inference::sheet::infer;
-use fit::entries::fit;
 use policy::read::read_policy;
 use policy::wellformed::policy_fault;
-use reading::system::read;
 use reading::End;
+use reading::system::read;
 
 // Questions 11 to 18, with a table for the charter's nodes: the first that fails, or 19.
 fn judge_with(charter: &[u8], table: &[u16], components: usize, nodes: &mut [usize]) -> usize
