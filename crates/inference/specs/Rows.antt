@@ -1,5 +1,5 @@
 -- The table of what components need: rows of 1,081 cells (src/rows.rt). Its cells are the counts that acts need together
--- (`table-count` of proofs/TableLaws.antt).
+-- (`charged-count` of the crate interface's proofs/CellLaws.antt).
 use Prim.Native.Nat.{ℕ, zero, suc, _+_, _*_, _%_}
 use mathlib.Core.List.{List, [], _∷_, map}
 use mathlib.Core.Bool.{Bool, true, false, cond, not, _&&_}

@@ -1,3 +1,4 @@
+-- A count that is not needed is spared; any other is compared with the granted sum.
 use borrow.Author.Needs.{needs}
 use Rattle.fit.proofs.EntrySteps.{entry-steps}
 use Rattle.fit.proofs.entries.count_covered.Statement.{statement}

@@ -1,3 +1,4 @@
+-- The groups passed so far are covered, so that those left decide (`GroupsSoFar`).
 use Prim.Native.Nat.{_-_}
 use Rattle.fit.specs.Givers.{givenRows}
 use Rattle.fit.proofs.EntrySteps.{entry-steps, GroupsSoFar}

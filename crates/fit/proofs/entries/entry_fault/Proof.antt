@@ -1,3 +1,4 @@
+-- No permission: no entry. No tree for the kind: 16. Else the tree's rows decide (`in-tree`).
 use borrow.Author.Needs.{needs}
 use mathlib.Core.Path.{sym, _∙_}
 use native.Mathlib.Omega.{arith}

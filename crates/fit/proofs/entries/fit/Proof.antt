@@ -1,3 +1,4 @@
+-- The components done so far and those left give the whole (`RowsSoFar`); each component's answer is `row_fault`'s.
 use Prim.Native.Nat.{_-_}
 use borrow.Author.Needs.{needs}
 use Rattle.fit.proofs.EntryLaws.{RowsSoFar, rows-start, rows-next, rows-end}

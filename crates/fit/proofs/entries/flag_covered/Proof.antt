@@ -1,3 +1,4 @@
+-- A flag that is not needed is spared; any other is looked for among the rows that give.
 use borrow.Author.Needs.{needs}
 use Rattle.fit.proofs.EntrySteps.{entry-steps}
 use Rattle.fit.proofs.entries.flag_covered.Statement.{statement}

@@ -1,3 +1,4 @@
+-- The three flags one after another; the first that is not covered decides.
 use borrow.Author.Needs.{needs}
 use Rattle.fit.proofs.EntrySteps.{entry-steps}
 use Rattle.fit.proofs.entries.flags_covered.Statement.{statement}

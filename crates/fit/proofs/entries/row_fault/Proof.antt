@@ -1,3 +1,4 @@
+-- The kinds done so far and those left give the whole (`KindsSoFar`); each kind's answer is `entry_fault`'s.
 use Prim.Native.Nat.{_-_}
 use borrow.Author.Needs.{needs}
 use Rattle.fit.proofs.EntryLaws.{KindsSoFar, kinds-start, kinds-next, kinds-end}

@@ -1,3 +1,4 @@
+-- The rows that `givers` finds are those of the path in the table's row; on them the tests come in the definition's order.
 use borrow.Author.Needs.{needs}
 use mathlib.Core.Path.{refl, sym, _∙_}
 use mathlib.Core.Bool.{true, false}

@@ -1,3 +1,4 @@
+-- A sheet that does not read is refused by the reading's question; any other goes on.
 use Rattle.service.proofs.CheckSteps.{unread-refused, read-reads}
 use borrow.Author.Needs.{needs}
 use Rattle.service.proofs.checking.check.Statement.{statement}

@@ -1,3 +1,4 @@
+-- A new table is clear and of the right length.
 use Prim.Native.Nat.{ℕ}
 use lib.ListN.{length-replicate}
 use Rattle.service.proofs.CheckSteps.{zeros-clear}

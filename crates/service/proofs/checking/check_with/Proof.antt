@@ -1,3 +1,5 @@
+-- The walk's answer decides questions 7 to 10, then the charter's decides 11 to 18; where both pass, what is delivered is the
+-- interface, since the table holds it.
 use Rattle.service.proofs.CheckSteps.{few-components, short-charter, typing-fails, policy-fails, all-pass}
 use borrow.Author.Needs.{needs}
 use Rattle.service.proofs.checking.check_with.Statement.{statement}

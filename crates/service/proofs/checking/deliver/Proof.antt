@@ -1,3 +1,4 @@
+-- The interface is written only where it fits.
 use Rattle.service.proofs.CheckSteps.{no-room, room}
 use borrow.Author.Needs.{needs}
 use Rattle.service.proofs.checking.deliver.Statement.{statement}

@@ -1,3 +1,4 @@
+-- A charter that does not read fails 11; else its own questions decide, then those of the entries.
 use Rattle.service.proofs.CheckSteps.{not-read, bounded, policy-decides, entries-decide}
 use borrow.Author.Needs.{needs}
 use Rattle.service.proofs.checking.judge_with.Statement.{statement}

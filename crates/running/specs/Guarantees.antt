@@ -1,0 +1,116 @@
+-- What demand 3 says of a state: typed, not beyond the start, no next act an error, and no finite count exceeded.
+use Prim.Native.Nat.{ℕ, zero, suc, _+_}
+use mathlib.Core.Path.{_≡_}
+use mathlib.Core.List.{List, [], _∷_, _++_, map}
+use mathlib.Core.Bool.{Bool, true, false, cond, not, _&&_, _||_}
+use mathlib.Core.Option.{Option, some, none}
+use lib.ListN.{length, getD, getElem?}
+use lib.Dec.{eqb}
+use Rattle.reading.specs.Syntax.{Process, nil, par, new, input, output, repl, Sheet}
+use Rattle.inference.specs.Lists.{every, any, only, gather}
+use Rattle.inference.specs.Counts.{Count, fin, unlimited, _⊕_, atMost}
+use Rattle.inference.specs.Acts.{Component, Act, acts, sheetActs}
+use Rattle.inference.specs.Typing.{inScope, onChannel, carriesObject, inPath}
+use Rattle.inference.specs.Needs.{needOf, isRead, isWrite, isAccess, disclosures, disclosed}
+use Rattle.inference.specs.declared.Need.{Need}
+use Rattle.inference.specs.declared.Need.the-variants.{Nothing, Read, Write, Access, Disclose}
+use Rattle.policy.specs.Syntax.{Tree}
+use Rattle.policy.specs.Grants.{flagGranted, countGranted}
+use Rattle.running.specs.State.{Thread, State}
+use Rattle.running.specs.Moves.{Move, copy, sendOut, receiveIn, meet, outside, Result, refuses, takes, step, stateAfter}
+
+-- The types of a thread's names by level: "run names having their types".
+unfoldable pub scopeOf : List ℕ → List ℕ → List ℕ
+scopeOf types names = map (λ n. getD types n 0) names
+
+-- The acts of a thread's remaining text, "binders still ahead [having] their stored [types]".
+unfoldable pub threadActs : List ℕ → Thread → List Act
+threadActs types t = acts (t .component) false (scopeOf types (t .names)) (t .text)
+
+unfoldable pub stateActs : State → List Act
+stateActs s = gather (threadActs (s .types)) (s .threads)
+
+-- Questions 7 to 10 of one act.
+unfoldable pub passes : Act → Bool
+passes a = (inScope a && onChannel a) && (carriesObject a && inPath a)
+
+-- "A state is typed if each remaining text passes 7 to 10 throughout".
+unfoldable pub isTyped : State → Bool
+isTyped s = every passes (stateActs s)
+
+-- What a post infers: "what its threads' remaining texts need, joined as parallel parts".
+unfoldable pub ofPost : ℕ → List Act → List Act
+ofPost n all = only (λ a. eqb (a .component .number) n) all
+
+-- "It is not beyond the start if, for each kind, every flag in it was inferred from the sheet for that post, and every count is at
+-- most the one inferred there".
+pub record NotBeyond (now start : List Act) : Type 0 where
+  pub reads : (k : ℕ) → any (λ a. isRead k (needOf a)) now ≡ true → any (λ a. isRead k (needOf a)) start ≡ true
+  pub writes : (k : ℕ) → any (λ a. isWrite k (needOf a)) now ≡ true → any (λ a. isWrite k (needOf a)) start ≡ true
+  pub accesses : (k : ℕ) → any (λ a. isAccess k (needOf a)) now ≡ true → any (λ a. isAccess k (needOf a)) start ≡ true
+  pub counts : (k h : ℕ) → atMost (disclosed k h now) (disclosed k h start) ≡ true
+
+-- "A thread's next act is its next receive or send (a repeat has none before its copy)": the first of its acts.
+unfoldable pub nextOf : Process → List Act → Option Act
+nextOf nil rest = none
+nextOf (par p q) rest = none
+nextOf (new t p) rest = none
+nextOf (input x t p) [] = none
+nextOf (input x t p) (a ∷ rest) = some a
+nextOf (output x y p) [] = none
+nextOf (output x y p) (a ∷ rest) = some a
+nextOf (repl p) rest = none
+
+unfoldable pub nextAct : State → Thread → Option Act
+nextAct s t = nextOf (t .text) (threadActs (s .types) t)
+
+-- A permission that a path's grant holds: a flag, or a count of at least one.
+unfoldable pub grantsNeed : List Tree → List ℕ → Need → Bool
+grantsNeed policy path Nothing = true
+grantsNeed policy path (Read k) = flagGranted 1 policy k path
+grantsNeed policy path (Write k) = flagGranted 2 policy k path
+grantsNeed policy path (Access k) = flagGranted 4 policy k path
+grantsNeed policy path (Disclose k h) = atMost (fin 1) (countGranted h policy k path)
+
+-- "it is an error if it fails 7 to 10 under the names' types, or needs a permission that its path's grant lacks"
+unfoldable pub isFine : List Tree → Act → Bool
+isFine policy a = passes a && grantsNeed policy (a .component .path) (needOf a)
+
+unfoldable pub nextFine : List Tree → Option Act → Bool
+nextFine policy none = true
+nextFine policy (some a) = isFine policy a
+
+unfoldable pub noError : List Tree → State → Bool
+noError policy s = every (λ t. nextFine policy (nextAct s t)) (s .threads)
+
+-- The send of a move, taken or not.
+unfoldable pub actAt : State → Option Thread → Option Act
+actAt s none = none
+actAt s (some t) = nextAct s t
+
+unfoldable pub sendOf : State → Move → Option Act
+sendOf s (copy i) = none
+sendOf s (sendOut i) = actAt s (getElem? (s .threads) i)
+sendOf s (receiveIn i v) = none
+sendOf s (meet i j) = actAt s (getElem? (s .threads) i)
+sendOf s (outside t) = none
+
+unfoldable pub isTaken : Result → Bool
+isTaken (refuses n) = false
+isTaken (takes s bytes) = true
+
+-- how often an act at a post discloses data of kind k into group h
+unfoldable pub handsOver : ℕ → ℕ → ℕ → Option Act → ℕ
+handsOver n k h none = 0
+handsOver n k h (some a) = cond (eqb (a .component .number) n) (disclosures k h (needOf a)) 0
+
+-- "A post hands over a link of kind t in group G by each taken 02 or 04 whose send, at that post, needs disclose G of t."
+unfoldable pub handed : ℕ → ℕ → ℕ → State → List Move → ℕ
+handed n k h s [] = 0
+handed n k h s (m ∷ ms) =
+    cond (isTaken (step s m)) (handsOver n k h (sendOf s m)) 0 + handed n k h (stateAfter s (step s m)) ms
+
+-- "the links it has handed over since the start plus those it still infers are at most that count", wherever that is finite
+unfoldable pub isWithin : Count → ℕ → Count → Bool
+isWithin unlimited done left = true
+isWithin (fin g) done left = atMost (fin done ⊕ left) (fin g)

@@ -1,0 +1,180 @@
+-- Moves, their refusals 30 to 35 in order, their effect and their records.
+use Prim.Native.Nat.{ℕ, _+_, _/_, _%_}
+use mathlib.Core.List.{List, [], _∷_, _++_, map}
+use mathlib.Core.Bool.{Bool, true, false, cond, _&&_}
+use mathlib.Core.Option.{Option, some, none}
+use lib.ListN.{length, getD, getElem?, set, replicate}
+use lib.Dec.{leb, eqb}
+use Rattle.reading.specs.Syntax.{Process, nil, par, new, input, output, repl}
+use Rattle.inference.specs.Lists.{gather}
+use Rattle.inference.specs.Acts.{Component}
+use Rattle.running.specs.State.{Thread, State}
+use Rattle.running.specs.Products.{news, threadsOf}
+
+-- "Moves (i, j threads, one byte): 01 i copy; 02 i send outside; 03 i v receive v from outside; 04 i j meet, i sending and j
+-- receiving; 05 type: the outside makes a known name."
+pub data Move : Type 0 where
+  copy : ℕ → Move
+  sendOut : ℕ → Move
+  receiveIn : ℕ → ℕ → Move
+  meet : ℕ → ℕ → Move
+  outside : ℕ → Move
+
+-- What a move does: it is refused with a number, or taken with the state after it and its record.
+pub data Result : Type 0 where
+  refuses : ℕ → Result
+  takes : State → List ℕ → Result
+
+-- "asked in this order, the first that fails giving its number"
+unfoldable pub guard : ℕ → Bool → Result → Result
+guard number true rest = rest
+guard number false rest = refuses number
+
+unfoldable pub given : {A : Type 0} → ℕ → Option A → (A → Result) → Result
+given number none f = refuses number
+given number (some a) f = f a
+
+-- A thread's next send, receive or repeat, with run names for its own: "31 right form?"
+pub record Sending : Type 0 where
+  pub channel : ℕ
+  pub sent : ℕ
+  pub sequel : Process
+
+pub record Receiving : Type 0 where
+  pub channel : ℕ
+  pub bound : ℕ
+  pub sequel : Process
+
+unfoldable pub runName : Thread → ℕ → ℕ
+runName t level = getD (t .names) level 65535
+
+unfoldable pub asSending : Thread → Process → Option Sending
+asSending t nil = none
+asSending t (par p q) = none
+asSending t (new u p) = none
+asSending t (input x u p) = none
+asSending t (output x y p) = some (record { channel = runName t x; sent = runName t y; sequel = p })
+asSending t (repl p) = none
+
+unfoldable pub asReceiving : Thread → Process → Option Receiving
+asReceiving t nil = none
+asReceiving t (par p q) = none
+asReceiving t (new u p) = none
+asReceiving t (input x u p) = some (record { channel = runName t x; bound = u; sequel = p })
+asReceiving t (output x y p) = none
+asReceiving t (repl p) = none
+
+unfoldable pub asRepeat : Process → Option Process
+asRepeat nil = none
+asRepeat (par p q) = none
+asRepeat (new u p) = none
+asRepeat (input x u p) = none
+asRepeat (output x y p) = none
+asRepeat (repl p) = some p
+
+-- 32: known outside; a name never given is not.
+unfoldable pub isKnownOutside : State → ℕ → Bool
+isKnownOutside s n = getD (s .known) n false
+
+-- "Products stand in their thread's place": the products of a text of thread i, where `before` new names come first.
+unfoldable pub made : State → ℕ → Thread → List ℕ → Process → List Thread
+made s before t names p = threadsOf (t .component) names (length (s .types) + before) p
+
+unfoldable pub singles : List Thread → List (List Thread)
+singles ts = map (λ t. t ∷ []) ts
+
+unfoldable pub join : List (List Thread) → List Thread
+join ts = gather (λ l. l) ts
+
+-- the state with threads in place of others and new names that are not known outside
+unfoldable pub after : State → List (List Thread) → List ℕ → State
+after s threads types = record {
+  threads = join threads;
+  types = s .types ++ types;
+  known = s .known ++ replicate (length types) false;
+}
+
+unfoldable pub nowKnown : ℕ → State → State
+nowKnown n s = record { threads = s .threads; types = s .types; known = set (s .known) n true }
+
+-- 35: "room for 64 threads and 1,024 names afterwards?"
+unfoldable pub hasRoom : State → Bool
+hasRoom s = leb (length (s .threads)) 64 && leb (length (s .types)) 1024
+
+-- "A record: 00; label; channel and name, two bytes each; acting post, receiver's post. Absent fields are all ones."
+unfoldable pub word : ℕ → List ℕ
+word n = n % 256 ∷ n / 256 % 256 ∷ []
+
+unfoldable pub recordOf : ℕ → ℕ → ℕ → ℕ → ℕ → List ℕ
+recordOf label channel name actor receiver = 0 ∷ label ∷ (word channel ++ (word name ++ (actor ∷ receiver ∷ [])))
+
+unfoldable pub taken : State → List ℕ → Result
+taken s bytes = guard 35 (hasRoom s) (takes s bytes)
+
+-- 01: "the repeated process's products go before the repeat".
+unfoldable pub copyStep : State → ℕ → Result
+copyStep s i =
+    given 30 (getElem? (s .threads) i) (λ t. given 31 (asRepeat (t .text)) (λ p.
+    taken (after s (set (singles (s .threads)) i (made s 0 t (t .names) p ++ (t ∷ []))) (news p))
+    (recordOf 6 65535 65535 (t .component .number) 255)))
+
+-- 02: "send outside, the name sent becoming known"; label 3, or 4 for a name not known before.
+unfoldable pub sendStep : State → ℕ → Result
+sendStep s i =
+    given 30 (getElem? (s .threads) i) (λ t. given 31 (asSending t (t .text)) (λ a.
+    guard 32 (isKnownOutside s (a .channel))
+    (taken (nowKnown (a .sent) (after s (set (singles (s .threads)) i (made s 0 t (t .names) (a .sequel))) (news (a .sequel))))
+    (recordOf (cond (isKnownOutside s (a .sent)) 3 4) (a .channel) (a .sent) (t .component .number) 255))))
+
+-- 03: "receive v from outside"; label 2.
+unfoldable pub receiveStep : State → ℕ → ℕ → Result
+receiveStep s i v =
+    given 30 (getElem? (s .threads) i) (λ t. given 31 (asReceiving t (t .text)) (λ a.
+    guard 32 (isKnownOutside s (a .channel) && isKnownOutside s v)
+    (guard 33 (eqb (getD (s .types) v 0) (a .bound))
+    (taken (after s (set (singles (s .threads)) i (made s 0 t (t .names ++ (v ∷ [])) (a .sequel))) (news (a .sequel)))
+    (recordOf 2 (a .channel) v (t .component .number) 255)))))
+
+-- 04: "meet, i sending and j receiving"; label 1. "in a meeting the sender's new names come first".
+unfoldable pub meetStep : State → ℕ → ℕ → Result
+meetStep s i j =
+    given 30 (getElem? (s .threads) i) (λ t. given 30 (getElem? (s .threads) j) (λ u.
+    given 31 (asSending t (t .text)) (λ a. given 31 (asReceiving u (u .text)) (λ b.
+    guard 34 (eqb (a .channel) (b .channel))
+    (taken
+    (after s
+    (set (set (singles (s .threads)) i (made s 0 t (t .names) (a .sequel))) j
+    (made s (length (news (a .sequel))) u (u .names ++ (a .sent ∷ [])) (b .sequel)))
+    (news (a .sequel) ++ news (b .sequel)))
+    (recordOf 1 (a .channel) (a .sent) (t .component .number) (u .component .number)))))))
+
+-- 05: "the outside makes a known name"; label 5.
+unfoldable pub outsideStep : State → ℕ → Result
+outsideStep s t =
+    taken (nowKnown (length (s .types)) (after s (singles (s .threads)) (t ∷ [])))
+    (recordOf 5 65535 (length (s .types)) 255 255)
+
+unfoldable pub step : State → Move → Result
+step s (copy i) = copyStep s i
+step s (sendOut i) = sendStep s i
+step s (receiveIn i v) = receiveStep s i v
+step s (meet i j) = meetStep s i j
+step s (outside t) = outsideStep s t
+
+-- "A refused move changes nothing and play goes on." "A refused move: its number, seven zeros."
+unfoldable pub stateAfter : State → Result → State
+stateAfter s (refuses n) = s
+stateAfter s (takes s′ bytes) = s′
+
+unfoldable pub recordBytes : Result → List ℕ
+recordBytes (refuses n) = n ∷ replicate 7 0
+recordBytes (takes s bytes) = bytes
+
+-- A run over a list of moves: "Each move gets the state that the last one left."
+unfoldable pub runStates : State → List Move → State
+runStates s [] = s
+runStates s (m ∷ ms) = runStates (stateAfter s (step s m)) ms
+
+unfoldable pub runLog : State → List Move → List ℕ
+runLog s [] = []
+runLog s (m ∷ ms) = recordBytes (step s m) ++ runLog (stateAfter s (step s m)) ms

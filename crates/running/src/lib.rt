@@ -1,0 +1,1 @@
+// Running accepted systems: states, moves and their records. Here stand the definitions; the code follows.
