@@ -1,6 +1,6 @@
 -- Worked cases of runs on the definitions: document 01's two scripts, and for what a theorem about runs would not notice each of
--- 30 to 34 refused and just not refused, each label, the numbers of new names, and the places of products. (35 is shown by
--- program, at 64 threads.)
+-- 30 to 34 refused and just not refused, each label, the numbers of new names, and the places of products. (35, which takes a
+-- state of 64 threads or 1,024 names, is not among them.)
 use Prim.Native.Nat.{ℕ, _/_}
 use mathlib.Core.List.{List, [], _∷_, map}
 use mathlib.Core.Path.{_≡_, refl}

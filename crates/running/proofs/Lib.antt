@@ -1,3 +1,11 @@
--- The worked cases of runs, on the definitions of specs/.
+-- Proofs of running: computed equations, worked cases, and demand 3 over the definitions.
 pub mod Computed
 pub mod Cases
+pub mod Alls
+pub mod ProductLaws
+pub mod Owed
+pub mod Invariant
+pub mod Posts
+pub mod Accepted
+pub mod Runs
+pub mod Theorem

@@ -1,0 +1,335 @@
+-- What questions 1 to 18 answered "passed" say of a sheet and its policy: every act passes questions 7 to 10, every permission
+-- that an act needs is granted to its path, and what a post's text discloses is at most what its path is granted.
+use Prim.Native.Nat.{ℕ, zero, suc, _+_, _-_, _/_, _%_, _<_, _≤_}
+use native.Mathlib.Omega.{arith}
+use mathlib.Core.Bool.{Bool, true, false, cond, not, _||_}
+use mathlib.Core.List.{List, [], _∷_, _++_, map, List·Memᴰ, List·Memᴰ·head, List·Memᴰ·tail}
+use mathlib.Core.Option.{Option, some, none}
+use mathlib.Core.Path.{_≡_, refl, ap}
+use lib.Dec.{eqb, ltb}
+use borrow.Author.Tests.{eqb-true, eqb-false, eq-eqb, ltb-true, le-leb}
+use Rattle.reading.specs.Read.{Read, got, refused}
+use Rattle.reading.specs.Types.{shape}
+use Rattle.reading.specs.declared.Shape.{Shape}
+use Rattle.reading.specs.declared.Shape.the-variants.{Plain, Channel}
+use Rattle.inference.specs.Lists.{every, any, only, gather, rising}
+use Rattle.inference.specs.Counts.{Count, fin, unlimited, _⊕_, atMost, isZero, repeatedly}
+use Rattle.inference.specs.Acts.{Act, Located, located, actsOf, sheetActs}
+use Rattle.inference.specs.Typing.{inScope, onChannel, carriesObject, inPath}
+use Rattle.inference.specs.Needs.{linkNeed, carriedNeed, channelNeed, need, needOn, needOf, isRead, isWrite, isAccess, disclosures, weigh, total, disclosed}
+use Rattle.inference.specs.declared.Need.{Need}
+use Rattle.inference.specs.declared.Need.the-variants.{Nothing, Read as Reads, Write as Writes, Access as Accesses, Disclose as Discloses}
+use Rattle.inference.specs.Interface.{Disclosure, Entry, Permission, reading, writing, accessing, disclosing, disclosuresOf, entryOf, isEmpty, holdsAny, entriesOf, interface, flagged, permissions}
+use Rattle.inference.proofs.CountLaws.{join-comm, at-most-self, at-most-trans, at-most-joined}
+use Rattle.policy.specs.Syntax.{Tree}
+use Rattle.policy.specs.WellFormed.{kindsDistinct, noneAbove, sameHeads, fenced}
+use Rattle.policy.specs.Grants.{flagGranted, countGranted}
+use Rattle.policy.specs.Satisfies.{hasTree, pathReached, grantsOne, covered}
+use Rattle.service.specs.Questions.{Asked, passed, ask, afterReading, typed, wellFormed, satisfied, Accepted, judged}
+use Rattle.running.specs.Guarantees.{passes, grantsNeed, isFine, ofPost}
+use Rattle.running.proofs.Alls.{All, done, also, all-both, all-right, all-head, all-each, all-gather, all-member, all-from, all-every}
+use Rattle.running.proofs.Posts.{acts-component, post-acts}
+
+-- A "yes" leaves the question answered and the questions after it.
+ask-yes : {A : Type 0} (n : ℕ) (b : Bool) (rest : Asked A) (a : A) → ask n b rest ≡ passed a → b ≡ true
+unfolding ask
+ask-yes n true rest a h = refl
+ask-yes n false rest a h = let z : _≡_ {A = ℕ} 0 1 = cc in absurd (omega arith)
+
+ask-rest : {A : Type 0} (n : ℕ) (b : Bool) (rest : Asked A) (a : A) → ask n b rest ≡ passed a → rest ≡ passed a
+unfolding ask
+ask-rest n true rest a h = h
+ask-rest n false rest a h = let z : _≡_ {A = ℕ} 0 1 = cc in absurd (omega arith)
+
+record Typed (all : List Act) : Type 0 where
+  scopes : every inScope all ≡ true
+  channels : every onChannel all ≡ true
+  carries : every carriesObject all ≡ true
+  paths : every inPath all ≡ true
+
+typed-yes : {A : Type 0} (all : List Act) (rest : Asked A) (a : A) → typed all rest ≡ passed a → Typed all
+unfolding typed
+typed-yes all rest a h =
+    let r₈ : ask 8 (every onChannel all) (ask 9 (every carriesObject all) (ask 10 (every inPath all) rest)) ≡ passed a = ask-rest 7 (every inScope all) _ a h in
+    let r₉ : ask 9 (every carriesObject all) (ask 10 (every inPath all) rest) ≡ passed a = ask-rest 8 (every onChannel all) _ a r₈ in
+    let r₁₀ : ask 10 (every inPath all) rest ≡ passed a = ask-rest 9 (every carriesObject all) _ a r₉ in
+    record {
+      scopes = ask-yes 7 (every inScope all) _ a h;
+      channels = ask-yes 8 (every onChannel all) _ a r₈;
+      carries = ask-yes 9 (every carriesObject all) _ a r₉;
+      paths = ask-yes 10 (every inPath all) _ a r₁₀;
+    }
+
+typed-rest : {A : Type 0} (all : List Act) (rest : Asked A) (a : A) → typed all rest ≡ passed a → rest ≡ passed a
+unfolding typed
+typed-rest all rest a h = ask-rest 10 (every inPath all) _ a (ask-rest 9 (every carriesObject all) _ a (ask-rest 8 (every onChannel all) _ a (ask-rest 7 (every inScope all) _ a h)))
+
+formed-rest : {A : Type 0} (policy : List Tree) (rest : Asked A) (a : A) → wellFormed policy rest ≡ passed a → rest ≡ passed a
+unfolding wellFormed
+formed-rest policy rest a h = ask-rest 15 (fenced policy) _ a (ask-rest 14 (sameHeads policy) _ a (ask-rest 13 (noneAbove policy) _ a (ask-rest 12 (kindsDistinct policy) _ a h)))
+
+satisfied-yes : {A : Type 0} (policy : List Tree) (es : List Entry) (rest : Asked A) (a : A) → satisfied policy es rest ≡ passed a → every (covered policy) es ≡ true
+unfolding satisfied
+satisfied-yes policy es rest a h = ask-yes 18 (every (covered policy) es) _ a (ask-rest 17 (every (pathReached policy) es) _ a (ask-rest 16 (every (hasTree policy) es) _ a h))
+
+satisfied-rest : {A : Type 0} (policy : List Tree) (es : List Entry) (rest : Asked A) (a : A) → satisfied policy es rest ≡ passed a → rest ≡ passed a
+unfolding satisfied
+satisfied-rest policy es rest a h = ask-rest 18 (every (covered policy) es) _ a (ask-rest 17 (every (pathReached policy) es) _ a (ask-rest 16 (every (hasTree policy) es) _ a h))
+
+on-reading : {A B : Type 0} (R : Type 0) (r : Read A) (f : A → Asked B) (b : B) → afterReading r f ≡ passed b → ((x : A) → f x ≡ passed b → R) → R
+unfolding afterReading
+on-reading R (got x next) f b h go = go x h
+on-reading R (refused q at) f b h go = let z : _≡_ {A = ℕ} 0 1 = cc in absurd (omega arith)
+
+-- Questions 7 to 10 and 18 of what is accepted.
+record Passed (a : Accepted) : Type 0 where
+  acts-typed : Typed (sheetActs (a .sheet))
+  entries-covered : every (covered (a .policy)) (interface (a .sheet)) ≡ true
+
+passed-as : (a b : Accepted) → passed a ≡ passed b → Passed a → Passed b
+passed-as a b e p = let z : a ≡ b = cc in rw z at p
+
+judged-passed : (s c : List ℕ) (a : Accepted) → judged s c ≡ passed a → Passed a
+unfolding judged
+judged-passed s c a h =
+    on-reading (Passed a) _ _ a h (λ sheet k.
+    let t : Typed (sheetActs sheet) = typed-yes (sheetActs sheet) _ a k in
+    on-reading (Passed a) _ _ a (typed-rest (sheetActs sheet) _ a k) (λ policy l.
+    let m : satisfied policy (interface sheet) (passed (record { sheet = sheet; policy = policy })) ≡ passed a = formed-rest policy _ a l in
+    passed-as (record { sheet = sheet; policy = policy }) a (satisfied-rest policy (interface sheet) _ a m)
+    (record { acts-typed = t; entries-covered = satisfied-yes policy (interface sheet) _ a m })))
+
+passes-all : (a : Act) → inScope a ≡ true → onChannel a ≡ true → carriesObject a ≡ true → inPath a ≡ true → passes a ≡ true
+unfolding passes
+passes-all a h i j k = rw (h, i, j, k)
+
+typed-acts : {xs : List Act} → All (λ a. inScope a ≡ true) xs → All (λ a. onChannel a ≡ true) xs → All (λ a. carriesObject a ≡ true) xs → All (λ a. inPath a ≡ true) xs
+    → All (λ a. passes a ≡ true) xs
+typed-acts done done done done = done
+typed-acts (also {x = x} h hs) (also i is) (also j js) (also k ks) = also (passes-all x h i j k) (typed-acts hs is js ks)
+
+pub accepted-typed : (s c : List ℕ) (a : Accepted) → judged s c ≡ passed a → All (λ x. passes x ≡ true) (sheetActs (a .sheet))
+accepted-typed s c a h =
+    let t : Typed (sheetActs (a .sheet)) = judged-passed s c a h .acts-typed in
+    typed-acts (all-every inScope _ (t .scopes)) (all-every onChannel _ (t .channels)) (all-every carriesObject _ (t .carries)) (all-every inPath _ (t .paths))
+
+-- What is kept of a list of numbered things holds of each that is kept.
+cond-tail : {A : Type 0} {R : A → Type 0} (b : Bool) (x : A) (xs : List A) → All R (cond b (x ∷ xs) xs) → All R xs
+cond-tail true x xs (also h hs) = hs
+cond-tail false x xs hs = hs
+
+cond-head : {A : Type 0} {R : A → Type 0} (b : Bool) (x : A) (xs : List A) → b ≡ true → All R (cond b (x ∷ xs) xs) → R x
+cond-head true x xs e (also h hs) = h
+cond-head false x xs e hs = let z : _≡_ {A = ℕ} 0 1 = cc in absurd (omega arith)
+
+kept-at : {A : Type 0} {R : A → Type 0} (r : A → Bool) (f : ℕ → A) (m n k : ℕ) → All R (only r (map f (rising m n))) → m ≤ k → k < m + n → r (f k) ≡ true → R (f k)
+unfolding only rising
+kept-at r f m zero k hs l u e = absurd (omega arith)
+kept-at {A} {R} r f m (suc n) k hs l u e = go (eqb m k) refl (λ j. kept-at r f (suc m) n k (cond-tail (r (f m)) (f m) (only r (map f (rising (suc m) n))) hs) j (omega arith) e)
+  where
+    go : (b : Bool) → eqb m k ≡ b → (suc m ≤ k → R (f k)) → R (f k)
+    go true q rest =
+        let z : m ≡ k = eqb-true m k q in
+        let e′ : r (f m) ≡ true = rw z e in
+        rw z at (cond-head (r (f m)) (f m) (only r (map f (rising (suc m) n))) e′ hs)
+    go false q rest = rest (omega (arith, eqb-false m k q))
+
+all-unmap : {A B : Type 0} {R : B → Type 0} (f : A → B) (xs : List A) → All R (map f xs) → All (λ x. R (f x)) xs
+all-unmap f [] hs = done
+all-unmap f (x ∷ xs) (also h hs) = also h (all-unmap f xs hs)
+
+none-empty : {A : Type 0} (xs : List A) → isEmpty xs ≡ true → All (λ x. _≡_ {A = ℕ} 0 1) xs
+unfolding isEmpty
+none-empty [] h = done
+none-empty (x ∷ xs) h = let z : _≡_ {A = ℕ} 0 1 = cc in absurd (omega arith)
+
+first-flag : {R : Permission → Type 0} (b : Bool) (p : Permission) (rest : List Permission) → b ≡ true → All R (flagged b p ++ rest) → R p
+unfolding flagged
+first-flag true p rest e hs = all-head hs
+first-flag false p rest e hs = let z : _≡_ {A = ℕ} 0 1 = cc in absurd (omega arith)
+
+or-first : (a b : Bool) → a ≡ true → (a || b) ≡ true
+or-first true b h = refl
+or-first false b h = let z : _≡_ {A = ℕ} 0 1 = cc in absurd (omega arith)
+
+or-second : (a b : Bool) → b ≡ true → (a || b) ≡ true
+or-second true b h = refl
+or-second false b h = h
+
+zero-at-most : (a b : Count) → isZero a ≡ true → atMost a b ≡ true
+unfolding isZero atMost
+zero-at-most (fin zero) (fin n) h = le-leb 0 n (omega arith)
+zero-at-most (fin zero) unlimited h = refl
+zero-at-most (fin (suc m)) b h = let z : _≡_ {A = ℕ} 0 1 = cc in absurd (omega arith)
+zero-at-most unlimited b h = let z : _≡_ {A = ℕ} 0 1 = cc in absurd (omega arith)
+
+-- An entry with a permission is in the interface, and so each of its permissions is granted.
+module _ (policy : List Tree) (l : Located) (cover : All (λ e. covered policy e ≡ true) (entriesOf l)) where
+  granted-at : (k : ℕ) → k < 16 → holdsAny (entryOf (l .component) (actsOf l) k) ≡ true
+      → All (λ p. grantsOne policy (entryOf (l .component) (actsOf l) k) p ≡ true) (permissions (entryOf (l .component) (actsOf l) k))
+  unfolding entriesOf covered
+  granted-at k h e =
+      all-every (grantsOne policy (entryOf (l .component) (actsOf l) k)) (permissions (entryOf (l .component) (actsOf l) k))
+      (kept-at holdsAny (entryOf (l .component) (actsOf l)) 0 16 k cover (omega arith) (omega arith) e)
+
+  read-granted : (k : ℕ) → k < 16 → any (λ a. isRead k (needOf a)) (actsOf l) ≡ true → flagGranted 1 policy k (l .component .path) ≡ true
+  unfolding permissions entryOf holdsAny grantsOne
+  read-granted k h e =
+      let q : holdsAny (entryOf (l .component) (actsOf l) k) ≡ true = or-first _ _ (or-first _ _ e) in
+      first-flag _ reading _ e (granted-at k h q)
+
+  write-granted : (k : ℕ) → k < 16 → any (λ a. isWrite k (needOf a)) (actsOf l) ≡ true → flagGranted 2 policy k (l .component .path) ≡ true
+  unfolding permissions entryOf holdsAny grantsOne
+  write-granted k h e =
+      let q : holdsAny (entryOf (l .component) (actsOf l) k) ≡ true = or-first _ _ (or-second (any (λ a. isRead k (needOf a)) (actsOf l)) _ e) in
+      first-flag _ writing _ e (all-right (flagged (any (λ a. isRead k (needOf a)) (actsOf l)) reading) _ (granted-at k h q))
+
+  access-granted : (k : ℕ) → k < 16 → any (λ a. isAccess k (needOf a)) (actsOf l) ≡ true → flagGranted 4 policy k (l .component .path) ≡ true
+  unfolding permissions entryOf holdsAny grantsOne
+  access-granted k h e =
+      let q : holdsAny (entryOf (l .component) (actsOf l) k) ≡ true
+      = or-second (any (λ a. isRead k (needOf a)) (actsOf l) || any (λ a. isWrite k (needOf a)) (actsOf l)) _ (or-first _ _ e) in
+      first-flag _ accessing _ e
+      (all-right (flagged (any (λ a. isWrite k (needOf a)) (actsOf l)) writing) _
+      (all-right (flagged (any (λ a. isRead k (needOf a)) (actsOf l)) reading) _ (granted-at k h q)))
+
+  lists-it : (k h : ℕ) → h < 64 → isZero (disclosed k h (actsOf l)) ≡ false → (b : Bool) → isEmpty (disclosuresOf k (actsOf l)) ≡ b → b ≡ false
+  unfolding disclosuresOf
+  lists-it k h j e true q =
+      let z : _≡_ {A = ℕ} 0 1
+      = kept-at {R = λ d. _≡_ {A = ℕ} 0 1} (λ d. not (isZero (d .count))) (λ g. record { group = g; count = disclosed k g (actsOf l) }) 0 64 h
+      (none-empty (disclosuresOf k (actsOf l)) q) (omega arith) (omega arith) (ap not e) in
+      absurd (omega arith)
+  lists-it k h j e false q = refl
+
+  counted : (k h : ℕ) → k < 16 → h < 64 → isZero (disclosed k h (actsOf l)) ≡ false
+      → atMost (disclosed k h (actsOf l)) (countGranted h policy k (l .component .path)) ≡ true
+  unfolding permissions entryOf holdsAny grantsOne disclosuresOf
+  counted k h i j e =
+      let n : isEmpty (disclosuresOf k (actsOf l)) ≡ false = lists-it k h j e (isEmpty (disclosuresOf k (actsOf l))) refl in
+      let q : holdsAny (entryOf (l .component) (actsOf l) k) ≡ true
+      = or-second (any (λ a. isRead k (needOf a)) (actsOf l) || any (λ a. isWrite k (needOf a)) (actsOf l)) _
+      (or-second (any (λ a. isAccess k (needOf a)) (actsOf l)) _ (ap not n)) in
+      let g : All (λ p. grantsOne policy (entryOf (l .component) (actsOf l) k) p ≡ true) (map (λ d. disclosing (d .group) (d .count)) (disclosuresOf k (actsOf l)))
+      = all-right (flagged (any (λ a. isAccess k (needOf a)) (actsOf l)) accessing) _
+      (all-right (flagged (any (λ a. isWrite k (needOf a)) (actsOf l)) writing) _
+      (all-right (flagged (any (λ a. isRead k (needOf a)) (actsOf l)) reading) _ (granted-at k i q))) in
+      kept-at {R = λ d. grantsOne policy (entryOf (l .component) (actsOf l) k) (disclosing (d .group) (d .count)) ≡ true}
+      (λ d. not (isZero (d .count))) (λ g. record { group = g; count = disclosed k g (actsOf l) }) 0 64 h
+      (all-unmap (λ (d : Disclosure). disclosing (d .group) (d .count)) (disclosuresOf k (actsOf l)) g) (omega arith) (omega arith) (ap not e)
+
+  -- "each count at most the granted sum"
+  pub count-granted : (k h : ℕ) → k < 16 → h < 64 → atMost (disclosed k h (actsOf l)) (countGranted h policy k (l .component .path)) ≡ true
+  count-granted k h i j = go (isZero (disclosed k h (actsOf l))) refl
+    where
+      go : (b : Bool) → isZero (disclosed k h (actsOf l)) ≡ b → atMost (disclosed k h (actsOf l)) (countGranted h policy k (l .component .path)) ≡ true
+      go true e = zero-at-most (disclosed k h (actsOf l)) (countGranted h policy k (l .component .path)) e
+      go false e = counted k h i j e
+
+-- Kinds are below 16 and groups below 64.
+abbrev ShapeRange : Shape → Type 0
+ShapeRange (Plain k) = k < 16
+ShapeRange (Channel g t) = g < 64
+
+shape-range : (t : ℕ) → ShapeRange (shape t)
+unfolding shape
+shape-range t = go (ltb t 16) refl
+  where
+    go : (b : Bool) → ltb t 16 ≡ b → ShapeRange (cond b (Plain t) (Channel ((t - 16) % 64) ((t - 16) / 64)))
+    go true e = ltb-true t 16 e
+    go false e = omega arith
+
+abbrev NeedRange : Need → Type 0
+NeedRange Nothing = Unit {0}
+NeedRange (Reads k) = k < 16
+NeedRange (Writes k) = k < 16
+NeedRange (Accesses k) = k < 16
+NeedRange (Discloses k g) = (k < 16) × (g < 64)
+
+link-range : (b : Bool) (g : ℕ) (s : Shape) → g < 64 → ShapeRange s → NeedRange (linkNeed b g s)
+unfolding linkNeed
+link-range false g (Plain t) h r = r
+link-range true g (Plain t) h r = (r, h)
+link-range false g (Channel k u) h r = tt
+link-range true g (Channel k u) h r = tt
+
+carried-range : (b : Bool) (g : ℕ) (s : Shape) → g < 64 → ShapeRange s → NeedRange (carriedNeed b g s)
+unfolding carriedNeed
+carried-range false g (Plain t) h r = r
+carried-range true g (Plain t) h r = r
+carried-range false g (Channel k u) h r = link-range false g (shape u) h (shape-range u)
+carried-range true g (Channel k u) h r = link-range true g (shape u) h (shape-range u)
+
+channel-range : (b : Bool) (s : Shape) → ShapeRange s → NeedRange (channelNeed b s)
+unfolding channelNeed
+channel-range b (Plain t) r = tt
+channel-range b (Channel g t) r = carried-range b g (shape t) r (shape-range t)
+
+need-range : (b : Bool) (o : Option ℕ) → NeedRange (needOn b o)
+unfolding needOn need
+need-range b none = tt
+need-range b (some t) = channel-range b (shape t) (shape-range t)
+
+-- An act of a list has what the list has.
+any-member : (t : Act → Bool) (a : Act) {xs : List Act} → List·Memᴰ a xs → t a ≡ true → any t xs ≡ true
+unfolding any
+any-member t a (List·Memᴰ·head {x = x} {xs = xs} e) h = or-first (t x) (any t xs) (rw (← e) h)
+any-member t a (List·Memᴰ·tail {x = x} {xs = xs} m) h = or-second (t x) (any t xs) (any-member t a m h)
+
+weigh-least : (b : Bool) (n : ℕ) → atMost (fin n) (weigh b n) ≡ true
+unfolding weigh repeatedly atMost
+weigh-least false n = at-most-self (fin n)
+weigh-least true zero = refl
+weigh-least true (suc n) = refl
+
+weight-member : (w : Act → ℕ) (a : Act) {xs : List Act} → List·Memᴰ a xs → atMost (fin (w a)) (total w xs) ≡ true
+unfolding total
+weight-member w a (List·Memᴰ·head {x = x} {xs = xs} e) =
+    rw e (at-most-trans (fin (w x)) (weigh (x .repeated) (w x)) (weigh (x .repeated) (w x) ⊕ total w xs) (weigh-least (x .repeated) (w x)) (at-most-joined (weigh (x .repeated) (w x)) (total w xs)))
+weight-member w a (List·Memᴰ·tail {x = x} {xs = xs} m) =
+    at-most-trans (fin (w a)) (total w xs) (weigh (x .repeated) (w x) ⊕ total w xs) (weight-member w a m)
+    (rw (join-comm (weigh (x .repeated) (w x)) (total w xs)) (at-most-joined (total w xs) (weigh (x .repeated) (w x))))
+
+-- What an act of a covered text needs is granted to its path.
+module _ (policy : List Tree) (l : Located) (cover : All (λ e. covered policy e ≡ true) (entriesOf l)) where
+  needed : (a : Act) → List·Memᴰ a (actsOf l) → (n : Need) → needOf a ≡ n → NeedRange n → grantsNeed policy (l .component .path) n ≡ true
+  unfolding grantsNeed isRead isWrite isAccess disclosures disclosed
+  needed a m Nothing e r = refl
+  needed a m (Reads k) e r = read-granted policy l cover k r (any-member (λ b. isRead k (needOf b)) a m (rw e (eq-eqb k k refl)))
+  needed a m (Writes k) e r = write-granted policy l cover k r (any-member (λ b. isWrite k (needOf b)) a m (rw e (eq-eqb k k refl)))
+  needed a m (Accesses k) e r = access-granted policy l cover k r (any-member (λ b. isAccess k (needOf b)) a m (rw e (eq-eqb k k refl)))
+  needed a m (Discloses k h) e r =
+      let one : disclosures k h (needOf a) ≡ 1 = rw (e, eq-eqb k k refl, eq-eqb h h refl) in
+      let w : atMost (fin 1) (disclosed k h (actsOf l)) ≡ true = rw one at (weight-member (λ b. disclosures k h (needOf b)) a m) in
+      at-most-trans (fin 1) (disclosed k h (actsOf l)) (countGranted h policy k (l .component .path)) w (count-granted policy l cover k h (r .0) (r .1))
+
+  need-granted : (a : Act) → List·Memᴰ a (actsOf l) → grantsNeed policy (a .component .path) (needOf a) ≡ true
+  unfolding needOf actsOf
+  need-granted a m =
+      let c : a .component ≡ l .component = all-member m (acts-component (l .component) false (l .scope) (l .process)) in
+      rw c (needed a m (needOf a) refl (need-range (a .sends) (a .channel)))
+
+covers : (s c : List ℕ) (a : Accepted) → judged s c ≡ passed a → (l : Located) → List·Memᴰ l (located (a .sheet)) → All (λ e. covered (a .policy) e ≡ true) (entriesOf l)
+unfolding interface
+covers s c a h l m = all-member m (all-each entriesOf (located (a .sheet)) (all-every (covered (a .policy)) (interface (a .sheet)) (judged-passed s c a h .entries-covered)))
+
+fine : (policy : List Tree) (a : Act) → passes a ≡ true → grantsNeed policy (a .component .path) (needOf a) ≡ true → isFine policy a ≡ true
+unfolding isFine
+fine policy a g h = rw (g, h)
+
+-- No act of an accepted sheet is an error.
+pub accepted-fine : (s c : List ℕ) (a : Accepted) → judged s c ≡ passed a → All (λ x. isFine (a .policy) x ≡ true) (sheetActs (a .sheet))
+unfolding sheetActs
+accepted-fine s c a h =
+    let g : All (λ x. grantsNeed (a .policy) (x .component .path) (needOf x) ≡ true) (gather actsOf (located (a .sheet)))
+    = all-gather actsOf (all-from (located (a .sheet)) (λ l m. all-from (actsOf l) (λ x n. need-granted (a .policy) l (covers s c a h l m) x n))) in
+    all-both (λ x k n. fine (a .policy) x k n) (accepted-typed s c a h) g
+
+-- What a post of an accepted sheet discloses is at most what its path is granted.
+pub accepted-count : (s c : List ℕ) (a : Accepted) → judged s c ≡ passed a → (l : Located) → List·Memᴰ l (located (a .sheet)) → (k h : ℕ) → k < 16 → h < 64
+    → atMost (disclosed k h (ofPost (l .component .number) (sheetActs (a .sheet)))) (countGranted h (a .policy) k (l .component .path)) ≡ true
+accepted-count s c a e l m k h i j = rw (post-acts (a .sheet) l m) (count-granted (a .policy) l (covers s c a e l m) k h i j)
+
+-- Every act of a list makes true of the list what is true of it.
+pub any-self : (f : Act → Act) (xs : List Act) → All (λ x. (t : Act → Bool) → t (f x) ≡ true → any (λ b. t (f b)) xs ≡ true) xs
+any-self f xs = all-from xs (λ x m t h. any-member (λ b. t (f b)) x m h)

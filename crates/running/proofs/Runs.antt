@@ -1,0 +1,206 @@
+-- The invariant of every run, put to the four parts of demand 3: each part is the invariant for one property of acts or one
+-- weight, and what an accepted sheet has.
+use Prim.Native.Nat.{ℕ}
+use native.Mathlib.Omega.{arith}
+use mathlib.Core.Bool.{Bool, true, false, cond, _&&_, _||_}
+use mathlib.Core.List.{List, [], _∷_}
+use mathlib.Core.Option.{Option, some, none}
+use mathlib.Core.Path.{_≡_, refl, sym, ap, _∙_}
+use lib.ListN.{length, replicate, length-append, length-replicate}
+use lib.Dec.{eqb}
+use Rattle.reading.specs.Syntax.{Process, nil, par, new, input, output, repl, Sheet}
+use Rattle.inference.specs.Lists.{every, any, only}
+use Rattle.inference.specs.Counts.{Count, fin, unlimited, _⊕_, atMost, repeatedly}
+use Rattle.inference.specs.Acts.{Act, sheetActs}
+use Rattle.inference.specs.Typing.{inScope, onChannel, carriesObject, inPath}
+use Rattle.inference.specs.Needs.{needOf, isRead, isWrite, isAccess, disclosures, weigh, total, disclosed}
+use Rattle.inference.specs.declared.Need.{Need}
+use Rattle.inference.proofs.CountLaws.{join-comm, nothing-join, at-most-trans, at-most-joined}
+use Rattle.policy.specs.Syntax.{Tree}
+use Rattle.running.specs.State.{State}
+use Rattle.running.specs.Products.{systemNews, start}
+use Rattle.running.specs.Moves.{Move, step, stateAfter, runStates}
+use Rattle.running.specs.Guarantees.{threadActs, stateActs, passes, isTyped, ofPost, NotBeyond, nextOf, nextAct, grantsNeed, isFine, nextFine, noError, sendOf, handsOver, handed, isWithin}
+use Rattle.running.proofs.Alls.{All, done, also, all-map, all-both, all-gather, every-all, and-first}
+use Rattle.running.proofs.ProductLaws.{made-start, start-acts}
+use Rattle.running.proofs.Owed.{bare, weightOf, owed, Good, good-made}
+use Rattle.running.proofs.Invariant.{weightAt, sentBy, Sound, Took, stateOwed, run-kept}
+use Rattle.running.proofs.Accepted.{any-self}
+
+start-flags : (sheet : Sheet) → length (start sheet .known) ≡ length (start sheet .types)
+unfolding start
+start-flags sheet =
+    omega (
+      arith,
+      length-append (replicate (length (sheet .free)) true) (replicate (length (systemNews (sheet .system))) false),
+      length-append (sheet .free) (systemNews (sheet .system)),
+      length-replicate (length (sheet .free)) true,
+      length-replicate (length (systemNews (sheet .system))) false,
+    )
+
+start-sound : (P : Act → Type 0) (sheet : Sheet) → All (λ a. P (bare a)) (sheetActs sheet) → Sound P (start sheet)
+start-sound P sheet h = record { threads = good-made P (made-start sheet) h; flags = start-flags sheet }
+
+sound-acts : (P : Act → Type 0) (s : State) → Sound P s → All (λ a. P (bare a)) (stateActs s)
+unfolding stateActs
+sound-acts P s d = all-gather (threadActs (s .types)) (all-map (λ t g. g .holds) (d .threads))
+
+bare-passes : (a : Act) → passes (bare a) ≡ passes a
+unfolding passes inScope onChannel carriesObject inPath bare
+bare-passes a = refl
+
+bare-fine : (policy : List Tree) (a : Act) → isFine policy (bare a) ≡ isFine policy a
+unfolding isFine passes inScope onChannel carriesObject inPath bare needOf
+bare-fine policy a = refl
+
+fine-passes : (policy : List Tree) (a : Act) → isFine policy a ≡ true → passes a ≡ true
+unfolding isFine
+fine-passes policy a h = and-first (passes a) (grantsNeed policy (a .component .path) (needOf a)) h
+
+-- What any run leads to, for a property of acts.
+module _ (P : Act → Type 0) (typed : (a : Act) → P a → passes a ≡ true) (sheet : Sheet) (h : All (λ a. P (bare a)) (sheetActs sheet)) (ms : List Move) where
+  took : Took P (start sheet) (λ w. sentBy w (start sheet) ms) (runStates (start sheet) ms)
+  took = run-kept P typed (start sheet) ms (start-sound P sheet h)
+
+  run-acts : All (λ a. P (bare a)) (stateActs (runStates (start sheet) ms))
+  run-acts = sound-acts P (runStates (start sheet) ms) (took .sound)
+
+-- Typed.
+pub run-typed : (sheet : Sheet) (ms : List Move) → All (λ a. passes a ≡ true) (sheetActs sheet) → isTyped (runStates (start sheet) ms) ≡ true
+unfolding isTyped
+run-typed sheet ms h =
+    every-all passes (all-map (λ a (k : passes (bare a) ≡ true). rw (bare-passes a) at k)
+    (run-acts (λ a. passes a ≡ true) (λ a k. k) sheet (all-map (λ a (k : passes a ≡ true). rw (bare-passes a) k) h) ms))
+
+-- No next act is an error.
+next-fine : (policy : List Tree) (p : Process) {xs : List Act} → All (λ a. isFine policy (bare a) ≡ true) xs → nextFine policy (nextOf p xs) ≡ true
+unfolding nextFine nextOf
+next-fine policy nil hs = refl
+next-fine policy (par p q) hs = refl
+next-fine policy (new t p) hs = refl
+next-fine policy (input x t p) done = refl
+next-fine policy (input x t p) (also {x = a} h hs) = rw (bare-fine policy a) at h
+next-fine policy (output x y p) done = refl
+next-fine policy (output x y p) (also {x = a} h hs) = rw (bare-fine policy a) at h
+next-fine policy (repl p) hs = refl
+
+pub run-fine : (policy : List Tree) (sheet : Sheet) (ms : List Move) → All (λ a. isFine policy a ≡ true) (sheetActs sheet)
+    → noError policy (runStates (start sheet) ms) ≡ true
+unfolding noError nextAct
+run-fine policy sheet ms h =
+    let s : All (λ a. isFine policy (bare a) ≡ true) (sheetActs sheet) = all-map (λ a (k : isFine policy a ≡ true). rw (bare-fine policy a) k) h in
+    let t : Took (λ a. isFine policy a ≡ true) (start sheet) (λ w. sentBy w (start sheet) ms) (runStates (start sheet) ms)
+    = took (λ a. isFine policy a ≡ true) (fine-passes policy) sheet s ms in
+    every-all (λ t. nextFine policy (nextAct (runStates (start sheet) ms) t))
+    (all-map (λ t (g : Good (λ a. isFine policy a ≡ true) (runStates (start sheet) ms .types) t). next-fine policy (t .text) (g .holds)) (t .sound .threads))
+
+-- Not beyond the start: flags.
+any-only : (q t : Act → Bool) (xs : List Act) → any t (only q xs) ≡ any (λ a. q a && t a) xs
+unfolding any only
+any-only q t [] = refl
+any-only q t (x ∷ xs) = go (q x) (any-only q t xs)
+  where
+    go : (b : Bool) → any t (only q xs) ≡ any (λ a. q a && t a) xs
+        → any t (cond b (x ∷ only q xs) (only q xs)) ≡ ((b && t x) || any (λ a. q a && t a) xs)
+    go true e = ap (λ z. t x || z) e
+    go false e = e
+
+any-all : (q : Act → Bool) (R : Type 0) {xs : List Act} → All (λ a. q a ≡ true → R) xs → any q xs ≡ true → R
+unfolding any
+any-all q R done h = let z : _≡_ {A = ℕ} 0 1 = cc in absurd (omega arith)
+any-all q R (also {x = x} {xs = xs} f fs) h = go (q x) refl h (any-all q R fs)
+  where
+    go : (b : Bool) → q x ≡ b → (b || any q xs) ≡ true → (any q xs ≡ true → R) → R
+    go true e k rest = f e
+    go false e k rest = rest k
+
+record Within (all : List Act) (a : Act) : Type 0 where
+  fits : passes a ≡ true
+  there : (t : Act → Bool) → t a ≡ true → any (λ b. t (bare b)) all ≡ true
+
+run-flags : (sheet : Sheet) (ms : List Move) → All (λ a. passes a ≡ true) (sheetActs sheet) → (t : Act → Bool)
+    → any (λ b. t (bare b)) (stateActs (runStates (start sheet) ms)) ≡ true → any (λ b. t (bare b)) (sheetActs sheet) ≡ true
+run-flags sheet ms h t e =
+    let s : All (λ a. Within (sheetActs sheet) (bare a)) (sheetActs sheet)
+    = all-both (λ a (k : passes a ≡ true) n. record { fits = rw (bare-passes a) k; there = n }) h (any-self bare (sheetActs sheet)) in
+    any-all (λ b. t (bare b)) (any (λ b. t (bare b)) (sheetActs sheet) ≡ true)
+    (all-map (λ a (w : Within (sheetActs sheet) (bare a)). w .there t) (run-acts (Within (sheetActs sheet)) (λ a w. w .fits) sheet s ms)) e
+
+post-flags : (sheet : Sheet) (ms : List Move) → All (λ a. passes a ≡ true) (sheetActs sheet) → (n : ℕ) (v : Need → Bool)
+    → any (λ a. v (needOf a)) (ofPost n (stateActs (runStates (start sheet) ms))) ≡ true → any (λ a. v (needOf a)) (ofPost n (sheetActs sheet)) ≡ true
+unfolding ofPost bare needOf
+post-flags sheet ms h n v e =
+    let k : any (λ a. eqb (a .component .number) n && v (needOf a)) (stateActs (runStates (start sheet) ms)) ≡ true
+    = rw (any-only (λ a. eqb (a .component .number) n) (λ a. v (needOf a)) (stateActs (runStates (start sheet) ms))) at e in
+    rw (any-only (λ a. eqb (a .component .number) n) (λ a. v (needOf a)) (sheetActs sheet))
+    (run-flags sheet ms h (λ a. eqb (a .component .number) n && v (needOf a)) k)
+
+-- Counts: the weight of a disclosure at a post.
+unfoldable pub disclosesAt : ℕ → ℕ → ℕ → Act → ℕ
+disclosesAt n k h a = cond (eqb (a .component .number) n) (disclosures k h (needOf a)) 0
+
+weigh-nothing : (b : Bool) → weigh b 0 ≡ fin 0
+unfolding weigh repeatedly
+weigh-nothing true = refl
+weigh-nothing false = refl
+
+pub post-count : (n k h : ℕ) (xs : List Act) → disclosed k h (ofPost n xs) ≡ weightOf (disclosesAt n k h) xs
+unfolding disclosed ofPost weightOf only total bare disclosesAt needOf
+post-count n k h [] = refl
+post-count n k h (x ∷ xs) = go (eqb (x .component .number) n) (post-count n k h xs)
+  where
+    go : (b : Bool) → disclosed k h (ofPost n xs) ≡ weightOf (disclosesAt n k h) xs
+        → disclosed k h (cond b (x ∷ ofPost n xs) (ofPost n xs))
+        ≡ weigh (x .repeated) (cond b (disclosures k h (needOf x)) 0) ⊕ weightOf (disclosesAt n k h) xs
+    go true e = ap (λ z. weigh (x .repeated) (disclosures k h (needOf x)) ⊕ z) e
+    go false e = rw (weigh-nothing (x .repeated)) (e ∙ sym (nothing-join (weightOf (disclosesAt n k h) xs)))
+
+hands-over : (n k h : ℕ) (o : Option Act) → handsOver n k h o ≡ weightAt (disclosesAt n k h) o
+unfolding handsOver weightAt disclosesAt bare needOf
+hands-over n k h none = refl
+hands-over n k h (some a) = refl
+
+handed-sent : (n k h : ℕ) (s : State) (ms : List Move) → handed n k h s ms ≡ sentBy (disclosesAt n k h) s ms
+unfolding handed sentBy
+handed-sent n k h s [] = refl
+handed-sent n k h s (m ∷ ms) = rw (hands-over n k h (sendOf s m), handed-sent n k h (stateAfter s (step s m)) ms)
+
+owed-acts : (w : Act → ℕ) (s : State) → stateOwed w s ≡ weightOf w (stateActs s)
+unfolding stateOwed owed stateActs
+owed-acts w s = refl
+
+-- What a post has handed over and still infers is at most what its sheet infers for it.
+pub run-counts : (sheet : Sheet) (ms : List Move) → All (λ a. passes a ≡ true) (sheetActs sheet) → (n k h : ℕ)
+    → atMost (fin (handed n k h (start sheet) ms) ⊕ disclosed k h (ofPost n (stateActs (runStates (start sheet) ms)))) (disclosed k h (ofPost n (sheetActs sheet))) ≡ true
+run-counts sheet ms p n k h =
+    let t : Took (λ a. passes a ≡ true) (start sheet) (λ w. sentBy w (start sheet) ms) (runStates (start sheet) ms)
+    = took (λ a. passes a ≡ true) (λ a k. k) sheet (all-map (λ a (k : passes a ≡ true). rw (bare-passes a) k) p) ms in
+    let c : atMost (fin (sentBy (disclosesAt n k h) (start sheet) ms) ⊕ stateOwed (disclosesAt n k h) (runStates (start sheet) ms)) (stateOwed (disclosesAt n k h) (start sheet)) ≡ true
+    = t .cost (disclosesAt n k h) in
+    let a : disclosed k h (ofPost n (stateActs (runStates (start sheet) ms))) ≡ stateOwed (disclosesAt n k h) (runStates (start sheet) ms)
+    = post-count n k h (stateActs (runStates (start sheet) ms)) ∙ sym (owed-acts (disclosesAt n k h) (runStates (start sheet) ms)) in
+    let b : disclosed k h (ofPost n (sheetActs sheet)) ≡ stateOwed (disclosesAt n k h) (start sheet)
+    = post-count n k h (sheetActs sheet) ∙ ap (weightOf (disclosesAt n k h)) (sym (start-acts sheet)) ∙ sym (owed-acts (disclosesAt n k h) (start sheet)) in
+    rw (a, b, handed-sent n k h (start sheet) ms) c
+
+without : (n : ℕ) (a b : Count) → atMost (fin n ⊕ a) b ≡ true → atMost a b ≡ true
+without n a b h =
+    let k : atMost a (fin n ⊕ a) ≡ true = rw (join-comm (fin n) a) (at-most-joined a (fin n)) in
+    at-most-trans a (fin n ⊕ a) b k h
+
+-- Not beyond the start.
+pub run-not-beyond : (sheet : Sheet) (ms : List Move) → All (λ a. passes a ≡ true) (sheetActs sheet) → (n : ℕ)
+    → NotBeyond (ofPost n (stateActs (runStates (start sheet) ms))) (ofPost n (sheetActs sheet))
+run-not-beyond sheet ms p n = record {
+  reads = λ k. post-flags sheet ms p n (isRead k);
+  writes = λ k. post-flags sheet ms p n (isWrite k);
+  accesses = λ k. post-flags sheet ms p n (isAccess k);
+  counts = λ k h. without (handed n k h (start sheet) ms) (disclosed k h (ofPost n (stateActs (runStates (start sheet) ms))))
+      (disclosed k h (ofPost n (sheetActs sheet))) (run-counts sheet ms p n k h);
+}
+
+-- No finite count exceeded.
+pub within-grant : (g : Count) (n : ℕ) (a b : Count) → atMost (fin n ⊕ a) b ≡ true → atMost b g ≡ true → isWithin g n a ≡ true
+unfolding isWithin
+within-grant unlimited n a b h k = refl
+within-grant (fin g) n a b h k = at-most-trans (fin n ⊕ a) b (fin g) h k
