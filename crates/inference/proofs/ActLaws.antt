@@ -64,13 +64,14 @@ weigh-forever true zero = refl
 weigh-forever true (suc n) = refl
 weigh-forever false n = refl
 
+-- One more act under a repeat.
+pub one-repeated : (b : Bool) (n : ℕ) (x y : Count) → x ≡ forever y → weigh true n ⊕ x ≡ forever (weigh b n ⊕ y)
+one-repeated b n x y e = rw (e, weigh-forever b n, forever-join (weigh b n) y)
+
 -- A weight of needs: the acts of a process have the same needs under a repeat.
 module _ (v : Need → ℕ) (c : Component) where
   abbrev weight : Act → ℕ
   weight a = v (needOf a)
-
-  step : (b : Bool) (n : ℕ) (x y : Count) → x ≡ forever y → weigh true n ⊕ x ≡ forever (weigh b n ⊕ y)
-  step b n x y e = rw (e, weigh-forever b n, forever-join (weigh b n) y)
 
   pub total-repeated : (b : Bool) (scope : List ℕ) (p : Process) → total weight (acts c true scope p) ≡ forever (total weight (acts c b scope p))
   unfolding acts total needOf forever repeatedly
@@ -81,10 +82,10 @@ module _ (v : Need → ℕ) (c : Component) where
       ∙ ap forever (sym (total-append weight (acts c b scope p) (acts c b scope q)))
   total-repeated b scope (new t p) = total-repeated b (scope ++ (t ∷ [])) p
   total-repeated b scope (input x t p) =
-      step b (v (needOn false (getElem? scope x))) (total weight (acts c true (scope ++ (t ∷ [])) p)) (total weight (acts c b (scope ++ (t ∷ [])) p))
+      one-repeated b (v (needOn false (getElem? scope x))) (total weight (acts c true (scope ++ (t ∷ [])) p)) (total weight (acts c b (scope ++ (t ∷ [])) p))
       (total-repeated b (scope ++ (t ∷ [])) p)
   total-repeated b scope (output x y p) =
-      step b (v (needOn true (getElem? scope x))) (total weight (acts c true scope p)) (total weight (acts c b scope p)) (total-repeated b scope p)
+      one-repeated b (v (needOn true (getElem? scope x))) (total weight (acts c true scope p)) (total weight (acts c b scope p)) (total-repeated b scope p)
   total-repeated b scope (repl p) = total-repeated true scope p
 
 module _ (k h : ℕ) (c : Component) (b : Bool) (scope : List ℕ) where

@@ -10,6 +10,7 @@ use Rattle.inference.specs.Lists.{every, gather}
 use Rattle.inference.specs.Acts.{Act, Located, actsOf, located, sheetActs}
 use Rattle.inference.specs.Typing.{inScope, onChannel, carriesObject, inPath}
 use Rattle.inference.specs.Walks.{fault, faultOf, worst, worstAll}
+use Rattle.inference.proofs.WalkLaws.{worst-append}
 
 -- the first of four questions that is answered no
 unfoldable pub firstNo : Bool → Bool → Bool → Bool → ℕ
@@ -66,16 +67,6 @@ worst-tests (a ∷ rest) =
     ap₂ min (fault-tests a) (worst-tests rest)
     ∙ first-both (inScope a) (onChannel a) (carriesObject a) (inPath a)
     (every inScope rest) (every onChannel rest) (every carriesObject rest) (every inPath rest)
-
-worst-high : (acts : List Act) → worst acts ≤ 11
-unfolding worst
-worst-high [] = omega arith
-worst-high (a ∷ rest) = omega (arith, worst-high rest)
-
-worst-append : (xs ys : List Act) → worst (xs ++ ys) ≡ min (worst xs) (worst ys)
-unfolding worst
-worst-append [] ys = let h = worst-high ys in omega arith
-worst-append (a ∷ rest) ys = let h = worst-append rest ys in omega arith
 
 worst-gather : (ls : List Located) → worstAll ls ≡ worst (gather actsOf ls)
 unfolding worstAll gather

@@ -9,6 +9,7 @@ use lib.Dec.{eqb}
 use lib.ListN.{length, take, set, length-set}
 use Rattle.reading.proofs.Parts.{parts, passed, never, below-found}
 use Rattle.reading.proofs.TotalLaws.{system-total}
+use Rattle.reading.proofs.TreeLaws.{free-count}
 use Rattle.reading.specs.Read.{Read, got, refused, andThen, below}
 use Rattle.reading.specs.Syntax.{Sheet, components}
 use Rattle.reading.specs.System.{freeTypes, header, readSystem, toItsEnd, readSheet}
@@ -104,15 +105,6 @@ load-last count s at scope next names o h = record { loaded = λ ts k c g. told 
         (n, (cc), rw (← n) (sym (append-nil (take names scope)) ∙ l))
 
 -- The header: as many types as its count.
-pub free-length : (n : ℕ) (s : List ℕ) (at : ℕ) {ts : List ℕ} {k : ℕ} → freeTypes n s at ≡ got ts k → length ts ≡ n
-unfolding freeTypes
-free-length zero s at {ts} e = let q : [] ≡ ts = cc in rw (← q)
-free-length (suc n) s at {ts} e =
-    let h = parts (typeAt s at) (λ t next. andThen (freeTypes n s next) (λ us m. got (t ∷ us) m)) e in
-    let i = parts (freeTypes n s (h .place)) (λ us m. got (h .value ∷ us) m) (h .rest) in
-    let q : h .value ∷ i .value ≡ ts = cc in
-    rw (← q) (ap suc (free-length n s (h .place) (i .first)))
-
 module _ (s scope : List ℕ) (r : NumberRead) (e : number r ≡ below 33 s 0) where
   pub no-header : (q : Refusal) → r ≡ number-read.Refused q → LoadedFree s scope (record { value = 0; next = 0 })
   unfolding header andThen
@@ -128,7 +120,7 @@ module _ (s scope : List ℕ) (r : NumberRead) (e : number r ≡ below 33 s 0) w
       told : (free : List ℕ) (at : ℕ) → header s ≡ got free at → (w .value ≡ length free) × (w .next ≡ at) × (take (length free) scope ≡ free)
       told free at g =
           let types : freeTypes (c .value) s (c .next) ≡ got free at = rw (← e, f) at g in
-          rw (free-length (c .value) s (c .next) types) (l .loaded free at small types)
+          rw (free-count (c .value) s (c .next) types) (l .loaded free at small types)
 
 -- The two parts of a sheet that was read.
 pub record SheetParts (s : List ℕ) (sheet : Sheet) : Type 0 where

@@ -60,7 +60,7 @@ lands-off-kind : (kind column k c : ℕ) → (kind ≡ k → ⊥) → landsIn ki
 unfolding landsIn
 lands-off-kind kind column k c p = rw (ne-eqb kind k p) refl
 
-lands-off-column : (kind column k c : ℕ) → (column ≡ c → ⊥) → landsIn kind column k c ≡ 0
+pub lands-off-column : (kind column k c : ℕ) → (column ≡ c → ⊥) → landsIn kind column k c ≡ 0
 unfolding landsIn
 lands-off-column kind column k c p = rw (ne-eqb column c p) (go (eqb kind k))
   where

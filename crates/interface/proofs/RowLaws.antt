@@ -23,7 +23,7 @@ use Rattle.inference.specs.Needs.{linkNeed, carriedNeed, channelNeed, need, nee
 use Rattle.inference.specs.Interface.{Disclosure, Entry, disclosuresOf, entryOf, holdsAny}
 use Rattle.inference.specs.Rows.{cellOf, cell, countOf, isSet, disclosuresAt, entryAt, pathAt, stored, withPath, rowEntries}
 use Rattle.inference.proofs.CountLaws.{join-comm}
-use Rattle.interface.proofs.CellLaws.{landsIn, lands, lands-few, Few, few-weigh}
+use Rattle.interface.proofs.CellLaws.{landsIn, lands, lands-off-column, lands-few, Few, few-weigh}
 
 -- a disclosed group is a group
 unfoldable pub Narrow : Need → Type 0
@@ -64,14 +64,6 @@ narrow a = go (a .channel)
     go (some t) = unfold needOn in narrow-need (a .sends) t
 
 -- which needs land in which column
-lands-off : (t column k c : ℕ) → (column ≡ c → ⊥) → landsIn t column k c ≡ 0
-unfolding landsIn
-lands-off t column k c p = rw (ne-eqb column c p) (go (eqb t k))
-  where
-    go : (b : Bool) → _≡_ {A = ℕ} (cond (b && false) 1 0) 0
-    go true = refl
-    go false = refl
-
 lands-on : (t column k : ℕ) → landsIn t column k column ≡ cond (eqb t k) 1 0
 unfolding landsIn
 lands-on t column k = rw (eq-eqb column column refl) (go (eqb t k))
@@ -84,32 +76,32 @@ lands-read : (k : ℕ) (n : Need) → Narrow n → lands k 64 n ≡ cond (isRead
 unfolding lands isRead Narrow
 lands-read k Nothing h = refl
 lands-read k (Read t) h = lands-on t 64 k
-lands-read k (Write t) h = lands-off t 65 k 64 (λ e. omega arith)
-lands-read k (Access t) h = lands-off t 66 k 64 (λ e. omega arith)
-lands-read k (Disclose t g) h = lands-off t g k 64 (λ e. omega arith)
+lands-read k (Write t) h = lands-off-column t 65 k 64 (λ e. omega arith)
+lands-read k (Access t) h = lands-off-column t 66 k 64 (λ e. omega arith)
+lands-read k (Disclose t g) h = lands-off-column t g k 64 (λ e. omega arith)
 
 lands-write : (k : ℕ) (n : Need) → Narrow n → lands k 65 n ≡ cond (isWrite k n) 1 0
 unfolding lands isWrite Narrow
 lands-write k Nothing h = refl
-lands-write k (Read t) h = lands-off t 64 k 65 (λ e. omega arith)
+lands-write k (Read t) h = lands-off-column t 64 k 65 (λ e. omega arith)
 lands-write k (Write t) h = lands-on t 65 k
-lands-write k (Access t) h = lands-off t 66 k 65 (λ e. omega arith)
-lands-write k (Disclose t g) h = lands-off t g k 65 (λ e. omega arith)
+lands-write k (Access t) h = lands-off-column t 66 k 65 (λ e. omega arith)
+lands-write k (Disclose t g) h = lands-off-column t g k 65 (λ e. omega arith)
 
 lands-access : (k : ℕ) (n : Need) → Narrow n → lands k 66 n ≡ cond (isAccess k n) 1 0
 unfolding lands isAccess Narrow
 lands-access k Nothing h = refl
-lands-access k (Read t) h = lands-off t 64 k 66 (λ e. omega arith)
-lands-access k (Write t) h = lands-off t 65 k 66 (λ e. omega arith)
+lands-access k (Read t) h = lands-off-column t 64 k 66 (λ e. omega arith)
+lands-access k (Write t) h = lands-off-column t 65 k 66 (λ e. omega arith)
 lands-access k (Access t) h = lands-on t 66 k
-lands-access k (Disclose t g) h = lands-off t g k 66 (λ e. omega arith)
+lands-access k (Disclose t g) h = lands-off-column t g k 66 (λ e. omega arith)
 
 lands-disclose : (k h : ℕ) → h < 64 → (n : Need) → lands k h n ≡ disclosures k h n
 unfolding lands disclosures landsIn
 lands-disclose k h p Nothing = refl
-lands-disclose k h p (Read t) = lands-off t 64 k h (λ e. omega arith)
-lands-disclose k h p (Write t) = lands-off t 65 k h (λ e. omega arith)
-lands-disclose k h p (Access t) = lands-off t 66 k h (λ e. omega arith)
+lands-disclose k h p (Read t) = lands-off-column t 64 k h (λ e. omega arith)
+lands-disclose k h p (Write t) = lands-off-column t 65 k h (λ e. omega arith)
+lands-disclose k h p (Access t) = lands-off-column t 66 k h (λ e. omega arith)
 lands-disclose k h p (Disclose t g) = refl
 
 total-cong : (v w : Act → ℕ) → ((a : Act) → v a ≡ w a) → (acts : List Act) → total v acts ≡ total w acts

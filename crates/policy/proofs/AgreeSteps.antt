@@ -9,7 +9,8 @@ use lib.Dec.{eqb}
 use lib.ListN.{length, getD}
 use Rattle.inference.specs.Lists.{every}
 use Rattle.policy.proofs.NodeLaws.{node-steps}
-use Rattle.policy.proofs.RowLaws.{flats-more, flats-none, items-more, items-none, items-all, items-count, both-true}
+use Rattle.reading.proofs.FormLaws.{both-true}
+use Rattle.policy.proofs.RowLaws.{flats-more, flats-none, items-more, items-none, items-all, items-count}
 use Rattle.policy.specs.Syntax.{Granted}
 use Rattle.policy.specs.WellFormed.{sameList, samePermissions, agree, allAgree}
 use Rattle.policy.specs.Rows.{nodeAt, wordIn, itemsAt, permissionsOf, flatOf, flats, headsIn}

@@ -13,7 +13,7 @@ use lib.Seq.{take-take, take-suc-set, take-set-le}
 use Rattle.reading.specs.Forms.{member}
 use Rattle.inference.specs.Lists.{every, rising}
 use Rattle.policy.proofs.NodeLaws.{depth-small}
-use Rattle.policy.proofs.RowLaws.{both-true}
+use Rattle.reading.proofs.FormLaws.{both-true}
 use Rattle.policy.specs.Syntax.{Permissions, Nodes, none, more, Head, headsOf}
 use Rattle.policy.specs.WellFormed.{newBelow, allKeep, keepsWithin}
 use Rattle.policy.specs.Rows.{nodeAt, Flat, flatOf, flats, flatten, freshBelow, headsIn, belowIn, keptIn, allKept}

@@ -8,14 +8,9 @@ use lib.Seq.{set-out}
 use lib.Dec.{lit<}
 use native.Mathlib.Nat.{mod-lt}
 use Rattle.reading.proofs.Tests.{tests}
+use Rattle.inference.proofs.RowSteps.{unread, unset}
 use Rattle.policy.specs.Rows.{nodeAt, withNode}
 use Rattle.policy.specs.declared.Node.{Node}
-
-pub reads-zero : (l : List ℕ) (i : ℕ) → length l ≤ i → 0 ≡ getD l i 0
-reads-zero l i h = sym (List·getD-eq-default l 0 h)
-
-pub stores-nothing : (l : List ℕ) (i a : ℕ) → length l ≤ i → l ≡ set l i a
-stores-nothing l i a h = sym (set-out l i a h)
 
 -- The node of five cells, and the table after five stores.
 pub five-cells : (l : List ℕ) (row g m k n d : ℕ) → g ≡ getD l (row * 5) 0 → m ≡ getD l (row * 5 + 1) 0 → k ≡ getD l (row * 5 + 2) 0
@@ -52,4 +47,4 @@ module _ (l : List ℕ) (row : ℕ) (n : Node) (e : n ≡ nodeAt l row) where
   unfolding nodeAt
   depth-small = rw e (mod-lt _ (lit< tt))
 
-pub ruleset node-steps = (tests, reads-zero, stores-nothing, five-cells, five-stores, group-small, map-small, list-small, count-small, depth-small)
+pub ruleset node-steps = (tests, unread, unset, five-cells, five-stores, group-small, map-small, list-small, count-small, depth-small)

@@ -38,8 +38,3 @@ pub items-count : (n : ℕ) (c : List ℕ) (at : ℕ) → length (itemsAt n c at
 unfolding itemsAt
 items-count zero c at = refl
 items-count (suc n) c at = rw (items-count n c (at + 3))
-
--- Two tests that hold together.
-pub both-true : (a b : Bool) → (a && b) ≡ true → (a ≡ true) × (b ≡ true)
-both-true true b e = (refl, e)
-both-true false b e = let z : _≡_ {A = ℕ} 0 1 = cc in absurd (omega arith)

@@ -6,6 +6,7 @@ use mathlib.Core.Option.{some}
 use mathlib.Core.Path.{_≡_, refl, sym}
 use lib.ListN.{getElem?, set}
 use native.Mathlib.Omega.{arith}
+use Rattle.reading.proofs.TotalLaws.{both-left, both-right}
 use Rattle.inference.specs.Lists.{gather, every}
 
 pub data All {A : Type 0} (P : A → Type 0) : List A → Type 0 where
@@ -75,18 +76,10 @@ and-both : (a b : Bool) → a ≡ true → b ≡ true → (a && b) ≡ true
 and-both true b g h = h
 and-both false b g h = g
 
-pub and-first : (a b : Bool) → (a && b) ≡ true → a ≡ true
-and-first true b h = refl
-and-first false b h = h
-
-pub and-second : (a b : Bool) → (a && b) ≡ true → b ≡ true
-and-second true b h = h
-and-second false b h = let z : false ≡ true = h in cc
-
 pub all-every : {A : Type 0} (p : A → Bool) (xs : List A) → every p xs ≡ true → All (λ x. p x ≡ true) xs
 unfolding every
 all-every p [] h = done
-all-every p (x ∷ xs) h = also (and-first (p x) (every p xs) h) (all-every p xs (and-second (p x) (every p xs) h))
+all-every p (x ∷ xs) h = also (both-left (p x) (every p xs) h) (all-every p xs (both-right (p x) (every p xs) h))
 
 pub every-all : {A : Type 0} (p : A → Bool) {xs : List A} → All (λ x. p x ≡ true) xs → every p xs ≡ true
 unfolding every

@@ -10,6 +10,7 @@ use mathlib.Core.Option.{Option, some, none}
 use mathlib.Core.Path.{_≡_, refl, sym, ap, ap₂, _∙_}
 use lib.ListN.{length, getD, getElem?, set, replicate, length-append, length-set, length-replicate}
 use borrow.Author.Tests.{eqb-true}
+use Rattle.reading.proofs.TotalLaws.{both-left, both-right}
 use Rattle.reading.specs.Syntax.{Process, nil, par, new, input, output, repl}
 use Rattle.reading.specs.Types.{shape}
 use Rattle.reading.specs.declared.Shape.{Shape}
@@ -22,7 +23,7 @@ use Rattle.running.specs.State.{Thread, State}
 use Rattle.running.specs.Products.{news, threadsOf}
 use Rattle.running.specs.Moves.{Move, copy, sendOut, receiveIn, meet, outside, Result, refuses, takes, guard, given, Sending, Receiving, runName, asSending, asReceiving, asRepeat, isKnownOutside, made, singles, join, after, nowKnown, hasRoom, taken, copyStep, sendStep, receiveStep, meetStep, outsideStep, step, stateAfter, runStates}
 use Rattle.running.specs.Guarantees.{scopeOf, threadActs, passes, nextOf, nextAct, actAt, sendOf, isTaken}
-use Rattle.running.proofs.Alls.{All, done, also, all-append, all-map, all-head, all-at, all-set, and-first, and-second}
+use Rattle.running.proofs.Alls.{All, done, also, all-append, all-map, all-head, all-at, all-set}
 use Rattle.running.proofs.ProductLaws.{Bound, scope-later, bound-later, scope-snoc, Made, products}
 use Rattle.running.proofs.Owed.{bare, weightOf, weight-append, copy-free, all-copied, owed, owed-append, owed-later, owed-one, owed-made, good-made, acts-later, Good, good-later, Fits, fits-set, fits-then, fits-act, fits-free, all-singles, join-singles, single-at, set-other, spent-then}
 
@@ -243,11 +244,11 @@ two-threads ts i j t u x y x′ v p q e f g h k =
 
 passes-scope : (a : Act) → passes a ≡ true → inScope a ≡ true
 unfolding passes
-passes-scope a h = and-first (inScope a) (onChannel a) (and-first (inScope a && onChannel a) (carriesObject a && inPath a) h)
+passes-scope a h = both-left (inScope a) (onChannel a) (both-left (inScope a && onChannel a) (carriesObject a && inPath a) h)
 
 passes-carries : (a : Act) → passes a ≡ true → carriesObject a ≡ true
 unfolding passes
-passes-carries a h = and-first (carriesObject a) (inPath a) (and-second (inScope a && onChannel a) (carriesObject a && inPath a) h)
+passes-carries a h = both-left (carriesObject a) (inPath a) (both-right (inScope a && onChannel a) (carriesObject a && inPath a) h)
 
 next-holds : (P : Act → Type 0) (τ : List ℕ) (t : Thread) (a : Act) (rest : List Act) → Good P τ t → threadActs τ t ≡ bare a ∷ rest → P (bare a)
 unfolding bare
@@ -266,9 +267,9 @@ sent τ t u x y x′ v b c e h k =
     let h₂ : ofChannel (λ g l. isType l (getElem? (scopeOf τ (t .names)) y)) (getElem? (scopeOf τ (t .names)) x) ≡ true = passes-carries (bare (sendAct τ t x y)) h in
     let k₁ : (isKnown (getElem? (scopeOf τ (u .names)) x′) && isKnown (some v)) ≡ true = passes-scope (bare (receiveAct τ u x′ v)) k in
     let k₂ : ofChannel (λ g l. isType l (some v)) (getElem? (scopeOf τ (u .names)) x′) ≡ true = passes-carries (bare (receiveAct τ u x′ v)) k in
-    let fx : Found τ (t .names) x = found τ (t .names) x b (and-first (isKnown (getElem? (scopeOf τ (t .names)) x)) (isKnown (getElem? (scopeOf τ (t .names)) y)) h₁) in
-    let fy : Found τ (t .names) y = found τ (t .names) y b (and-second (isKnown (getElem? (scopeOf τ (t .names)) x)) (isKnown (getElem? (scopeOf τ (t .names)) y)) h₁) in
-    let fu : Found τ (u .names) x′ = found τ (u .names) x′ c (and-first (isKnown (getElem? (scopeOf τ (u .names)) x′)) (isKnown (some v)) k₁) in
+    let fx : Found τ (t .names) x = found τ (t .names) x b (both-left (isKnown (getElem? (scopeOf τ (t .names)) x)) (isKnown (getElem? (scopeOf τ (t .names)) y)) h₁) in
+    let fy : Found τ (t .names) y = found τ (t .names) y b (both-right (isKnown (getElem? (scopeOf τ (t .names)) x)) (isKnown (getElem? (scopeOf τ (t .names)) y)) h₁) in
+    let fu : Found τ (u .names) x′ = found τ (u .names) x′ c (both-left (isKnown (getElem? (scopeOf τ (u .names)) x′)) (isKnown (some v)) k₁) in
     let same : getElem? (scopeOf τ (u .names)) x′ ≡ getElem? (scopeOf τ (t .names)) x
     = fu .type ∙ ap (λ n. some (getD τ n 0)) (sym e) ∙ sym (fx .type) in
     let o : getElem? (scopeOf τ (t .names)) y ≡ some v = agree (getElem? (scopeOf τ (t .names)) x) (getElem? (scopeOf τ (t .names)) y) v h₂ (rw same at k₂) in
@@ -316,7 +317,7 @@ module _ (P : Act → Type 0) (typed : (a : Act) → P a → passes a ≡ true) 
       on-taken (Kept P s (λ w. 0)) _ _ (λ k. stays) (goes (took-after P s (λ w. 0) _ (news p) d
       (fits-place P s (news p) (λ w. 0) i t _ d e
       (fits-receive P (s .types) [] t x u v p h (all-at (s .threads) i e (d .threads))
-      (known-typed P s v d (and-second (isKnownOutside s (runName t x)) (isKnownOutside s v) b))
+      (known-typed P s v d (both-right (isKnownOutside s (runName t x)) (isKnownOutside s v) b))
       (eqb-true (getD (s .types) v 0) u c)))))))))
 
   fits-meet : (s : State) (i j : ℕ) (t u : Thread) (x y x′ v : ℕ) (p q : Process) → Sound P s

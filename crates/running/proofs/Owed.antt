@@ -14,7 +14,7 @@ use Rattle.inference.specs.Counts.{Count, fin, unlimited, _⊕_, atMost, repeat
 use Rattle.inference.specs.Acts.{Component, Act, acts}
 use Rattle.inference.specs.Needs.{weigh, total}
 use Rattle.inference.proofs.CountLaws.{join-comm, join-assoc, nothing-join, at-most-self, at-most-trans, at-most-joined, join-mono}
-use Rattle.inference.proofs.ActLaws.{total-append, forever, forever-join}
+use Rattle.inference.proofs.ActLaws.{total-append, forever, forever-join, one-repeated}
 use Rattle.running.specs.State.{Thread}
 use Rattle.running.specs.Moves.{singles, join}
 use Rattle.running.specs.Guarantees.{threadActs}
@@ -32,15 +32,6 @@ pub weight-append : (w : Act → ℕ) (xs ys : List Act) → weightOf w (xs ++ y
 unfolding weightOf
 weight-append w xs ys = total-append (λ a. w (bare a)) xs ys
 
-weigh-forever : (b : Bool) (n : ℕ) → weigh true n ≡ forever (weigh b n)
-unfolding weigh forever repeatedly
-weigh-forever true zero = refl
-weigh-forever true (suc n) = refl
-weigh-forever false n = refl
-
-under : (b : Bool) (n : ℕ) (x y : Count) → x ≡ forever y → weigh true n ⊕ x ≡ forever (weigh b n ⊕ y)
-under b n x y e = rw (e, weigh-forever b n, forever-join (weigh b n) y)
-
 -- What a text weighs under a repeat.
 pub weight-repeated : (w : Act → ℕ) (c : Component) (b : Bool) (scope : List ℕ) (p : Process)
     → weightOf w (acts c true scope p) ≡ forever (weightOf w (acts c b scope p))
@@ -55,11 +46,11 @@ weight-repeated w c b scope (par p q) =
     ∙ ap forever (sym (weight-append w (acts c b scope p) (acts c b scope q)))
 weight-repeated w c b scope (new t p) = weight-repeated w c b (scope ++ (t ∷ [])) p
 weight-repeated w c b scope (input x t p) =
-    under b (w (record { component = c; repeated = false; sends = false; channel = getElem? scope x; object = some t }))
+    one-repeated b (w (record { component = c; repeated = false; sends = false; channel = getElem? scope x; object = some t }))
     (weightOf w (acts c true (scope ++ (t ∷ [])) p)) (weightOf w (acts c b (scope ++ (t ∷ [])) p))
     (weight-repeated w c b (scope ++ (t ∷ [])) p)
 weight-repeated w c b scope (output x y p) =
-    under b (w (record { component = c; repeated = false; sends = true; channel = getElem? scope x; object = getElem? scope y }))
+    one-repeated b (w (record { component = c; repeated = false; sends = true; channel = getElem? scope x; object = getElem? scope y }))
     (weightOf w (acts c true scope p)) (weightOf w (acts c b scope p)) (weight-repeated w c b scope p)
 weight-repeated w c b scope (repl p) = weight-repeated w c true scope p
 

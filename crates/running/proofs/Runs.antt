@@ -8,6 +8,7 @@ use mathlib.Core.Option.{Option, some, none}
 use mathlib.Core.Path.{_≡_, refl, sym, ap, _∙_}
 use lib.ListN.{length, replicate, length-append, length-replicate}
 use lib.Dec.{eqb}
+use Rattle.reading.proofs.TotalLaws.{both-left}
 use Rattle.reading.specs.Syntax.{Process, nil, par, new, input, output, repl, Sheet}
 use Rattle.inference.specs.Lists.{every, any, only}
 use Rattle.inference.specs.Counts.{Count, fin, unlimited, _⊕_, atMost, repeatedly}
@@ -21,7 +22,7 @@ use Rattle.running.specs.State.{State}
 use Rattle.running.specs.Products.{systemNews, start}
 use Rattle.running.specs.Moves.{Move, step, stateAfter, runStates}
 use Rattle.running.specs.Guarantees.{threadActs, stateActs, passes, isTyped, ofPost, NotBeyond, nextOf, nextAct, grantsNeed, isFine, nextFine, noError, sendOf, handsOver, handed, isWithin}
-use Rattle.running.proofs.Alls.{All, done, also, all-map, all-both, all-gather, every-all, and-first}
+use Rattle.running.proofs.Alls.{All, done, also, all-map, all-both, all-gather, every-all}
 use Rattle.running.proofs.ProductLaws.{made-start, start-acts}
 use Rattle.running.proofs.Owed.{bare, weightOf, owed, Good, good-made}
 use Rattle.running.proofs.Invariant.{weightAt, sentBy, Sound, Took, stateOwed, run-kept}
@@ -55,7 +56,7 @@ bare-fine policy a = refl
 
 fine-passes : (policy : List Tree) (a : Act) → isFine policy a ≡ true → passes a ≡ true
 unfolding isFine
-fine-passes policy a h = and-first (passes a) (grantsNeed policy (a .component .path) (needOf a)) h
+fine-passes policy a h = both-left (passes a) (grantsNeed policy (a .component .path) (needOf a)) h
 
 -- What any run leads to, for a property of acts.
 module _ (P : Act → Type 0) (typed : (a : Act) → P a → passes a ≡ true) (sheet : Sheet) (h : All (λ a. P (bare a)) (sheetActs sheet)) (ms : List Move) where
