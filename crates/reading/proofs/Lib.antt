@@ -14,3 +14,4 @@ pub mod SheetSteps
 pub mod Local
 pub mod ReadLaws
 pub mod TotalLaws
+pub mod QuestionLaws

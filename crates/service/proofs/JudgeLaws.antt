@@ -5,7 +5,7 @@ use mathlib.Core.List.{List, [], _∷_, _++_, map}
 use mathlib.Core.Bool.{Bool, true, false, cond, not, _&&_}
 use native.Mathlib.Omega.{arith}
 use lib.Dec.{ltb}
-use borrow.Author.Tests.{lt-ltb, le-ltb, ltb-true}
+use borrow.Author.Tests.{lt-ltb, le-ltb, ltb-true, ltb-false}
 use Rattle.reading.specs.Read.{Read, got, refused}
 use Rattle.reading.specs.Syntax.{Sheet}
 use Rattle.reading.specs.System.{sheetOf}
@@ -23,6 +23,7 @@ use Rattle.policy.specs.Loads.{policyFault}
 use Rattle.fit.specs.Faults.{entryFault, entriesFault}
 use Rattle.service.specs.Questions.{Asked, passed, failed, ask, afterReading, typed, wellFormed, satisfied, Accepted, judged}
 use Rattle.service.specs.Later.{policyThenEntries, afterPolicy, laterFault}
+use Rattle.service.specs.Told.{firstFailed}
 
 -- a number below a bound ends the questions, any other lets them go on
 unfoldable pub endsBelow : {A : Type 0} → ℕ → ℕ → Asked A → Asked A
@@ -146,7 +147,7 @@ unfolding asEleven
 eleven (got a next) q at e = let z : _≡_ {A = ℕ} 0 1 = cc in absurd (omega arith)
 eleven (refused p m) q at e = cc
 
-policy-eleven : (c : List ℕ) (q at : ℕ) → readPolicy c ≡ refused q at → q ≡ 11
+pub policy-eleven : (c : List ℕ) (q at : ℕ) → readPolicy c ≡ refused q at → q ≡ 11
 unfolding readPolicy
 policy-eleven c q at e = eleven _ q at e
 
@@ -190,47 +191,50 @@ later-policy sheet policy rest =
     go true e = unfold endsBelow policyThenEntries in rw (e, lt-ltb (policyFault policy) 19 (omega (arith, ltb-true (policyFault policy) 16 e))) refl
     go false e = unfold endsBelow policyThenEntries in rw e refl
 
--- The verdict on a sheet that reads: by the walk's answer, then by the charter's.
-pub judged-typing : (s c : List ℕ) (sheet : Sheet) (k : ℕ) → sheetOf s c ≡ got sheet k → worstAll (located sheet) < 11
-    → judged s c ≡ failed (worstAll (located sheet))
-judged-typing s c sheet k e h = judged-read s c sheet k e ∙ ends-now 11 (worstAll (located sheet)) (later sheet (readPolicy c)) h
+-- No number is above 19, with which questions 11 to 18 pass.
+entries-most : (policy : List Tree) (es : List Entry) → entriesFault policy es ≤ 19
+unfolding entriesFault
+entries-most policy [] = omega arith
+entries-most policy (e ∷ rest) = omega (arith, entries-most policy rest)
 
-later-number : (sheet : Sheet) (c : List ℕ) (r : Read (List Tree)) → readPolicy c ≡ r → afterPolicy r (interface sheet) < 19
-    → later sheet r ≡ failed (afterPolicy r (interface sheet))
-unfolding later afterPolicy afterReading
-later-number sheet c (got policy next) e h =
-    later-policy sheet policy (passed (record { sheet = sheet; policy = policy }))
-    ∙ ends-now 19 (policyThenEntries policy (interface sheet)) (passed (record { sheet = sheet; policy = policy })) h
-later-number sheet c (refused q at) e h = ap failed (policy-eleven c q at e)
+later-most : (policy : List Tree) (es : List Entry) → policyThenEntries policy es ≤ 19
+unfolding policyThenEntries
+later-most policy es = go (ltb (policyFault policy) 16) refl
+  where
+    go : (b : Bool) → ltb (policyFault policy) 16 ≡ b → cond b (policyFault policy) (entriesFault policy es) ≤ 19
+    go true e = omega (arith, ltb-true (policyFault policy) 16 e)
+    go false e = entries-most policy es
 
-pub judged-policy : (s c : List ℕ) (sheet : Sheet) (k : ℕ) → sheetOf s c ≡ got sheet k → 11 ≤ worstAll (located sheet)
-    → laterFault c (interface sheet) < 19 → judged s c ≡ failed (laterFault c (interface sheet))
-unfolding laterFault
-judged-policy s c sheet k e h l =
-    judged-read s c sheet k e ∙ goes-on 11 (worstAll (located sheet)) (later sheet (readPolicy c)) h
-    ∙ later-number sheet c (readPolicy c) refl l
+first-of-last : (number : ℕ) (a : Accepted) → number ≤ 19 → firstFailed (endsBelow 19 number (passed a)) ≡ number
+unfolding endsBelow firstFailed
+first-of-last number a h = go (ltb number 19) refl
+  where
+    go : (b : Bool) → ltb number 19 ≡ b → firstFailed (cond b (failed number) (passed a)) ≡ number
+    go true e = refl
+    go false e = omega (arith, ltb-false number 19 e)
 
--- A sheet that passes questions 1 to 18 is accepted under some policy.
-pub record Passes (s c : List ℕ) (sheet : Sheet) : Type 0 where
-  pub policy : List Tree
-  pub accepted : judged s c ≡ passed (record { sheet = sheet; policy = policy })
+later-first : (sheet : Sheet) (c : List ℕ) (r : Read (List Tree)) → readPolicy c ≡ r
+    → firstFailed (later sheet r) ≡ afterPolicy r (interface sheet)
+unfolding later afterPolicy afterReading firstFailed
+later-first sheet c (got policy next) e =
+    ap firstFailed (later-policy sheet policy (passed (record { sheet = sheet; policy = policy })))
+    ∙ first-of-last (policyThenEntries policy (interface sheet)) (record { sheet = sheet; policy = policy }) (later-most policy (interface sheet))
+later-first sheet c (refused q at) e = policy-eleven c q at e
 
-later-passes : (s c : List ℕ) (sheet : Sheet) (r : Read (List Tree)) → judged s c ≡ later sheet r → 19 ≤ afterPolicy r (interface sheet) → Passes s c sheet
-unfolding later afterPolicy afterReading
-later-passes s c sheet (got policy next) e h = record {
-  policy = policy;
-  accepted = e ∙ later-policy sheet policy (passed (record { sheet = sheet; policy = policy }))
-      ∙ goes-on 19 (policyThenEntries policy (interface sheet)) (passed (record { sheet = sheet; policy = policy })) h;
-}
-later-passes s c sheet (refused q at) e h = absurd (omega arith)
-
-pub judged-accepts : (s c : List ℕ) (sheet : Sheet) (k : ℕ) → sheetOf s c ≡ got sheet k → 11 ≤ worstAll (located sheet)
-    → 19 ≤ laterFault c (interface sheet) → Passes s c sheet
-unfolding laterFault
-judged-accepts s c sheet k e h l =
-    later-passes s c sheet (readPolicy c) (judged-read s c sheet k e ∙ goes-on 11 (worstAll (located sheet)) (later sheet (readPolicy c)) h) l
-
--- A sheet that does not read is refused by the reading's question.
-pub judged-unread : (s c : List ℕ) (q at : ℕ) → sheetOf s c ≡ refused q at → judged s c ≡ failed q
+-- The first question that a sheet fails: by the reading, else by the walk's answer, else by the charter's.
+pub judged-unread : (s c : List ℕ) (q at : ℕ) → sheetOf s c ≡ refused q at → q ≡ firstFailed (judged s c)
 unfolding judged
-judged-unread s c q at e = rw e (unfold afterReading in refl)
+judged-unread s c q at e = rw e (unfold afterReading firstFailed in refl)
+
+pub judged-typing : (s c : List ℕ) (sheet : Sheet) (k : ℕ) → sheetOf s c ≡ got sheet k → worstAll (located sheet) < 11
+    → worstAll (located sheet) ≡ firstFailed (judged s c)
+unfolding firstFailed
+judged-typing s c sheet k e h =
+    sym (ap firstFailed (judged-read s c sheet k e ∙ ends-now 11 (worstAll (located sheet)) (later sheet (readPolicy c)) h))
+
+pub judged-later : (s c : List ℕ) (sheet : Sheet) (k : ℕ) → sheetOf s c ≡ got sheet k → 11 ≤ worstAll (located sheet)
+    → laterFault c (interface sheet) ≡ firstFailed (judged s c)
+unfolding laterFault
+judged-later s c sheet k e h =
+    sym (ap firstFailed (judged-read s c sheet k e ∙ goes-on 11 (worstAll (located sheet)) (later sheet (readPolicy c)) h)
+    ∙ later-first sheet c (readPolicy c) refl)

@@ -3,4 +3,6 @@ pub mod Computed
 pub mod Table
 pub mod Cases
 pub mod JudgeLaws
+pub mod FirstLaws
+pub mod JudgeSteps
 pub mod CheckSteps

@@ -1,5 +1,5 @@
--- Which number and values of document 01 each case of a service's answer is, and what a call of `check` promises.
-use Prim.Native.Nat.{ℕ, _<_}
+-- Which number and values of document 01 each case of an answer is, and what the calls of the services promise.
+use Prim.Native.Nat.{ℕ, _<_, _≤_}
 use mathlib.Core.Path.{_≡_}
 use mathlib.Core.List.{List}
 use lib.ListN.{getD}
@@ -8,14 +8,22 @@ use Rattle.reading.specs.Syntax.{Sheet}
 use Rattle.reading.specs.System.{sheetOf}
 use Rattle.reading.specs.declared.End.{End}
 use Rattle.reading.specs.declared.End.the-variants as end-case
-use Rattle.service.specs.Questions.{Asked, passed, failed}
+use Rattle.inference.specs.Interface.{interface}
+use Rattle.inference.specs.Rows.{tableEntries}
+use Rattle.service.specs.Questions.{Asked, passed, failed, Accepted, judged}
 use Rattle.service.specs.Check.{fitting, written, checked}
 use Rattle.service.specs.declared.Answer.{Answer}
 use Rattle.service.specs.declared.Answer.the-variants as answer-case
+use Rattle.service.specs.declared.Judged.{Judged}
 
 abbrev pub told : Answer → Asked ℕ
 told (answer-case.Accepted n) = passed n
 told (answer-case.Refused n) = failed n
+
+-- The first question that fails, or 19 where questions 1 to 18 pass.
+unfoldable pub firstFailed : {A : Type 0} → Asked A → ℕ
+firstFailed (passed a) = 19
+firstFailed (failed n) = n
 
 -- What `check` promises: its answer and the final bytes of the lent output are those of the definition.
 pub record Checked (sheet charter output output′ : List ℕ) (r : Answer) : Type 0 where
@@ -36,6 +44,12 @@ pub record Reads (s charter : List ℕ) : Type 0 where
 -- Memory without a count.
 pub record Clear (table : List ℕ) : Type 0 where
   pub zeros : (i : ℕ) → getD table i 0 ≡ 0
+
+-- What questions 1 to 18 come to, and a table that holds the interface of a sheet that passes them.
+pub record Judges (sheet charter table : List ℕ) (r : Judged) : Type 0 where
+  pub first : r .fault ≡ firstFailed (judged sheet charter)
+  pub few : r .components ≤ 32
+  pub held : (a : Accepted) → judged sheet charter ≡ passed a → tableEntries table (r .components) ≡ interface (a .sheet)
 
 -- Bytes that are written where there is room for them.
 pub record Delivered (bytes output output′ : List ℕ) (r : Answer) : Type 0 where

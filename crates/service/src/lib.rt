@@ -1,9 +1,16 @@
 // The services over encoded systems and policies.
 pub mod checking;
+pub mod judging;
 
 // What a service answers: the length written (check) or the number of moves (play); or the number of the first question
 // that fails.
 pub enum Answer {
     Accepted(usize),
     Refused(usize),
+}
+
+// What questions 1 to 18 come to: the first that fails, or 19; and the number of components in the sheet's table.
+pub struct Judged {
+    pub fault: usize,
+    pub components: usize,
 }

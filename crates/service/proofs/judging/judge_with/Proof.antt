@@ -1,8 +1,8 @@
 -- A charter that does not read fails 11; else its own questions decide, then those of the entries.
-use Rattle.service.proofs.CheckSteps.{not-read, bounded, policy-decides, entries-decide}
+use Rattle.service.proofs.JudgeSteps.{not-read, bounded, policy-decides, entries-decide}
 use borrow.Author.Needs.{needs}
-use Rattle.service.proofs.checking.judge_with.Statement.{statement}
-use Rattle.service.proofs.checking.judge_with.Tie as tie
+use Rattle.service.proofs.judging.judge_with.Statement.{statement}
+use Rattle.service.proofs.judging.judge_with.Tie as tie
 
 returns : tie.Need-returns
 returns c = not-read _ _ _ (c .before .before .before .before .read-policy .ensures) (c .if1 .taken) _

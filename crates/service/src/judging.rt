@@ -1,0 +1,91 @@
+// Questions 1 to 18 of a sheet and a charter: the first that fails.
+ghost use mathlib.Core.Path.{_≡_};
+ghost use Prim.Native.Nat.{_≤_};
+ghost use lib.ListN.{length};
+ghost use Rattle.inference.specs.Rows.{tableEntries};
+ghost use Rattle.service.specs.Questions.{judged};
+ghost use Rattle.service.specs.Told.{questionOf, firstFailed, Reads, Clear, Judges};
+ghost use Rattle.service.specs.Later.{laterFault};
+use crate::Judged;
+use fit::entries::fit;
+use inference::sheet::infer;
+use policy::read::read_policy;
+use policy::wellformed::policy_fault;
+use reading::End;
+use reading::system::read;
+
+// Questions 11 to 18, with a table for the charter's nodes: the first that fails, or 19.
+fn judge_with(charter: &[u8], table: &[u16], components: usize, nodes: &mut [usize]) -> usize
+    requires { ⌜ (components ≤ 32) × (length (now charter) ≤ 4096) × (length (now nodes) ≡ 320) ⌝ }
+    ensures { λ r. ⌜ r ≡ laterFault (now (charter .entry)) (tableEntries (now (table .entry)) components) ⌝ }
+{
+    let trees = read_policy(charter, nodes);
+    if !trees.reads {
+        return 11;
+    }
+    let fault = policy_fault(charter, nodes, trees);
+    if fault < 16 {
+        return fault;
+    }
+    fit(charter, nodes, trees, table, components)
+}
+
+// Questions 11 to 18 of a charter and a table of components: the first that fails, or 19.
+fn judge(charter: &[u8], table: &[u16], components: usize) -> usize
+    requires { ⌜ (components ≤ 32) × (length (now charter) ≤ 4096) ⌝ }
+    ensures { λ r. ⌜ r ≡ laterFault (now (charter .entry)) (tableEntries (now (table .entry)) components) ⌝ }
+{
+    let mut nodes = [0usize; 320];
+    judge_with(charter, table, components, &mut nodes)
+}
+
+// The question that a reading fails.
+fn question(end: End) -> usize
+    ensures { λ r. ⌜ r ≡ questionOf end ⌝ }
+{
+    match end {
+        End::At(_) => 0,
+        End::Refused(r) => r.question,
+    }
+}
+
+// Questions 7 to 18 of a sheet that reads, with a clear table for its components.
+fn judge_read(sheet: &[u8], charter: &[u8], table: &mut [u16]) -> Judged
+    requires { ⌜ Reads (now sheet) (now charter) × (length (now table) ≡ 34592) × Clear (now table) ⌝ }
+    ensures { λ r. ⌜ Judges (now (sheet .entry)) (now (charter .entry)) (now (table .exit)) r ⌝ }
+{
+    let walk = infer(sheet, table);
+    let components = walk.components;
+    if walk.fault < 11 {
+        return Judged {
+            fault: walk.fault,
+            components,
+        };
+    }
+    let fault = judge(charter, table, components);
+    Judged { fault, components }
+}
+
+// Questions 1 to 18, with a clear table for the sheet's components.
+pub fn judge_sheet(sheet: &[u8], charter: &[u8], table: &mut [u16]) -> Judged
+    requires { ⌜ (length (now table) ≡ 34592) × Clear (now table) ⌝ }
+    ensures { λ r. ⌜ Judges (now (sheet .entry)) (now (charter .entry)) (now (table .exit)) r ⌝ }
+{
+    let end = read(sheet, charter);
+    let End::At(_) = end else {
+        return Judged {
+            fault: question(end),
+            components: 0,
+        };
+    };
+    judge_read(sheet, charter, table)
+}
+
+// Questions 1 to 18 of a sheet and a charter: the first that fails, or 19.
+pub fn first_failed(sheet: &[u8], charter: &[u8]) -> usize
+    ensures { λ r. ⌜ r ≡ firstFailed (judged (now (sheet .entry)) (now (charter .entry))) ⌝ }
+{
+    let mut table = [0u16; 34592];
+    let judged = judge_sheet(sheet, charter, &mut table);
+    judged.fault
+}
