@@ -1,0 +1,46 @@
+// The names given so far: which are known outside, and their types.
+ghost use mathlib.Core.Path.{_≡_};
+ghost use mathlib.Core.Bool.{true, false};
+ghost use lib.ListN.{getD, take, set};
+
+// Is a name known outside?
+pub fn is_known(known: &[bool], names: usize, name: usize) -> bool
+    ensures { λ r. ⌜ r ≡ getD (take names (now (known .entry))) name false ⌝ }
+{
+    if name < names {
+        if name < known.len() {
+            return known[name];
+        }
+    }
+    false
+}
+
+// A name becomes known outside.
+pub fn know(known: &mut [bool], name: usize)
+    ensures { λ r. ⌜ now (known .exit) ≡ set (now (known .entry)) name true ⌝ }
+{
+    if name < known.len() {
+        known[name] = true;
+    }
+}
+
+// The type of a name, 0 past the last.
+pub fn type_of(types: &[usize], names: usize, name: usize) -> usize
+    ensures { λ r. ⌜ r ≡ getD (take names (now (types .entry))) name 0 ⌝ }
+{
+    if name < names {
+        if name < types.len() {
+            return types[name];
+        }
+    }
+    0
+}
+
+// Stores a number in a table, where there is such a place.
+pub fn store(types: &mut [usize], name: usize, t: usize)
+    ensures { λ r. ⌜ now (types .exit) ≡ set (now (types .entry)) name t ⌝ }
+{
+    if name < types.len() {
+        types[name] = t;
+    }
+}
