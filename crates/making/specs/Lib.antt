@@ -1,0 +1,6 @@
+-- What the contracts of making cite: threads in memory, and what a walk makes.
+pub mod Pairs
+pub mod Held
+pub mod Makes
+pub mod Begins
+pub mod Starts
