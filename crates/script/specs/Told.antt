@@ -1,0 +1,41 @@
+-- Which move and which answer of document 01 each value of the code is, and which bytes a record is.
+use Prim.Native.Nat.{ℕ, _+_, _%_}
+use mathlib.Core.List.{List, [], _∷_, _++_}
+use lib.ListN.{length, set}
+use Rattle.reading.specs.Read.{Read, got, refused}
+use Rattle.running.specs.Moves.{Move as Transition, copy, sendOut, receiveIn, meet, outside, word}
+use Rattle.script.specs.declared.Move.{Move}
+use Rattle.script.specs.declared.Move.the-variants as move
+use Rattle.script.specs.declared.MoveRead.{MoveRead}
+use Rattle.script.specs.declared.MoveRead.the-variants as move-read
+use Rattle.script.specs.declared.Record.{Record}
+
+unfoldable pub moveOf : Move → Transition
+moveOf (move.Copy i) = copy i
+moveOf (move.SendOut i) = sendOut i
+moveOf (move.ReceiveIn r) = receiveIn (r .thread) (r .name)
+moveOf (move.Meet m) = meet (m .sender) (m .receiver)
+moveOf (move.Outside t) = outside t
+
+abbrev pub moveRead : MoveRead → Read Transition
+moveRead (move-read.Found p) = got (moveOf (p .step)) (p .next)
+moveRead (move-read.Refused r) = refused (r .question) (r .at)
+
+-- where a move could not be read
+abbrev pub placeOf : MoveRead → ℕ
+placeOf (move-read.Found p) = 0
+placeOf (move-read.Refused r) = r .at
+
+-- a script of which only the number of moves is kept
+unfoldable pub countedMoves : Read (List Transition) → Read ℕ
+countedMoves (got ms e) = got (length ms) e
+countedMoves (refused question at) = refused question at
+
+-- "A record: 00; label; channel and name, two bytes each; acting post, receiver's post." "A refused move: its number, seven zeros."
+unfoldable pub bytesOf : Record → List ℕ
+bytesOf r =
+    r .number % 256 ∷ r .label % 256 ∷ (word (r .channel) ++ (word (r .name) ++ (r .actor % 256 ∷ r .receiver % 256 ∷ [])))
+
+-- two bytes stored one after another
+unfoldable pub twoStored : List ℕ → ℕ → ℕ → ℕ → List ℕ
+twoStored log at first second = set (set log at (first % 256)) (at + 1) (second % 256)

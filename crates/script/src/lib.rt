@@ -1,0 +1,48 @@
+// The bytes around a run: reading a script of moves (question 21 of document 01), and writing a record into the lent log.
+// Here stand the values that these functions take and give.
+pub mod moves;
+pub mod records;
+
+use reading::Refusal;
+
+// A name that a thread is to receive from outside.
+pub struct Receipt {
+    pub thread: usize,
+    pub name: usize,
+}
+
+// Two threads that are to meet.
+pub struct Meeting {
+    pub sender: usize,
+    pub receiver: usize,
+}
+
+// The moves: a thread's copy, a send outside, a receive from outside, a meeting, and a name of a type made by the outside.
+pub enum Move {
+    Copy(usize),
+    SendOut(usize),
+    ReceiveIn(Receipt),
+    Meet(Meeting),
+    Outside(usize),
+}
+
+// What stands at a place of a script: a move with its fields, and the place after it.
+pub struct MovePlace {
+    pub step: Move,
+    pub next: usize,
+}
+
+pub enum MoveRead {
+    Found(MovePlace),
+    Refused(Refusal),
+}
+
+// A record of the log. A refused move has its number and zeros in all other fields.
+pub struct Record {
+    pub number: usize,
+    pub label: usize,
+    pub channel: usize,
+    pub name: usize,
+    pub actor: usize,
+    pub receiver: usize,
+}

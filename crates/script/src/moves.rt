@@ -1,0 +1,193 @@
+// Reads a script (question 21 of document 01): the move that stands at a place, and how many moves there are to the end.
+ghost use mathlib.Core.Path.{_≡_};
+ghost use Rattle.reading.specs.Read.{refused};
+ghost use Rattle.reading.specs.Told.{number, refusalOf};
+ghost use Rattle.policy.specs.Reading.{twoBytes};
+ghost use Rattle.running.specs.Script.{moveAt, readScript};
+ghost use Rattle.script.specs.Fields.{copyAt, sendAt, receiptAt, meetingAt, outsideAt};
+ghost use Rattle.script.specs.Told.{moveRead, placeOf, countedMoves};
+use crate::Meeting;
+use crate::Move;
+use crate::MovePlace;
+use crate::MoveRead;
+use crate::Receipt;
+use reading::Number;
+use reading::NumberRead;
+use reading::Refusal;
+use reading::bytes::byte_at;
+use reading::bytes::refusal;
+use reading::types::type_at;
+
+fn not_read(read: NumberRead) -> MoveRead
+    ensures { λ r. ⌜ r ≡ MoveRead.Refused (refusalOf read) ⌝ }
+{
+    MoveRead::Refused(refusal(read))
+}
+
+// A code that no move has.
+fn no_move(at: usize) -> MoveRead
+    ensures { λ r. ⌜ moveRead r ≡ refused 4 at ⌝ }
+{
+    MoveRead::Refused(Refusal { question: 4, at })
+}
+
+// A two-byte number, the low byte first.
+fn two_bytes(s: &[u8], at: usize) -> NumberRead
+    ensures { λ r. ⌜ number r ≡ twoBytes (now (s .entry)) at ⌝ }
+{
+    let first = byte_at(s, at);
+    let NumberRead::Found(low) = first else {
+        return first;
+    };
+    let second = byte_at(s, low.next);
+    let NumberRead::Found(high) = second else {
+        return second;
+    };
+    NumberRead::Found(Number {
+        value: low.value + 256 * high.value,
+        next: high.next,
+    })
+}
+
+// A copy: the thread.
+fn copy_at(s: &[u8], at: usize) -> MoveRead
+    ensures { λ r. ⌜ moveRead r ≡ copyAt (now (s .entry)) at ⌝ }
+{
+    let read = byte_at(s, at);
+    let NumberRead::Found(thread) = read else {
+        return not_read(read);
+    };
+    MoveRead::Found(MovePlace {
+        step: Move::Copy(thread.value),
+        next: thread.next,
+    })
+}
+
+// A send outside: the thread.
+fn send_at(s: &[u8], at: usize) -> MoveRead
+    ensures { λ r. ⌜ moveRead r ≡ sendAt (now (s .entry)) at ⌝ }
+{
+    let read = byte_at(s, at);
+    let NumberRead::Found(thread) = read else {
+        return not_read(read);
+    };
+    MoveRead::Found(MovePlace {
+        step: Move::SendOut(thread.value),
+        next: thread.next,
+    })
+}
+
+// A receive from outside: the thread, then the name.
+fn receipt_at(s: &[u8], at: usize) -> MoveRead
+    ensures { λ r. ⌜ moveRead r ≡ receiptAt (now (s .entry)) at ⌝ }
+{
+    let first = byte_at(s, at);
+    let NumberRead::Found(thread) = first else {
+        return not_read(first);
+    };
+    let second = two_bytes(s, thread.next);
+    let NumberRead::Found(name) = second else {
+        return not_read(second);
+    };
+    let receipt = Receipt {
+        thread: thread.value,
+        name: name.value,
+    };
+    MoveRead::Found(MovePlace {
+        step: Move::ReceiveIn(receipt),
+        next: name.next,
+    })
+}
+
+// A meeting: the thread that sends, then the one that receives.
+fn meeting_at(s: &[u8], at: usize) -> MoveRead
+    ensures { λ r. ⌜ moveRead r ≡ meetingAt (now (s .entry)) at ⌝ }
+{
+    let first = byte_at(s, at);
+    let NumberRead::Found(sender) = first else {
+        return not_read(first);
+    };
+    let second = byte_at(s, sender.next);
+    let NumberRead::Found(receiver) = second else {
+        return not_read(second);
+    };
+    let meeting = Meeting {
+        sender: sender.value,
+        receiver: receiver.value,
+    };
+    MoveRead::Found(MovePlace {
+        step: Move::Meet(meeting),
+        next: receiver.next,
+    })
+}
+
+// A name that the outside makes: its type.
+fn outside_at(s: &[u8], at: usize) -> MoveRead
+    ensures { λ r. ⌜ moveRead r ≡ outsideAt (now (s .entry)) at ⌝ }
+{
+    let read = type_at(s, at);
+    let NumberRead::Found(t) = read else {
+        return not_read(read);
+    };
+    MoveRead::Found(MovePlace {
+        step: Move::Outside(t.value),
+        next: t.next,
+    })
+}
+
+// The move that stands at a place: its code, then its fields.
+pub fn move_at(s: &[u8], at: usize) -> MoveRead
+    ensures { λ r. ⌜ moveRead r ≡ moveAt (now (s .entry)) at ⌝ }
+{
+    let read = byte_at(s, at);
+    let NumberRead::Found(byte) = read else {
+        return not_read(read);
+    };
+    let next = byte.next;
+    let code = byte.value;
+    match code {
+        1 => copy_at(s, next),
+        2 => send_at(s, next),
+        3 => receipt_at(s, next),
+        4 => meeting_at(s, next),
+        5 => outside_at(s, next),
+        _ => no_move(next),
+    }
+}
+
+// Question 21 fails at a place.
+fn not_script(at: usize) -> NumberRead
+    ensures { λ r. ⌜ number r ≡ refused 21 at ⌝ }
+{
+    NumberRead::Refused(Refusal { question: 21, at })
+}
+
+// Where a move could not be read.
+fn stopped_at(read: MoveRead) -> usize
+    ensures { λ r. ⌜ r ≡ placeOf read ⌝ }
+{
+    match read {
+        MoveRead::Found(_) => 0,
+        MoveRead::Refused(r) => r.at,
+    }
+}
+
+// Question 21: how many moves the script is made of, at most 1,024.
+pub fn count_moves(s: &[u8]) -> NumberRead
+    ensures { λ r. ⌜ number r ≡ countedMoves (readScript (now (s .entry))) ⌝ }
+{
+    let mut at: usize = 0;
+    let mut n: usize = 0;
+    while at != s.len() {
+        if 1024 <= n {
+            return not_script(at);
+        }
+        let read = move_at(s, at);
+        let MoveRead::Found(place) = read else {
+            return not_script(stopped_at(read));
+        };
+        at = place.next;
+        n += 1;
+    }
+    NumberRead::Found(Number { value: n, next: at })
+}
