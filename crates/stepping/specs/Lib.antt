@@ -1,0 +1,2 @@
+-- What the contracts of the moves cite: a move's answer.
+pub mod Steps
