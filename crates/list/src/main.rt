@@ -1,28 +1,12 @@
 // The program `list`: reads `sheet.bin` and `charter.bin` in the folder it is run in (an absent file as empty), and prints
 // `accepted` and the interface, an entry a line, or `refused N`.
+use files::first;
+use files::load;
+use files::print_refused;
 use libc::STDOUT_FILENO;
 use listing::entry_line;
 use service::Answer;
 use service::checking::check;
-
-// Reads a file into a buffer, as much as fits; an absent file has no bytes.
-fn load(path: &[u8], buf: &mut [u8]) -> usize {
-    let fd = os::open_read(path);
-    if fd < 0 {
-        return 0;
-    }
-    let n = io::read_full(fd, buf);
-    libc::close(fd);
-    n
-}
-
-// The first bytes of a buffer. What is read, composed or answered fits its buffer, so the whole buffer is never taken.
-fn first(buf: &[u8], n: usize) -> &[u8] {
-    if buf.len() < n {
-        return buf;
-    }
-    &buf[..n]
-}
 
 // Prints the entry at a place of an interface; the place after it, or the same place at the end.
 fn print_entry(interface: &[u8], at: usize) -> usize {
@@ -60,10 +44,6 @@ fn main() {
             io::write_all(STDOUT_FILENO, b"accepted\n");
             print_entries(first(&output, n));
         }
-        Answer::Refused(n) => {
-            io::write_all(STDOUT_FILENO, b"refused ");
-            io::print_decimal(STDOUT_FILENO, n as u64);
-            io::write_all(STDOUT_FILENO, b"\n");
-        }
+        Answer::Refused(n) => print_refused(n),
     }
 }

@@ -2,20 +2,17 @@
 use mathlib.Core.Path.{sym}
 use borrow.Author.Needs.{needs}
 use lib.Seq.{length-take-le}
-use Rattle.list.proofs.first.Statement.{statement}
-use Rattle.list.proofs.first.Tie as tie
-use Rattle.list.proofs.first.Reads as reads
-use Rattle.list.proofs.first.Lts as lts
+use Rattle.files.proofs.first.Statement.{statement}
+use Rattle.files.proofs.first.Tie as tie
+use Rattle.files.proofs.first.Reads as reads
+use Rattle.files.proofs.first.Lts as lts
 
--- src/main.rt:22:9
 returns : tie.Need-returns
 returns c = search needs
 
--- src/main.rt:24:5
 slice-aggregate-result : tie.Need-slice-aggregate-result
 slice-aggregate-result c = sym (length-take-le _ _ (search needs))
 
--- src/main.rt:20:1
 returns-2 : tie.Need-returns-2
 returns-2 c = search needs
 
