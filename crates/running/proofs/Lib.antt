@@ -1,6 +1,7 @@
 -- Proofs of running: computed equations, worked cases, and demand 3 over the definitions.
 pub mod Computed
 pub mod Cases
+pub mod Table
 pub mod Alls
 pub mod ProductLaws
 pub mod Owed
