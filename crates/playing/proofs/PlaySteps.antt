@@ -8,10 +8,10 @@ use borrow.Author.Needs.{needs}
 use borrow.Author.Tests.{le-leb, lt-leb}
 use lib.Dec.{leb}
 use lib.ListN.{length, getD, replicate, length-replicate}
-use Rattle.reading.proofs.Parts.{never, passed as test-passed}
+use Rattle.reading.proofs.Parts.{never}
 use Rattle.reading.specs.Read.{Read, got, refused}
 use Rattle.reading.specs.Syntax.{Sheet}
-use Rattle.reading.specs.System.{readSheet, sheetOf}
+use Rattle.reading.specs.System.{readSheet}
 use Rattle.reading.specs.Told.{number}
 use Rattle.reading.specs.declared.Number.{Number}
 use Rattle.reading.specs.declared.NumberRead.{NumberRead}
@@ -22,6 +22,7 @@ use Rattle.service.specs.Questions.{passed, failed, ask, afterReading, judged}
 use Rattle.service.specs.Told.{firstFailed}
 use Rattle.service.specs.declared.Answer.{Answer}
 use Rattle.service.specs.declared.Answer.the-variants as answer-case
+use Rattle.service.proofs.JudgeSteps.{sheet-reads}
 use Rattle.service.proofs.FirstLaws.{Passed, first-passes, first-fails}
 use Rattle.running.specs.State.{State}
 use Rattle.running.specs.Products.{start}
@@ -35,7 +36,7 @@ use Rattle.making.specs.Held.{Holds}
 use Rattle.making.specs.Starts.{Blank, Starts}
 use Rattle.making.specs.declared.Sizes.{Sizes}
 use Rattle.playing.specs.Told.{Played}
-use Rattle.playing.specs.Begins.{Reads, begun, startOf, listed, movesOf, ranOver, scripted, playedScript, playedFrom, Comes, Tables}
+use Rattle.playing.specs.Begins.{Reads, begun, startOf, listed, movesOf, ranOver, scripted, playedScript, playedFrom, Comes, Lent}
 use Rattle.playing.specs.Runs.{Going}
 
 -- Question 21.
@@ -149,7 +150,7 @@ module _ (s script log : List ℕ) (reads : Reads s) (threads types : List ℕ) 
 
 pub tables-from : (threads made types : List ℕ) (known : List Bool) (cells threads′ made′ types′ : List ℕ) (known′ : List Bool) (cells′ : List ℕ)
     → Blank threads types known cells → length made ≡ 128 → length threads′ ≡ length threads → length made′ ≡ length made
-    → length types′ ≡ length types → length known′ ≡ length known → length cells′ ≡ length cells → Tables threads′ made′ types′ known′ cells′
+    → length types′ ≡ length types → length known′ ≡ length known → length cells′ ≡ length cells → Lent threads′ made′ types′ known′ cells′
 tables-from threads made types known cells threads′ made′ types′ known′ cells′ b m th ma ty k ce = record {
   thread-room = th ∙ b .thread-room;
   made-room = ma ∙ m;
@@ -176,10 +177,6 @@ new-tables = record {
 }
 
 -- Questions 1 to 18.
-sheet-reads : (s c : List ℕ) (sheet : Sheet) (k : ℕ) → sheetOf s c ≡ got sheet k → readSheet s ≡ got sheet k
-unfolding sheetOf
-sheet-reads s c sheet k e = test-passed (leb (length s) 4096 && leb (length c) 4096) (readSheet s) 1 4096 e .then
-
 module _ (s c : List ℕ) (n : ℕ) (first : n ≡ firstFailed (judged s c)) where
   pub refuses : (script log : List ℕ) → n < 19 → Played s c script log log (answer-case.Refused n)
   unfolding played opened openedFrom logged outcomeOf

@@ -22,7 +22,7 @@ use Rattle.script.specs.declared.MoveRead.the-variants as move-read
 use Rattle.script.proofs.ScriptLaws.{More, more-moves, no-more}
 use Rattle.stepping.specs.Steps.{Stepped}
 use Rattle.stepping.specs.declared.Moved.{Moved}
-use Rattle.playing.specs.Begins.{Tables, ranOver}
+use Rattle.playing.specs.Begins.{Lent, ranOver}
 use Rattle.playing.specs.Runs.{Going, Turned}
 use Rattle.playing.specs.declared.Point.{Point}
 use Rattle.playing.proofs.LogLaws.{eight-bytes, logged-more, log-length, past-kept}
@@ -111,7 +111,7 @@ pub ruleset turn-steps = (needs, record-room, few-threads, never-refused, next-t
 -- The loop: the run goes on, and nothing is written past the records of all moves; the tables keep their lengths.
 pub record Running (s script run : List ℕ) (count : ℕ) (log₀ : List ℕ) (p : Point) (log threads made types : List ℕ) (known : List Bool) (cells : List ℕ) : Type 0 where
   pub going : Going s script run count p log threads types known cells
-  pub tables : Tables threads made types known cells
+  pub tables : Lent threads made types known cells
   pub long : length log ≡ length log₀
   pub past : drop (count * 8) log ≡ drop (count * 8) log₀
 
@@ -135,7 +135,7 @@ module _ (s script run : List ℕ) (count : ℕ) (log₀ : List ℕ) (p : Point)
     past = t .kept ∙ a .past;
   }
 
-  pub run-first : Going s script run count p log threads types known cells → Tables threads made types known cells
+  pub run-first : Going s script run count p log threads types known cells → Lent threads made types known cells
       → Running s script run count log p log threads made types known cells
   run-first g t = record { going = g; tables = t; long = refl; past = refl }
 

@@ -60,7 +60,7 @@ pub record Comes (outcome : Outcome) (log′ : List ℕ) (r : Answer) : Type 0 w
   pub lent : log′ ≡ outcome .lent
 
 -- The tables of a run have their lengths.
-pub record Tables (threads made types : List ℕ) (known : List Bool) (cells : List ℕ) : Type 0 where
+pub record Lent (threads made types : List ℕ) (known : List Bool) (cells : List ℕ) : Type 0 where
   pub thread-room : length threads ≡ 128
   pub made-room : length made ≡ 128
   pub type-room : length types ≡ 1024

@@ -3,7 +3,7 @@ ghost use mathlib.Core.Path.{_≡_};
 ghost use lib.ListN.{length};
 ghost use Rattle.making.specs.Held.{Holds};
 ghost use Rattle.making.specs.Starts.{Blank};
-ghost use Rattle.playing.specs.Begins.{Reads, startOf, playedScript, playedFrom, Comes, Tables};
+ghost use Rattle.playing.specs.Begins.{Reads, startOf, playedScript, playedFrom, Comes, Lent};
 use crate::Point;
 use crate::runs::run;
 use making::Sizes;
@@ -25,7 +25,7 @@ fn play_script(
     cells: &mut [usize],
 ) -> Answer
     requires { ⌜ Holds (now s) sizes 1 (now threads) (now types) (now known) (now cells) (startOf (now s))
-        × Tables (now threads) (now made) (now types) (now known) (now cells) ⌝ }
+        × Lent (now threads) (now made) (now types) (now known) (now cells) ⌝ }
     ensures { λ r. ⌜ Comes (playedScript (startOf (now (s .entry))) (now (script .entry)) (now (log .entry))) (now (log .exit)) r ⌝ }
 {
     let counted = count_moves(script);

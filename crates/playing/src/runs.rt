@@ -2,7 +2,7 @@
 ghost use mathlib.Core.Path.{_≡_};
 ghost use Prim.Native.Nat.{_<_};
 ghost use Rattle.running.specs.Moves.{runLog};
-ghost use Rattle.playing.specs.Begins.{startOf, movesOf, ranOver, Tables};
+ghost use Rattle.playing.specs.Begins.{startOf, movesOf, ranOver, Lent};
 ghost use Rattle.playing.specs.Runs.{Going, Turned};
 use crate::Point;
 use script::MoveRead;
@@ -25,7 +25,7 @@ fn turn(
 ) -> Point
     requires { ⌜ Going (now s) (now script) (runLog (startOf (now s)) (movesOf (now script))) count p (now log)
         (now threads) (now types) (now known) (now cells)
-        × Tables (now threads) (now made) (now types) (now known) (now cells) × (p .done < count) ⌝ }
+        × Lent (now threads) (now made) (now types) (now known) (now cells) × (p .done < count) ⌝ }
     ensures { λ r. ⌜ Turned (now (s .entry)) (now (script .entry)) (runLog (startOf (now (s .entry))) (movesOf (now (script .entry)))) count p
         (now (log .entry)) (now (log .exit)) (now (threads .exit)) (now (types .exit)) (now (known .exit)) (now (cells .exit)) r ⌝ }
 {
@@ -62,7 +62,7 @@ pub fn run(
 )
     requires { ⌜ Going (now s) (now script) (runLog (startOf (now s)) (movesOf (now script))) count begin (now log)
         (now threads) (now types) (now known) (now cells)
-        × Tables (now threads) (now made) (now types) (now known) (now cells) ⌝ }
+        × Lent (now threads) (now made) (now types) (now known) (now cells) ⌝ }
     ensures { λ _. ⌜ now (log .exit) ≡ ranOver (runLog (startOf (now (s .entry))) (movesOf (now (script .entry)))) (now (log .entry)) ⌝ }
 {
     let mut p = begin;

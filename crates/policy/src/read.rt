@@ -29,7 +29,7 @@ fn fault(at: usize) -> NumberRead
 }
 
 // A two-byte number, the low byte first.
-fn two_bytes(c: &[u8], at: usize) -> NumberRead
+pub fn two_bytes(c: &[u8], at: usize) -> NumberRead
     ensures { λ r. ⌜ number r ≡ twoBytes (now (c .entry)) at ⌝ }
 {
     let first = byte_at(c, at);

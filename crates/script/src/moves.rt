@@ -2,7 +2,6 @@
 ghost use mathlib.Core.Path.{_≡_};
 ghost use Rattle.reading.specs.Read.{refused};
 ghost use Rattle.reading.specs.Told.{number, refusalOf};
-ghost use Rattle.policy.specs.Reading.{twoBytes};
 ghost use Rattle.running.specs.Script.{moveAt, readScript};
 ghost use Rattle.script.specs.Fields.{copyAt, sendAt, receiptAt, meetingAt, outsideAt};
 ghost use Rattle.script.specs.Told.{moveRead, placeOf, countedMoves};
@@ -11,6 +10,7 @@ use crate::Move;
 use crate::MovePlace;
 use crate::MoveRead;
 use crate::Receipt;
+use policy::read::two_bytes;
 use reading::Number;
 use reading::NumberRead;
 use reading::Refusal;
@@ -29,24 +29,6 @@ fn no_move(at: usize) -> MoveRead
     ensures { λ r. ⌜ moveRead r ≡ refused 4 at ⌝ }
 {
     MoveRead::Refused(Refusal { question: 4, at })
-}
-
-// A two-byte number, the low byte first.
-fn two_bytes(s: &[u8], at: usize) -> NumberRead
-    ensures { λ r. ⌜ number r ≡ twoBytes (now (s .entry)) at ⌝ }
-{
-    let first = byte_at(s, at);
-    let NumberRead::Found(low) = first else {
-        return first;
-    };
-    let second = byte_at(s, low.next);
-    let NumberRead::Found(high) = second else {
-        return second;
-    };
-    NumberRead::Found(Number {
-        value: low.value + 256 * high.value,
-        next: high.next,
-    })
 }
 
 // A copy: the thread.

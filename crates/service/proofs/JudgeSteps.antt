@@ -82,7 +82,7 @@ module _ (c nodes : List ℕ) (trees : Trees) where
   entries-decide l h fault v p le es q = by-entries (readPolicy c) l h fault v p le es q
 
 -- Questions 7 to 18 of a sheet that reads.
-sheet-reads : (s c : List ℕ) (sheet : Sheet) (k : ℕ) → sheetOf s c ≡ got sheet k → readSheet s ≡ got sheet k
+pub sheet-reads : (s c : List ℕ) (sheet : Sheet) (k : ℕ) → sheetOf s c ≡ got sheet k → readSheet s ≡ got sheet k
 unfolding sheetOf
 sheet-reads s c sheet k e = test-passed (leb (length s) 4096 && leb (length c) 4096) (readSheet s) 1 4096 e .then
 

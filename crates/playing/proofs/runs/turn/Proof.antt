@@ -1,5 +1,5 @@
 -- `turn`: the next move can be read, and its step and its record go on with the run (`next-turned`). The step asks that the state
--- fits its tables, which `Going` and `Tables` tell.
+-- fits its tables, which `Going` and `Lent` tell.
 use Rattle.playing.proofs.RunSteps.{turn-steps, record-room, next-turned}
 use borrow.Author.Needs.{needs}
 use Rattle.playing.proofs.runs.turn.Statement.{statement}

@@ -1,0 +1,2 @@
+-- Lemmas of the exported functions' proofs.
+pub mod CodeSteps

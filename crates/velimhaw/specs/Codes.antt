@@ -1,0 +1,21 @@
+-- Answers as numbers: below 64 the number of the question that failed, from 64 on 64 more than the length or the number of moves.
+use Prim.Native.Nat.{ℕ, _+_}
+use mathlib.Core.Path.{_≡_}
+use mathlib.Core.List.{List}
+use mathlib.Core.Bool.{cond}
+use lib.Dec.{ltb}
+use Rattle.service.specs.Questions.{Asked, passed, failed}
+use Rattle.service.specs.Check.{checked}
+use Rattle.running.specs.Play.{played}
+
+unfoldable pub codeOf : Asked ℕ → ℕ
+codeOf (passed n) = cond (ltb n 4294967296) (n + 64) 63
+codeOf (failed q) = cond (ltb q 63) q 63
+
+pub record CheckedAs (sheet charter output output′ : List ℕ) (r : ℕ) : Type 0 where
+  pub answer : r ≡ codeOf (checked sheet charter output .answer)
+  pub lent : output′ ≡ checked sheet charter output .lent
+
+pub record PlayedAs (sheet charter script log log′ : List ℕ) (r : ℕ) : Type 0 where
+  pub answer : r ≡ codeOf (played sheet charter script log .answer)
+  pub lent : log′ ≡ played sheet charter script log .lent

@@ -1,0 +1,35 @@
+// The two services for programs in C and Rust: `rt staticlib velimhaw` writes them into a static library. An answer is one number:
+// below 64 it is the number of the question that failed, from 64 on the call was accepted and the length written, or the number of
+// moves, is 64 less.
+ghost use mathlib.Core.Path.{_≡_};
+ghost use Rattle.service.specs.Told.{told};
+ghost use Rattle.velimhaw.specs.Codes.{codeOf, CheckedAs, PlayedAs};
+use playing::play;
+use service::Answer;
+use service::checking::check;
+
+// An answer as one number. No length comes near the bound; one that did would be told as 63, which is no question's number.
+fn code(answer: Answer) -> u64
+    ensures { λ r. ⌜ r ≡ codeOf (told answer) ⌝ }
+{
+    match answer {
+        Answer::Accepted(n) => { if n < 4294967296 { (n + 64) as u64 } else { 63 } }
+        Answer::Refused(q) => { if q < 63 { q as u64 } else { 63 } }
+    }
+}
+
+// Checks a sheet against a charter, and writes the interface into the output.
+#[no_mangle]
+pub extern "C" fn velimhaw_check(sheet: &[u8], charter: &[u8], output: &mut [u8]) -> u64
+    ensures { λ r. ⌜ CheckedAs (now (sheet .entry)) (now (charter .entry)) (now (output .entry)) (now (output .exit)) r ⌝ }
+{
+    code(check(sheet, charter, output))
+}
+
+// Plays a script on a sheet that its charter accepts, and writes a record of eight bytes for each move into the log.
+#[no_mangle]
+pub extern "C" fn velimhaw_play(sheet: &[u8], charter: &[u8], script: &[u8], log: &mut [u8]) -> u64
+    ensures { λ r. ⌜ PlayedAs (now (sheet .entry)) (now (charter .entry)) (now (script .entry)) (now (log .entry)) (now (log .exit)) r ⌝ }
+{
+    code(play(sheet, charter, script, log))
+}
