@@ -1,0 +1,96 @@
+//! The inputs of the benchmark: sheets of a wanted size, their charters, and scripts.
+
+/// Document 01's example W.
+pub const W_SHEET: [u8; 29] = [
+    2, 2, 0, 0, 0, 1, 0, 0, 2, 0, 1, 4, 1, 6, 0, 1, 0, 4, 2, 5, 0, 1, 0, 0, 5, 2, 0, 0, 0,
+];
+pub const W_CHARTER: [u8; 15] = [1, 0, 0, 8, 2, 1, 0x10, 1, 0, 1, 0, 0, 2, 5, 0];
+
+/// A sheet of exactly `size` bytes: posts below group 0 that receive and send links and data of `kinds` kinds.
+pub fn sheet(size: usize, posts: usize, kinds: usize) -> Vec<u8> {
+    let mut out = vec![2 * kinds as u8];
+    for kind in 0..kinds as u8 {
+        out.extend_from_slice(&[2, 0, 0, kind, 1, 0, kind]);
+    }
+    out.extend_from_slice(&[2, 0]);
+    let frames = (posts - 1) + 3 * posts;
+    let bodies = size - out.len() - frames;
+    let mut number = 0;
+    parallel(&mut out, posts, &mut |out| {
+        let end = bodies * (number + 1) / posts - bodies * number / posts;
+        post(out, number, end, kinds);
+        number += 1;
+    });
+    assert_eq!(out.len(), size);
+    out
+}
+
+/// So many parts in parallel, as evenly nested as can be.
+fn parallel(out: &mut Vec<u8>, count: usize, part: &mut dyn FnMut(&mut Vec<u8>)) {
+    if count <= 1 {
+        return part(out);
+    }
+    out.push(1);
+    parallel(out, count / 2, part);
+    parallel(out, count - count / 2, part);
+}
+
+/// A post whose acts take exactly `left` bytes.
+fn post(out: &mut Vec<u8>, number: usize, mut left: usize, kinds: usize) {
+    out.extend_from_slice(&[4, 1 + (number % 3) as u8]);
+    let mut bound = 2 * kinds as u8;
+    let mut kind = number % kinds;
+    while left > 0 {
+        let (link, data) = (2 * kind as u8, 2 * kind as u8 + 1);
+        let start = out.len();
+        if left > 24 {
+            out.extend_from_slice(&[6, link, data, 5, link, 1, 0, kind as u8, 6, link, bound]);
+            bound += 1;
+        } else if left % 3 == 0 {
+            out.extend_from_slice(&[6, link, data]);
+        } else {
+            out.extend_from_slice(&[5, data, 0, kind as u8]);
+            bound += 1;
+        }
+        left -= out.len() - start;
+        kind = (kind + 1) % kinds;
+    }
+    out.push(0);
+}
+
+/// A charter for such a sheet: for each kind a root and three nodes below it.
+pub fn charter(kinds: usize) -> Vec<u8> {
+    let mut out = vec![kinds as u8];
+    for kind in 0..kinds as u8 {
+        out.extend_from_slice(&[kind, 0, 0x13, 1, 0, 0xff, 0x0f, 3]);
+        for group in 1..4 {
+            out.extend_from_slice(&[group, 0x14, 1, 0, 1, 0, 0]);
+        }
+    }
+    out
+}
+
+/// A sheet with so many idle repeats before a repeated send and a repeated receive.
+pub fn running_sheet(idle: usize) -> Vec<u8> {
+    let mut out = vec![2, 1, 0, 0, 0, 0, 4, 0];
+    if idle > 0 {
+        out.push(1);
+        parallel(&mut out, idle, &mut |out| out.extend_from_slice(&[7, 0]));
+    }
+    out.extend_from_slice(&[1, 7, 6, 0, 1, 0, 7, 5, 0, 0, 0, 0]);
+    out
+}
+
+/// A charter that lets post 0 read and write kind 0.
+pub const RUNNING_CHARTER: [u8; 5] = [1, 0, 0, 3, 0];
+
+/// 1,024 moves: copies of the send and of the receive, and their meeting, over and over.
+pub fn running_script(idle: usize) -> Vec<u8> {
+    let at = idle as u8;
+    let mut out = Vec::new();
+    for _ in 0..341 {
+        out.extend_from_slice(&[1, at, 1, at + 2, 4, at, at + 2]);
+    }
+    out.extend_from_slice(&[1, at]);
+    out
+}

@@ -1,0 +1,180 @@
+//! Generates charters: one that just covers an interface, and perturbations of it that may just fail.
+
+use crate::random::Random;
+use independent::charter::{Charter, Node, Tree};
+use independent::permissions::{Count, Entry, Permissions};
+use independent::sheet::Sheet;
+use std::collections::{BTreeMap, BTreeSet};
+
+/// The permissions that each group of a tree grants.
+type Grants = BTreeMap<u8, Permissions>;
+
+/// A charter that covers the interface wherever the entries of a kind share a group.
+pub fn covering(random: &mut Random, sheet: &Sheet, interface: &[Entry]) -> Charter {
+    let kinds: BTreeSet<u8> = interface.iter().map(|entry| entry.kind).collect();
+    let mut trees: Vec<Tree> = Vec::new();
+    for kind in kinds {
+        let entries: Vec<&Entry> = interface.iter().filter(|entry| entry.kind == kind).collect();
+        trees.push(Tree { kind, root: covering_tree(random, sheet, &entries) });
+    }
+    random.shuffle(&mut trees);
+    Charter { trees }
+}
+
+fn covering_tree(random: &mut Random, sheet: &Sheet, entries: &[&Entry]) -> Node {
+    let paths: Vec<&Vec<u8>> = entries.iter().map(|entry| &sheet.paths[entry.post]).collect();
+    let shared: Vec<u8> = paths[0].iter().copied().filter(|g| paths.iter().all(|path| path.contains(g))).collect();
+    let mut grants = Grants::new();
+    for (entry, path) in entries.iter().zip(&paths) {
+        spread(random, &entry.permissions, path, &mut grants);
+    }
+    let root = if shared.is_empty() { paths[0][0] } else { random.pick(&shared) };
+    let mut tree = node(root, &grants);
+    let flat = random.chance(60);
+    for path in &paths {
+        let mut rest: Vec<u8> = path.iter().copied().filter(|&g| g != root).collect();
+        if random.chance(50) {
+            random.shuffle(&mut rest);
+        }
+        if flat { rest.iter().for_each(|&g| insert(&mut tree, &[g], &grants)) } else { insert(&mut tree, &rest, &grants) }
+    }
+    tree
+}
+
+fn node(group: u8, grants: &Grants) -> Node {
+    let grant = grants.get(&group).cloned().unwrap_or_default();
+    Node { group, grant, nondisclose: false, children: Vec::new() }
+}
+
+/// Adds a chain of groups below a node, sharing what is there.
+fn insert(below: &mut Node, chain: &[u8], grants: &Grants) {
+    let Some((&group, rest)) = chain.split_first() else { return };
+    let at = below.children.iter().position(|child| child.group == group).unwrap_or_else(|| {
+        below.children.push(node(group, grants));
+        below.children.len() - 1
+    });
+    insert(&mut below.children[at], rest, grants);
+}
+
+/// Spreads what an entry needs over the groups of its path.
+fn spread(random: &mut Random, needs: &Permissions, path: &[u8], grants: &mut Grants) {
+    grants.entry(random.pick(path)).or_default().read |= needs.read;
+    grants.entry(random.pick(path)).or_default().write |= needs.write;
+    grants.entry(random.pick(path)).or_default().access |= needs.access;
+    for (&group, &count) in &needs.disclose {
+        let (first, second) = (random.pick(path), random.pick(path));
+        match count {
+            Count::Finite(n) if first != second => {
+                let part = random.below(n as usize + 1) as u32;
+                raise(grants, first, group, Count::Finite(part));
+                raise(grants, second, group, Count::Finite(n - part));
+            }
+            _ => raise(grants, first, group, count),
+        }
+    }
+}
+
+fn raise(grants: &mut Grants, at: u8, group: u8, count: Count) {
+    if count > Count::Finite(0) {
+        let slot = grants.entry(at).or_default().disclose.entry(group).or_insert(count);
+        *slot = count.max(*slot);
+    }
+}
+
+/// Calls `change` on each node of a tree, children first, so that added ones are not visited.
+fn each_node(node: &mut Node, change: &mut dyn FnMut(&mut Node)) {
+    for child in &mut node.children {
+        each_node(child, change);
+    }
+    change(node);
+}
+
+fn groups_of(root: &Node) -> Vec<u8> {
+    let mut groups = Vec::new();
+    root.visit(&mut |node| groups.push(node.group));
+    groups
+}
+
+/// Changes one thing: a flag, a count by one, a node, nondisclose, or a tree.
+pub fn perturb(random: &mut Random, charter: &mut Charter) {
+    if charter.trees.is_empty() || random.chance(5) {
+        return perturb_trees(random, charter);
+    }
+    let at = random.below(charter.trees.len());
+    let root = &mut charter.trees[at].root;
+    match random.below(10) {
+        0..=3 => change_grant(random, root, change_count),
+        4..=5 => change_grant(random, root, change_flag),
+        6 => change_grant(random, root, |_, node| node.nondisclose = !node.nondisclose),
+        7 => change_grant(random, root, |random, node| node.group = random.below(64) as u8),
+        8 => change_grant(random, root, drop_child),
+        _ => change_grant(random, root, add_child),
+    }
+}
+
+fn perturb_trees(random: &mut Random, charter: &mut Charter) {
+    if charter.trees.is_empty() || charter.trees.len() > 15 {
+        let root = node(random.below(64) as u8, &Grants::new());
+        charter.trees = vec![Tree { kind: random.below(16) as u8, root }];
+    } else if random.chance(50) {
+        charter.trees.pop();
+    } else {
+        let again = charter.trees[0].clone();
+        charter.trees.push(again);
+    }
+}
+
+/// Makes the same change at all nodes of one group, or now and then at one node only.
+fn change_grant(random: &mut Random, root: &mut Node, change: fn(&mut Random, &mut Node)) {
+    let group = random.pick(&groups_of(root));
+    let one_only = random.chance(20);
+    let mut done = false;
+    let same = random.next();
+    each_node(root, &mut |node| {
+        if node.group == group && !(one_only && done) {
+            change(&mut Random::new(same, 0), node);
+            done = true;
+        }
+    });
+}
+
+fn change_count(random: &mut Random, node: &mut Node) {
+    let groups: Vec<u8> = node.grant.disclose.keys().copied().collect();
+    if groups.is_empty() {
+        let count = random.pick(&[Count::Finite(1), Count::Finite(4095), Count::Unlimited]);
+        node.grant.disclose.insert(random.below(64) as u8, count);
+        return;
+    }
+    let group = random.pick(&groups);
+    let changed = match node.grant.count(group) {
+        Count::Finite(n) if random.chance(65) => n - 1,
+        Count::Finite(n) => n + 1,
+        Count::Unlimited => 4095,
+    };
+    node.grant.disclose.insert(group, Count::Finite(changed));
+    if changed == 0 {
+        node.grant.disclose.remove(&group);
+    }
+}
+
+fn change_flag(random: &mut Random, node: &mut Node) {
+    let grant = &mut node.grant;
+    match random.below(3) {
+        0 => grant.read = !grant.read,
+        1 => grant.write = !grant.write,
+        _ => grant.access = !grant.access,
+    }
+}
+
+fn drop_child(random: &mut Random, node: &mut Node) {
+    if !node.children.is_empty() {
+        node.children.remove(random.below(node.children.len()));
+    }
+}
+
+fn add_child(random: &mut Random, parent: &mut Node) {
+    let mut child = node(random.below(64) as u8, &Grants::new());
+    child.nondisclose = random.chance(30);
+    change_count(random, &mut child);
+    parent.children.push(child);
+}

@@ -1,0 +1,104 @@
+//! Sheets and charters around the limits of document 01: lengths, nesting, names, posts, threads, nodes.
+
+use crate::random::Random;
+
+/// A sheet and a charter near one limit.
+pub fn edge(random: &mut Random) -> (Vec<u8>, Vec<u8>) {
+    let step = random.below(4);
+    match random.below(11) {
+        0 => (nested(&[3, 0, 0], 62 + step), vec![0]),
+        1 => (nested(&[1], 62 + step).into_iter().chain(vec![0; 62 + step]).collect(), vec![0]),
+        2 => (posts(31 + step, &[4, 0, 0]), vec![0]),
+        3 => (threads(62 + step), vec![0]),
+        4 => (new_names(random.between(1022, 1025)), vec![0]),
+        5 => (groups(6 + step), vec![0]),
+        6 => (vec![0, 0], wide_charter(62 + step)),
+        7 => (vec![0, 0], deep_charter(6 + step)),
+        8 => (padded(4094 + step), vec![0]),
+        9 => (vec![0, 0], padded(4094 + step)),
+        _ => (bound_names(61 + step), vec![1, 0, 0, 0x17, 1, 0, 255, 255, 0]),
+    }
+}
+
+/// No free names, a form so many times nested, and nothing inside.
+fn nested(form: &[u8], times: usize) -> Vec<u8> {
+    let mut out = vec![0];
+    (0..times).for_each(|_| out.extend_from_slice(form));
+    out.push(0);
+    out
+}
+
+/// So many systems side by side.
+fn posts(count: usize, post: &[u8]) -> Vec<u8> {
+    let mut out = vec![0];
+    parallel(&mut out, count, post);
+    out
+}
+
+/// So many copies of a text in parallel, as evenly nested as can be.
+pub fn parallel(out: &mut Vec<u8>, count: usize, text: &[u8]) {
+    if count <= 1 {
+        return out.extend_from_slice(text);
+    }
+    out.push(1);
+    parallel(out, count / 2, text);
+    parallel(out, count - count / 2, text);
+}
+
+/// One post with so many repeats.
+fn threads(count: usize) -> Vec<u8> {
+    let mut out = vec![0, 4, 0];
+    parallel(&mut out, count, &[7, 0]);
+    out
+}
+
+/// So many new names in chains side by side.
+fn new_names(count: usize) -> Vec<u8> {
+    let mut out = vec![0];
+    let mut left = count;
+    while left > 0 {
+        let chain = left.min(40);
+        left -= chain;
+        if left > 0 {
+            out.push(1);
+        }
+        (0..chain).for_each(|_| out.extend_from_slice(&[3, 0, 0]));
+        out.push(0);
+    }
+    out
+}
+
+fn groups(count: usize) -> Vec<u8> {
+    let mut out = vec![0];
+    (0..count).for_each(|group| out.extend_from_slice(&[2, group as u8]));
+    out.push(0);
+    out
+}
+
+/// Names bound by receives until so many are in scope.
+fn bound_names(count: usize) -> Vec<u8> {
+    let mut out = vec![32, 1, 0, 0];
+    out.extend_from_slice(&[0; 62]);
+    out.extend_from_slice(&[4, 0]);
+    (32..count).for_each(|_| out.extend_from_slice(&[5, 0, 0, 0]));
+    out.push(0);
+    out
+}
+
+/// A root and children, so many nodes in all.
+fn wide_charter(nodes: usize) -> Vec<u8> {
+    let mut out = vec![1, 0, 0, 0, nodes as u8 - 1];
+    (1..nodes).for_each(|_| out.extend_from_slice(&[1, 0, 0]));
+    out
+}
+
+/// Nodes nested so many deep.
+fn deep_charter(levels: usize) -> Vec<u8> {
+    let mut out = vec![1, 0];
+    (0..levels).for_each(|level| out.extend_from_slice(&[level as u8, 0, (level + 1 < levels) as u8]));
+    out
+}
+
+fn padded(length: usize) -> Vec<u8> {
+    vec![0; length]
+}

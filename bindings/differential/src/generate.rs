@@ -1,0 +1,95 @@
+//! Puts whole cases together.
+
+use crate::case::Case;
+use crate::random::Random;
+use crate::{charters, damage, edges, scripts, sheets};
+use independent::running::State;
+use independent::{sheet, typing};
+
+/// The next case.
+pub fn case(random: &mut Random) -> Case {
+    let (mut sheet, mut charter) = match random.below(100) {
+        0..=9 => edges::edge(random),
+        10..=14 => (damage::noise(random), damage::noise(random)),
+        _ => pair(random),
+    };
+    let mut script = script(random, &sheet, &charter);
+    if random.chance(15) {
+        match random.below(3) {
+            0 => damage::damage(random, &mut sheet),
+            1 => damage::damage(random, &mut charter),
+            _ => damage::damage(random, &mut script),
+        }
+    }
+    let mut case = Case { sheet, charter, script, output: 0, log: 0, pattern: random.byte() };
+    (case.output, case.log) = (output_length(random, &case), log_length(random, &case));
+    case
+}
+
+/// A generated sheet with a charter derived from what it infers.
+fn pair(random: &mut Random) -> (Vec<u8>, Vec<u8>) {
+    let plan = sheets::plan(random);
+    let bytes = sheets::sheet(random, plan);
+    let Some(read) = sheet::read(&bytes).ok().filter(|read| typing::check_sheet(read).is_ok()) else {
+        return (bytes, vec![0]);
+    };
+    let mut charter = charters::covering(random, &read, &typing::interface(&read));
+    if random.chance(45) {
+        (0..random.between(1, 2)).for_each(|_| charters::perturb(random, &mut charter));
+    }
+    (bytes, charter.write())
+}
+
+/// A script for a sheet; where the sheet is refused, a short one.
+fn script(random: &mut Random, sheet: &[u8], charter: &[u8]) -> Vec<u8> {
+    let accepted = independent::accept(sheet, charter);
+    let state = accepted.as_ref().ok().and_then(|accepted| State::start(&accepted.sheet).ok());
+    let length = match random.below(200) {
+        0 => random.between(1022, 1026),
+        1..=9 => random.between(100, 400),
+        _ => random.between(0, 30),
+    };
+    match state {
+        Some(state) => scripts::script(random, state, length),
+        None if random.chance(50) => Vec::new(),
+        None => damage::noise(random),
+    }
+}
+
+/// The length of an accepted answer, found with plenty of memory.
+fn needed_output(case: &Case) -> usize {
+    independent::check(&case.sheet, &case.charter, &mut [0; 8192]).unwrap_or(0)
+}
+
+fn needed_log(case: &Case) -> usize {
+    8 * independent::script::read(&case.script).map_or(0, |moves| moves.len())
+}
+
+fn output_length(random: &mut Random, case: &Case) -> usize {
+    around(random, needed_output(case), 3)
+}
+
+fn log_length(random: &mut Random, case: &Case) -> usize {
+    around(random, needed_log(case), 9)
+}
+
+/// Mostly enough, sometimes short of the need, sometimes exact.
+fn around(random: &mut Random, need: usize, near: usize) -> usize {
+    match random.below(10) {
+        0 => random.between(need.saturating_sub(near), need + near),
+        1 => random.below(need + 1),
+        2..=5 => need,
+        _ => need + random.below(40),
+    }
+}
+
+/// The same case with every length of lent memory around the need.
+pub fn lengths(case: &Case) -> Vec<Case> {
+    let (output, log) = (needed_output(case), needed_log(case));
+    let mut cases = Vec::new();
+    for length in (output.saturating_sub(4)..=output + 4).chain([0]) {
+        cases.push(Case { output: length, log: (log + length).saturating_sub(output), ..case.clone() });
+    }
+    cases.push(Case { log: log.saturating_sub(8), ..case.clone() });
+    cases
+}

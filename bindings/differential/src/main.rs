@@ -1,0 +1,153 @@
+//! The differential tester: generates inputs and compares the independent implementation with the proved library.
+//! Usage: differential [--cases N] [--seconds S] [--seed X] [--first K] [--show]
+//! `--first` starts at a later case of the same seed; `--show` prints each case before it is run.
+
+mod case;
+mod charters;
+mod damage;
+mod edges;
+mod generate;
+mod random;
+mod scripts;
+mod sheets;
+mod shrink;
+mod subject;
+
+use case::Case;
+use random::Random;
+use std::collections::BTreeMap;
+use std::process::ExitCode;
+use std::time::{Duration, Instant, SystemTime, UNIX_EPOCH};
+use subject::{Independent, Proved};
+
+struct Options {
+    cases: u64,
+    seconds: Option<u64>,
+    seed: u64,
+    first: u64,
+    show: bool,
+}
+
+#[derive(Default)]
+struct Totals {
+    cases: u64,
+    accepted: u64,
+    moves: u64,
+    taken: u64,
+    check: BTreeMap<u32, u64>,
+    play: BTreeMap<u32, u64>,
+    records: BTreeMap<(u8, u8), u64>,
+}
+
+fn main() -> ExitCode {
+    let Some(options) = options() else {
+        eprintln!("usage: differential [--cases N] [--seconds S] [--seed X] [--first K] [--show]");
+        return ExitCode::from(2);
+    };
+    println!("seed {}", options.seed);
+    let mut totals = Totals::default();
+    let outcome = run(&options, &mut totals);
+    totals.print();
+    outcome
+}
+
+impl Totals {
+    fn print(&self) {
+        println!("check, refused by number: {:?}", self.check);
+        println!("play, refused by number: {:?}", self.play);
+        println!("records, by number and label: {:?}", self.records);
+        println!("{} cases, {} accepted, {} moves, {} of them taken", self.cases, self.accepted, self.moves, self.taken);
+    }
+}
+
+fn options() -> Option<Options> {
+    let now = SystemTime::now().duration_since(UNIX_EPOCH).map_or(1, |since| since.as_nanos() as u64);
+    let mut options = Options { cases: 0, seconds: None, seed: now % 1_000_000_007, first: 0, show: false };
+    let mut arguments = std::env::args().skip(1);
+    while let Some(argument) = arguments.next() {
+        if argument == "--show" {
+            options.show = true;
+            continue;
+        }
+        let value: u64 = arguments.next()?.parse().ok()?;
+        match argument.as_str() {
+            "--cases" => options.cases = value,
+            "--seconds" => options.seconds = Some(value),
+            "--seed" => options.seed = value,
+            "--first" => options.first = value,
+            _ => return None,
+        }
+    }
+    if options.cases == 0 {
+        options.cases = if options.seconds.is_some() { u64::MAX } else { 10_000 };
+    }
+    Some(options)
+}
+
+fn run(options: &Options, totals: &mut Totals) -> ExitCode {
+    let end = options.seconds.map(|seconds| Instant::now() + Duration::from_secs(seconds));
+    let mut number = options.first;
+    while totals.cases < options.cases && end.map_or(true, |end| Instant::now() < end) {
+        let mut random = Random::new(options.seed, number);
+        let case = generate::case(&mut random);
+        if options.show {
+            println!("case {number}");
+            case.print();
+        }
+        if let Some(what) = examine(&case, random.chance(10), totals) {
+            println!("case {number}: {what}");
+            return ExitCode::FAILURE;
+        }
+        number += 1;
+    }
+    ExitCode::SUCCESS
+}
+
+/// Compares the two sides on a case, with `sweep` at every length around the need; the answer is a shown fault.
+fn examine(case: &Case, sweep: bool, totals: &mut Totals) -> Option<String> {
+    count(case, totals);
+    if let Some(what) = case.violation() {
+        report(case, &|case| case.violation().is_some());
+        return Some(what);
+    }
+    let mut cases = vec![case.clone()];
+    if sweep {
+        cases.extend(generate::lengths(case));
+    }
+    for case in &cases {
+        if let Some(what) = case.difference(&Independent, &Proved) {
+            report(case, &|case| case.difference(&Independent, &Proved).is_some());
+            return Some(what);
+        }
+    }
+    None
+}
+
+fn count(case: &Case, totals: &mut Totals) {
+    totals.cases += 1;
+    totals.accepted += independent::accept(&case.sheet, &case.charter).is_ok() as u64;
+    let (checked, played) = (case.check(&Independent), case.play(&Independent));
+    tally(&mut totals.check, checked.answer);
+    tally(&mut totals.play, played.answer);
+    for record in played.records() {
+        totals.moves += 1;
+        totals.taken += (record[0] == 0) as u64;
+        *totals.records.entry((record[0], record[1])).or_insert(0) += 1;
+    }
+}
+
+fn tally(refused: &mut BTreeMap<u32, u64>, answer: Result<usize, u32>) {
+    if let Err(number) = answer {
+        *refused.entry(number).or_insert(0) += 1;
+    }
+}
+
+/// Prints a failing case, made as small as it gets.
+fn report(case: &Case, fails: &dyn Fn(&Case) -> bool) {
+    let small = shrink::shrink(case.clone(), fails);
+    println!("a fault, shrunk:");
+    small.print();
+    if let Some(what) = small.violation().or_else(|| small.difference(&Independent, &Proved)) {
+        println!("{what}");
+    }
+}

@@ -1,0 +1,77 @@
+//! Makes a failing case smaller while it still fails.
+
+use crate::case::Case;
+use independent::script::{self, Move};
+
+/// The smallest case found by dropping moves, bytes and lent memory while `fails` holds.
+pub fn shrink(case: Case, fails: &dyn Fn(&Case) -> bool) -> Case {
+    let mut best = case;
+    loop {
+        let size = weight(&best);
+        best = drop_moves(best, fails);
+        best = drop_bytes(best, fails, |case| &mut case.script);
+        best = drop_bytes(best, fails, |case| &mut case.charter);
+        best = drop_bytes(best, fails, |case| &mut case.sheet);
+        best = lend_less(best, fails);
+        if weight(&best) == size {
+            return best;
+        }
+    }
+}
+
+fn weight(case: &Case) -> usize {
+    case.sheet.len() + case.charter.len() + case.script.len() + case.output + case.log
+}
+
+/// Drops runs of things, long ones first, while the case built from the rest fails.
+fn drop_runs<T: Clone>(mut things: Vec<T>, still_fails: &dyn Fn(&[T]) -> bool) -> Vec<T> {
+    let mut run = things.len();
+    while run > 0 {
+        let mut at = 0;
+        while at + run <= things.len() {
+            let mut fewer = things.clone();
+            fewer.drain(at..at + run);
+            if still_fails(&fewer) {
+                things = fewer;
+            } else {
+                at += run.div_ceil(2);
+            }
+        }
+        run /= 2;
+    }
+    things
+}
+
+fn drop_bytes(case: Case, fails: &dyn Fn(&Case) -> bool, field: fn(&mut Case) -> &mut Vec<u8>) -> Case {
+    let with = |bytes: &[u8]| {
+        let mut other = case.clone();
+        *field(&mut other) = bytes.to_vec();
+        other
+    };
+    let start = field(&mut case.clone()).clone();
+    let bytes = drop_runs(start, &|bytes| fails(&with(bytes)));
+    with(&bytes)
+}
+
+fn drop_moves(case: Case, fails: &dyn Fn(&Case) -> bool) -> Case {
+    let Ok(moves) = script::read(&case.script) else { return case };
+    let with = |moves: &[Move]| {
+        let mut script = Vec::new();
+        moves.iter().for_each(|a_move| a_move.write(&mut script));
+        Case { script, ..case.clone() }
+    };
+    let moves = drop_runs(moves, &|moves| fails(&with(moves)));
+    with(&moves)
+}
+
+fn lend_less(case: Case, fails: &dyn Fn(&Case) -> bool) -> Case {
+    let mut best = case;
+    for length in [0, 1, 8, 16, 64, 256, 1024] {
+        for other in [Case { output: length, ..best.clone() }, Case { log: length, ..best.clone() }] {
+            if weight(&other) < weight(&best) && fails(&other) {
+                best = other;
+            }
+        }
+    }
+    best
+}

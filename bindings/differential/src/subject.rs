@@ -1,0 +1,39 @@
+//! The two sides that are compared, behind one trait.
+
+pub trait Subject {
+    fn check(&self, sheet: &[u8], charter: &[u8], output: &mut [u8]) -> Result<usize, u32>;
+    fn play(&self, sheet: &[u8], charter: &[u8], script: &[u8], log: &mut [u8]) -> Result<usize, u32>;
+}
+
+/// The independent implementation.
+pub struct Independent;
+
+impl Subject for Independent {
+    fn check(&self, sheet: &[u8], charter: &[u8], output: &mut [u8]) -> Result<usize, u32> {
+        independent::check(sheet, charter, output)
+    }
+
+    fn play(&self, sheet: &[u8], charter: &[u8], script: &[u8], log: &mut [u8]) -> Result<usize, u32> {
+        independent::play(sheet, charter, script, log)
+    }
+}
+
+/// The proved library.
+pub struct Proved;
+
+impl Subject for Proved {
+    fn check(&self, sheet: &[u8], charter: &[u8], output: &mut [u8]) -> Result<usize, u32> {
+        result(velimhaw::check(sheet, charter, output))
+    }
+
+    fn play(&self, sheet: &[u8], charter: &[u8], script: &[u8], log: &mut [u8]) -> Result<usize, u32> {
+        result(velimhaw::play(sheet, charter, script, log))
+    }
+}
+
+fn result(answer: velimhaw::Answer) -> Result<usize, u32> {
+    match answer {
+        velimhaw::Answer::Accepted(length) => Ok(length),
+        velimhaw::Answer::Refused(number) => Err(number as u32),
+    }
+}

@@ -1,0 +1,181 @@
+//! Charters as trees, their reader (question 11) and their own rules (questions 12 to 15).
+
+use crate::bytes::Reader;
+use crate::permissions::{Count, Permissions};
+use std::collections::{BTreeSet, HashMap};
+
+#[derive(Clone, PartialEq, Eq, Debug)]
+pub struct Charter {
+    pub trees: Vec<Tree>,
+}
+
+#[derive(Clone, PartialEq, Eq, Debug)]
+pub struct Tree {
+    pub kind: u8,
+    pub root: Node,
+}
+
+#[derive(Clone, PartialEq, Eq, Debug)]
+pub struct Node {
+    pub group: u8,
+    pub grant: Permissions,
+    pub nondisclose: bool,
+    pub children: Vec<Node>,
+}
+
+const UNREADABLE: u32 = 11;
+
+/// Reads a whole charter; every fault of the reading has the number 11.
+pub fn read(bytes: &[u8]) -> Result<Charter, u32> {
+    let mut reader = Reader::new(bytes);
+    let mut nodes_left = 64;
+    let count = reader.below(17, UNREADABLE, UNREADABLE)?;
+    let mut trees = Vec::new();
+    for _ in 0..count {
+        let kind = reader.below(16, UNREADABLE, UNREADABLE)?;
+        let root = read_node(&mut reader, 8, &mut nodes_left)?;
+        trees.push(Tree { kind, root });
+    }
+    if reader.at_end() { Ok(Charter { trees }) } else { Err(UNREADABLE) }
+}
+
+/// Reads a node with at most `levels` levels of nodes, itself included.
+fn read_node(reader: &mut Reader, levels: usize, nodes_left: &mut usize) -> Result<Node, u32> {
+    if levels == 0 || *nodes_left == 0 {
+        return Err(UNREADABLE);
+    }
+    *nodes_left -= 1;
+    let group = reader.below(64, UNREADABLE, UNREADABLE)?;
+    let (grant, nondisclose) = read_permissions(reader)?;
+    let count = reader.byte(UNREADABLE)?;
+    let mut children = Vec::new();
+    for _ in 0..count {
+        children.push(read_node(reader, levels - 1, nodes_left)?);
+    }
+    Ok(Node { group, grant, nondisclose, children })
+}
+
+fn read_permissions(reader: &mut Reader) -> Result<(Permissions, bool), u32> {
+    let map = reader.below(32, UNREADABLE, UNREADABLE)?;
+    let bit = |number: u8| map & (1 << number) != 0;
+    let mut grant = Permissions { read: bit(0), write: bit(1), access: bit(2), ..Permissions::default() };
+    if bit(4) {
+        read_list(reader, &mut grant)?;
+    }
+    Ok((grant, bit(3)))
+}
+
+fn read_list(reader: &mut Reader, grant: &mut Permissions) -> Result<(), u32> {
+    let count = reader.byte(UNREADABLE)?;
+    if !(1..=64).contains(&count) {
+        return Err(UNREADABLE);
+    }
+    for _ in 0..count {
+        let group = reader.below(64, UNREADABLE, UNREADABLE)?;
+        let rising = grant.disclose.keys().next_back().map_or(true, |&last| last < group);
+        let times = match reader.two(UNREADABLE)? {
+            n @ 1..=4095 => Count::Finite(n as u32),
+            65535 => Count::Unlimited,
+            _ => return Err(UNREADABLE),
+        };
+        if !rising {
+            return Err(UNREADABLE);
+        }
+        grant.disclose.insert(group, times);
+    }
+    Ok(())
+}
+
+impl Charter {
+    /// The tree of a kind.
+    pub fn tree(&self, kind: u8) -> Option<&Tree> {
+        self.trees.iter().find(|tree| tree.kind == kind)
+    }
+
+    /// Questions 12 to 15, each put to all trees before the next.
+    pub fn check(&self) -> Result<(), u32> {
+        let kinds: BTreeSet<u8> = self.trees.iter().map(|tree| tree.kind).collect();
+        if kinds.len() != self.trees.len() {
+            return Err(12);
+        }
+        let all = |question: fn(&Node) -> bool| self.trees.iter().all(|tree| question(&tree.root));
+        if !all(|root| groups_new_downwards(root, &mut Vec::new())) {
+            return Err(13);
+        }
+        if !all(|root| same_group_same_grant(root, &mut HashMap::new())) {
+            return Err(14);
+        }
+        if !all(fences_hold) {
+            return Err(15);
+        }
+        Ok(())
+    }
+
+    /// The stored form.
+    pub fn write(&self) -> Vec<u8> {
+        let mut out = vec![self.trees.len() as u8];
+        for tree in &self.trees {
+            out.push(tree.kind);
+            tree.root.write(&mut out);
+        }
+        out
+    }
+}
+
+impl Node {
+    fn write(&self, out: &mut Vec<u8>) {
+        out.push(self.group);
+        self.grant.write_to(self.nondisclose, out);
+        out.push(self.children.len() as u8);
+        for child in &self.children {
+            child.write(out);
+        }
+    }
+
+    /// Visits this node and all below it, in stored order.
+    pub fn visit<'a>(&'a self, see: &mut dyn FnMut(&'a Node)) {
+        see(self);
+        for child in &self.children {
+            child.visit(see);
+        }
+    }
+}
+
+/// Question 13 below the groups in `above`.
+fn groups_new_downwards(node: &Node, above: &mut Vec<u8>) -> bool {
+    if above.contains(&node.group) {
+        return false;
+    }
+    above.push(node.group);
+    let fine = node.children.iter().all(|child| groups_new_downwards(child, above));
+    above.pop();
+    fine
+}
+
+/// Question 14 for one tree.
+fn same_group_same_grant<'a>(root: &'a Node, seen: &mut HashMap<u8, &'a Node>) -> bool {
+    let mut fine = true;
+    root.visit(&mut |node| {
+        let first = *seen.entry(node.group).or_insert(node);
+        fine &= first.grant == node.grant && first.nondisclose == node.nondisclose;
+    });
+    fine
+}
+
+/// Question 15 for a node and all below it.
+fn fences_hold(node: &Node) -> bool {
+    (!node.nondisclose || fence_holds(node)) && node.children.iter().all(fences_hold)
+}
+
+/// Whether the nodes below this one disclose only to groups of it and of nodes below it.
+fn fence_holds(node: &Node) -> bool {
+    let mut inside = BTreeSet::new();
+    node.visit(&mut |below| {
+        inside.insert(below.group);
+    });
+    let mut fine = true;
+    for child in &node.children {
+        child.visit(&mut |below| fine &= below.grant.disclose.keys().all(|group| inside.contains(group)));
+    }
+    fine
+}

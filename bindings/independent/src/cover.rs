@@ -1,0 +1,53 @@
+//! Reached nodes, grants, and whether a charter covers an interface (questions 16 to 18).
+
+use crate::charter::{Charter, Node};
+use crate::permissions::{Entry, Permissions};
+use crate::sheet::Sheet;
+use std::collections::BTreeMap;
+
+/// The groups of the nodes that a path reaches in a kind's tree, each with its first such node.
+fn reached<'a>(charter: &'a Charter, path: &[u8], kind: u8) -> BTreeMap<u8, &'a Node> {
+    let mut found = BTreeMap::new();
+    if let Some(tree) = charter.tree(kind) {
+        reach(&tree.root, path, &mut found);
+    }
+    found
+}
+
+fn reach<'a>(node: &'a Node, path: &[u8], found: &mut BTreeMap<u8, &'a Node>) {
+    if path.contains(&node.group) {
+        found.entry(node.group).or_insert(node);
+        for child in &node.children {
+            reach(child, path, found);
+        }
+    }
+}
+
+/// The permissions of reached groups joined, each group taken once.
+fn join(reached: &BTreeMap<u8, &Node>) -> Permissions {
+    let mut joined = Permissions::default();
+    reached.values().for_each(|node| joined.join(&node.grant));
+    joined
+}
+
+/// The grant of a path for a kind.
+pub fn grant(charter: &Charter, path: &[u8], kind: u8) -> Permissions {
+    join(&reached(charter, path, kind))
+}
+
+/// Questions 16 to 18, each put to all entries before the next.
+pub fn check(sheet: &Sheet, charter: &Charter, interface: &[Entry]) -> Result<(), u32> {
+    if !interface.iter().all(|entry| charter.tree(entry.kind).is_some()) {
+        return Err(16);
+    }
+    let path = |entry: &Entry| &sheet.paths[entry.post];
+    let reached: Vec<_> = interface.iter().map(|entry| reached(charter, path(entry), entry.kind)).collect();
+    let mut pairs = interface.iter().zip(&reached);
+    if !pairs.clone().all(|(entry, groups)| groups.len() == path(entry).len()) {
+        return Err(17);
+    }
+    if !pairs.all(|(entry, groups)| entry.permissions.within(&join(groups))) {
+        return Err(18);
+    }
+    Ok(())
+}

@@ -1,0 +1,131 @@
+//! Permissions, how they join, and the interface with its stored form.
+
+use crate::sheet::Sheet;
+use std::collections::BTreeMap;
+
+/// How often; unlimited stands above every finite count.
+#[derive(Clone, Copy, PartialEq, Eq, PartialOrd, Ord, Debug)]
+pub enum Count {
+    Finite(u32),
+    Unlimited,
+}
+
+impl Count {
+    pub fn plus(self, other: Count) -> Count {
+        match (self, other) {
+            (Count::Finite(a), Count::Finite(b)) => Count::Finite(a + b),
+            _ => Count::Unlimited,
+        }
+    }
+
+    /// The two-byte stored number.
+    pub fn stored(self) -> u16 {
+        match self {
+            Count::Finite(n) => n as u16,
+            Count::Unlimited => 65535,
+        }
+    }
+}
+
+/// What one act needs.
+#[derive(Clone, Copy, PartialEq, Eq, Debug)]
+pub enum Need {
+    Read,
+    Write,
+    Access,
+    Disclose(u8),
+}
+
+/// Permissions on one kind; a group without a count has the count 0.
+#[derive(Clone, PartialEq, Eq, Default, Debug)]
+pub struct Permissions {
+    pub read: bool,
+    pub write: bool,
+    pub access: bool,
+    pub disclose: BTreeMap<u8, Count>,
+}
+
+impl Permissions {
+    /// Adds one need, `count` giving how often a disclosure happens.
+    pub fn add(&mut self, need: Need, count: Count) {
+        match need {
+            Need::Read => self.read = true,
+            Need::Write => self.write = true,
+            Need::Access => self.access = true,
+            Need::Disclose(group) => self.add_disclose(group, count),
+        }
+    }
+
+    pub fn add_disclose(&mut self, group: u8, count: Count) {
+        let slot = self.disclose.entry(group).or_insert(Count::Finite(0));
+        *slot = slot.plus(count);
+    }
+
+    /// Joins another's permissions to these, counts added.
+    pub fn join(&mut self, other: &Permissions) {
+        self.read |= other.read;
+        self.write |= other.write;
+        self.access |= other.access;
+        for (&group, &count) in &other.disclose {
+            self.add_disclose(group, count);
+        }
+    }
+
+    /// The count for a group, 0 where it is absent.
+    pub fn count(&self, group: u8) -> Count {
+        self.disclose.get(&group).copied().unwrap_or(Count::Finite(0))
+    }
+
+    /// Whether every flag and every count here is also there.
+    pub fn within(&self, other: &Permissions) -> bool {
+        let flags = (!self.read || other.read) && (!self.write || other.write) && (!self.access || other.access);
+        flags && self.disclose.iter().all(|(&group, &count)| count <= other.count(group))
+    }
+
+    /// Whether one act's need is granted.
+    pub fn grants(&self, need: Need) -> bool {
+        match need {
+            Need::Read => self.read,
+            Need::Write => self.write,
+            Need::Access => self.access,
+            Need::Disclose(group) => self.count(group) >= Count::Finite(1),
+        }
+    }
+
+    /// Appends the permission map and, if there is one, the list.
+    pub fn write_to(&self, nondisclose: bool, out: &mut Vec<u8>) {
+        let bits = [self.read, self.write, self.access, nondisclose, !self.disclose.is_empty()];
+        out.push(bits.iter().enumerate().map(|(i, &bit)| (bit as u8) << i).sum());
+        if self.disclose.is_empty() {
+            return;
+        }
+        out.push(self.disclose.len() as u8);
+        for (&group, count) in &self.disclose {
+            out.push(group);
+            out.extend_from_slice(&count.stored().to_le_bytes());
+        }
+    }
+}
+
+/// Permissions by kind.
+pub type ByKind = BTreeMap<u8, Permissions>;
+
+/// One entry of the interface.
+pub struct Entry {
+    pub post: usize,
+    pub kind: u8,
+    pub permissions: Permissions,
+}
+
+/// The stored form of the interface.
+pub fn write_interface(sheet: &Sheet, interface: &[Entry]) -> Vec<u8> {
+    let mut out = Vec::new();
+    for entry in interface {
+        let path = &sheet.paths[entry.post];
+        out.push(entry.kind);
+        out.push(path.len() as u8);
+        out.extend_from_slice(path);
+        entry.permissions.write_to(false, &mut out);
+    }
+    out
+}

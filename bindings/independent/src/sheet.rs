@@ -1,0 +1,145 @@
+//! Sheets as trees, and their reader (questions 2 to 6).
+
+use crate::bytes::Reader;
+use crate::types::{self, Type};
+
+/// A sheet: the types of its free names, its system, and the path of each post in sheet order.
+pub struct Sheet {
+    pub free: Vec<Type>,
+    pub system: System,
+    pub paths: Vec<Vec<u8>>,
+}
+
+pub enum System {
+    Nothing,
+    Parallel(Box<System>, Box<System>),
+    Group(u8, Box<System>),
+    New(Type, Box<System>),
+    Post(usize, Process),
+}
+
+/// Names in a process are binder numbers: free names first, then each binder on the way in.
+pub enum Process {
+    Nothing,
+    Parallel(Box<Process>, Box<Process>),
+    New(Type, Box<Process>),
+    Receive { channel: u8, bound: Type, then: Box<Process> },
+    Send { channel: u8, name: u8, then: Box<Process> },
+    Repeat(Box<Process>),
+}
+
+const MISSING: u32 = 2;
+const LEFT_OVER: u32 = 3;
+const RANGE: u32 = 4;
+const LIMIT: u32 = 5;
+const NOT_NEW: u32 = 6;
+
+/// Reads a whole sheet; the error is the number of the question that its first failing byte fails.
+pub fn read(bytes: &[u8]) -> Result<Sheet, u32> {
+    let mut reader = Reader::new(bytes);
+    let count = reader.below(33, MISSING, RANGE)?;
+    let mut free = Vec::new();
+    for _ in 0..count {
+        free.push(types::read(&mut reader, MISSING, RANGE)?);
+    }
+    let mut walk = Walk { reader, path: Vec::new(), paths: Vec::new() };
+    let system = walk.system(1, free.len())?;
+    if !walk.reader.at_end() {
+        return Err(LEFT_OVER);
+    }
+    Ok(Sheet { free, system, paths: walk.paths })
+}
+
+/// The reader on its way through the forms: the groups passed so far and the posts met so far.
+struct Walk<'a> {
+    reader: Reader<'a>,
+    path: Vec<u8>,
+    paths: Vec<Vec<u8>>,
+}
+
+impl Walk<'_> {
+    /// Reads the system at nesting `level` with `names` names in scope.
+    fn system(&mut self, level: usize, names: usize) -> Result<System, u32> {
+        let code = self.reader.below(5, MISSING, RANGE)?;
+        self.limits(code, level, names)?;
+        Ok(match code {
+            0 => System::Nothing,
+            1 => System::Parallel(
+                Box::new(self.system(level + 1, names)?),
+                Box::new(self.system(level + 1, names)?),
+            ),
+            2 => self.group_form(level, names)?,
+            3 => System::New(self.a_type()?, Box::new(self.system(level + 1, names + 1)?)),
+            _ => self.post(level, names)?,
+        })
+    }
+
+    fn group_form(&mut self, level: usize, names: usize) -> Result<System, u32> {
+        let group = self.enter_group()?;
+        let inner = self.system(level + 1, names)?;
+        self.path.pop();
+        Ok(System::Group(group, Box::new(inner)))
+    }
+
+    fn post(&mut self, level: usize, names: usize) -> Result<System, u32> {
+        let number = self.paths.len();
+        self.enter_group()?;
+        self.paths.push(self.path.clone());
+        let process = self.process(level + 1, names)?;
+        self.path.pop();
+        Ok(System::Post(number, process))
+    }
+
+    /// Reads a group that has to be new to the path, and adds it.
+    fn enter_group(&mut self) -> Result<u8, u32> {
+        let group = self.reader.below(64, MISSING, RANGE)?;
+        if self.path.contains(&group) {
+            return Err(NOT_NEW);
+        }
+        self.path.push(group);
+        Ok(group)
+    }
+
+    /// Reads the process at nesting `level` with `names` names in scope.
+    fn process(&mut self, level: usize, names: usize) -> Result<Process, u32> {
+        let code = self.reader.byte(MISSING)?;
+        if !matches!(code, 0 | 1 | 3 | 5 | 6 | 7) {
+            return Err(RANGE);
+        }
+        self.limits(code, level, names)?;
+        Ok(match code {
+            0 => Process::Nothing,
+            1 => Process::Parallel(
+                Box::new(self.process(level + 1, names)?),
+                Box::new(self.process(level + 1, names)?),
+            ),
+            3 => Process::New(self.a_type()?, Box::new(self.process(level + 1, names + 1)?)),
+            5 => Process::Receive {
+                channel: self.reader.byte(MISSING)?,
+                bound: self.a_type()?,
+                then: Box::new(self.process(level + 1, names + 1)?),
+            },
+            6 => Process::Send {
+                channel: self.reader.byte(MISSING)?,
+                name: self.reader.byte(MISSING)?,
+                then: Box::new(self.process(level + 1, names)?),
+            },
+            _ => Process::Repeat(Box::new(self.process(level + 1, names)?)),
+        })
+    }
+
+    /// Question 5, asked at the code byte of a form.
+    fn limits(&self, code: u8, level: usize, names: usize) -> Result<(), u32> {
+        let binds = code == 3 || code == 5;
+        let groups = code == 2 || code == 4;
+        let too_many = level > 64
+            || (binds && names >= 64)
+            || (groups && self.path.len() >= 8)
+            || (code == 4 && self.paths.len() >= 32);
+        if too_many { Err(LIMIT) } else { Ok(()) }
+    }
+
+    fn a_type(&mut self) -> Result<Type, u32> {
+        types::read(&mut self.reader, MISSING, RANGE)
+    }
+}
