@@ -1,0 +1,77 @@
+//! The workloads of the benchmark: a call of `check` or `play` on given inputs, of either side.
+
+use crate::inputs;
+use std::hint::black_box;
+
+pub struct Workload {
+    pub name: String,
+    sheet: Vec<u8>,
+    charter: Vec<u8>,
+    /// The script of a `play`; a `check` has none.
+    script: Option<Vec<u8>>,
+}
+
+/// Memory to lend to a call: room for any interface and any log of these workloads.
+pub fn lent() -> Vec<u8> {
+    vec![0; 8192]
+}
+
+pub fn all() -> Vec<Workload> {
+    let mut all = vec![
+        check("check, W", inputs::W_SHEET.to_vec(), inputs::W_CHARTER.to_vec()),
+        check("check, typical: 12 posts, 300 bytes", inputs::sheet(300, 12, 3), inputs::charter(3)),
+        check("check, largest: 4,096 bytes, 64 nodes", inputs::sheet(4096, 32, 16), inputs::charter(16)),
+    ];
+    for (size, posts) in [(256, 2), (1024, 8), (4096, 32)] {
+        all.push(check(&format!("check, growth: {size} bytes"), inputs::sheet(size, posts, 4), inputs::charter(4)));
+    }
+    for (idle, threads) in [(0, "few"), (60, "64")] {
+        all.push(play(&format!("play, 1,024 moves, {threads} threads"), idle));
+    }
+    all
+}
+
+fn check(name: &str, sheet: Vec<u8>, charter: Vec<u8>) -> Workload {
+    Workload { name: name.to_string(), sheet, charter, script: None }
+}
+
+fn play(name: &str, idle: usize) -> Workload {
+    Workload {
+        name: name.to_string(),
+        sheet: inputs::running_sheet(idle),
+        charter: inputs::RUNNING_CHARTER.to_vec(),
+        script: Some(inputs::running_script(idle)),
+    }
+}
+
+impl Workload {
+    /// One call of a side: 0 is the independent implementation, 1 the proved library. The number that it accepts with.
+    pub fn call(&self, side: usize, lent: &mut [u8]) -> usize {
+        let (sheet, charter) = (black_box(&self.sheet[..]), black_box(&self.charter[..]));
+        let answer = match (side, &self.script) {
+            (0, None) => independent::check(sheet, charter, lent),
+            (0, Some(script)) => independent::play(sheet, charter, script, lent),
+            (_, None) => told(velimhaw::check(sheet, charter, lent)),
+            (_, Some(script)) => told(velimhaw::play(sheet, charter, script, lent)),
+        };
+        black_box(answer).unwrap_or_else(|n| panic!("{}: refused {n}", self.name))
+    }
+
+    /// Both sides accept with the same number and write the same, and every move of a run is taken.
+    pub fn agree(&self) {
+        let (mut left, mut right) = (lent(), lent());
+        let number = self.call(0, &mut left);
+        assert_eq!(self.call(1, &mut right), number, "{}", self.name);
+        assert!(left == right, "{}: what they write differs", self.name);
+        if self.script.is_some() {
+            assert!(number == 1024 && left.chunks(8).all(|record| record[0] == 0), "{}: a move is refused", self.name);
+        }
+    }
+}
+
+fn told(answer: velimhaw::Answer) -> Result<usize, u32> {
+    match answer {
+        velimhaw::Answer::Accepted(number) => Ok(number),
+        velimhaw::Answer::Refused(number) => Err(number as u32),
+    }
+}
