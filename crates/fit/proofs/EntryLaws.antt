@@ -11,7 +11,7 @@ use borrow.Author.Tests.{lt-ltb, le-ltb}
 use Rattle.inference.specs.Lists.{every, any, only, gather, rising}
 use Rattle.inference.specs.Counts.{Count, atMost, isZero}
 use Rattle.inference.specs.Interface.{Disclosure, Entry, Permission, reading, writing, accessing, disclosing, flagged, permissions, holdsAny}
-use Rattle.inference.specs.Rows.{isSet, cell, countOf, pathAt, disclosuresAt, entryAt, rowEntries, tableEntries}
+use Rattle.inference.specs.Rows.{isSet, cell, countOf, extentAt, pathAt, disclosuresAt, entryAt, rowEntries, tableEntries}
 use Rattle.interface.proofs.InterfaceLaws.{set-count}
 use Rattle.interface.proofs.WriteLaws.{rising-next, rising-done}
 use Rattle.policy.specs.Syntax.{Tree}
@@ -67,16 +67,16 @@ module _ (policy : List Tree) (table : List ℕ) (n k : ℕ) where
   item : ℕ → Disclosure
   item g = record { group = g; count = countOf (cell table n k g) }
 
-  lists-one : every one (map (λ d. disclosing (d .group) (d .count)) (disclosuresAt table n k)) ≡ every group-one (rising 0 64)
+  lists-one : every one (map (λ d. disclosing (d .group) (d .count)) (disclosuresAt table n k)) ≡ every group-one (rising 0 (extentAt table n k))
   unfolding disclosuresAt group-one item
   lists-one =
-      every-map (λ d. disclosing (d .group) (d .count)) one (only (λ d. not (isZero (d .count))) (map item (rising 0 64)))
+      every-map (λ d. disclosing (d .group) (d .count)) one (only (λ d. not (isZero (d .count))) (map item (rising 0 (extentAt table n k))))
       ∙ every-only (λ d. not (isZero (d .count))) item (λ d. one (disclosing (d .group) (d .count))) group-one
-      (λ g. ap (λ (b : Bool). not b || one (disclosing g (countOf (cell table n k g)))) (sym (set-count (cell table n k g)))) (rising 0 64)
+      (λ g. ap (λ (b : Bool). not b || one (disclosing g (countOf (cell table n k g)))) (sym (set-count (cell table n k g)))) (rising 0 (extentAt table n k))
 
   covered-parts : covered policy (entryAt table n k)
       ≡ ((not (isSet (cell table n k 64)) || one reading) && ((not (isSet (cell table n k 65)) || one writing)
-      && ((not (isSet (cell table n k 66)) || one accessing) && every group-one (rising 0 64))))
+      && ((not (isSet (cell table n k 66)) || one accessing) && every group-one (rising 0 (extentAt table n k)))))
   unfolding covered permissions entryAt one
   covered-parts =
       every-append (grantsOne policy (entryAt table n k)) (flagged (isSet (cell table n k 64)) reading) _
@@ -97,16 +97,16 @@ module _ (policy : List Tree) (table : List ℕ) (n k : ℕ) where
         (groups-rows gs)
 
     covered-rows : covered policy (entryAt table n k)
-        ≡ (flagsCover c nodes rows table n k && countsCoverFrom 0 64 c nodes rows table n k)
+        ≡ (flagsCover c nodes rows table n k && countsCoverFrom 0 (extentAt table n k) c nodes rows table n k)
     unfolding flagsCover flagCovers flagGiven countsCoverFrom
     covered-rows =
         covered-parts
         ∙ ap₂ _&&_ (flag-one 64 reading 1 (unfold one in entry-reading c nodes policy k start end tree (pathAt table n) rows given (entryAt table n k) (unfold entryAt in refl) (unfold entryAt in refl)))
         (ap₂ _&&_ (flag-one 65 writing 2 (unfold one in entry-writing c nodes policy k start end tree (pathAt table n) rows given (entryAt table n k) (unfold entryAt in refl) (unfold entryAt in refl)))
         (ap₂ _&&_ (flag-one 66 accessing 4 (unfold one in entry-accessing c nodes policy k start end tree (pathAt table n) rows given (entryAt table n k) (unfold entryAt in refl) (unfold entryAt in refl)))
-        (groups-rows (rising 0 64))))
+        (groups-rows (rising 0 (extentAt table n k)))))
         ∙ four (flagCovers 1 c nodes rows (cell table n k 64)) (flagCovers 2 c nodes rows (cell table n k 65)) (flagCovers 4 c nodes rows (cell table n k 66))
-        (countsCoverFrom 0 64 c nodes rows table n k)
+        (countsCoverFrom 0 (extentAt table n k) c nodes rows table n k)
       where
         four : (x y z w : Bool) → (x && (y && (z && w))) ≡ ((x && (y && z)) && w)
         four true true true w = refl
@@ -124,7 +124,7 @@ module _ (policy : List Tree) (table : List ℕ) (n k : ℕ) where
         ap₂ (λ (a b : Bool). cond a (cond b 19 18) 17)
         (entry-reached c nodes policy k start end tree (pathAt table n) rows given (entryAt table n k) (unfold entryAt in refl) (unfold entryAt in refl))
         covered-rows
-        ∙ split (every (λ row. ltb row 64) rows) (flagsCover c nodes rows table n k) (countsCoverFrom 0 64 c nodes rows table n k)
+        ∙ split (every (λ row. ltb row 64) rows) (flagsCover c nodes rows table n k) (countsCoverFrom 0 (extentAt table n k) c nodes rows table n k)
       where
         split : (a b d : Bool) → _≡_ {A = ℕ} (cond a (cond (b && d) 19 18) 17) (cond a (cond b (cond d 19 18) 18) 17)
         split true true d = refl

@@ -9,7 +9,7 @@ use borrow.Author.Needs.{needs}
 use borrow.Author.Tests.{eq-eqb, ne-eqb, not-true, not-false}
 use Rattle.inference.specs.Lists.{every, any, rising}
 use Rattle.inference.specs.Counts.{fin, unlimited, atMost}
-use Rattle.inference.specs.Rows.{isSet, cell, countOf}
+use Rattle.inference.specs.Rows.{isSet, cell, countOf, extentAt}
 use Rattle.interface.proofs.WriteLaws.{rising-next, rising-done}
 use Rattle.policy.specs.Syntax.{hasBit}
 use Rattle.fit.specs.declared.Total.{Total}
@@ -89,35 +89,35 @@ module _ (nodes rows table : List ℕ) (n k : ℕ) where
   access-decides x y z a b d e h f e′ h′ f′ e″ h″ c = rw (is-flag 1 64 x a e h c, is-flag 2 65 y b e′ h′ c, is-flag 4 66 z d e″ h″ c, not-false a f, not-false b f′) refl
 
 -- The groups passed so far are covered, and those left decide.
-pub record GroupsSoFar (c nodes rows table : List ℕ) (n k group : ℕ) : Type 0 where
-  pub within : group ≤ 64
-  pub same : countsCoverFrom 0 64 c nodes rows table n k ≡ countsCoverFrom group (64 - group) c nodes rows table n k
+pub record GroupsSoFar (c nodes rows table : List ℕ) (n k m group : ℕ) : Type 0 where
+  pub within : group ≤ m
+  pub same : countsCoverFrom 0 m c nodes rows table n k ≡ countsCoverFrom group (m - group) c nodes rows table n k
 
-pub groups-start : (c nodes rows table : List ℕ) (n k : ℕ) → GroupsSoFar c nodes rows table n k 0
-groups-start c nodes rows table n k = record { within = omega arith; same = refl }
+pub groups-start : (c nodes rows table : List ℕ) (n k m : ℕ) → GroupsSoFar c nodes rows table n k m 0
+groups-start c nodes rows table n k m = record { within = omega arith; same = let z : m - 0 ≡ m = omega arith in rw z refl }
 
-module _ (c nodes rows table : List ℕ) (n k group : ℕ) (so : GroupsSoFar c nodes rows table n k group) where
-  turn : group < 64 → countsCoverFrom 0 64 c nodes rows table n k
-      ≡ (countCovers group c nodes rows (cell table n k group) && countsCoverFrom (group + 1) (64 - (group + 1)) c nodes rows table n k)
+module _ (c nodes rows table : List ℕ) (n k m group : ℕ) (so : GroupsSoFar c nodes rows table n k m group) where
+  turn : group < m → countsCoverFrom 0 m c nodes rows table n k
+      ≡ (countCovers group c nodes rows (cell table n k group) && countsCoverFrom (group + 1) (m - (group + 1)) c nodes rows table n k)
   unfolding countsCoverFrom every
-  turn here = so .same ∙ ap (λ (l : List ℕ). every (λ g. countCovers g c nodes rows (cell table n k g)) l) (rising-next group 64 here)
+  turn here = so .same ∙ ap (λ (l : List ℕ). every (λ g. countCovers g c nodes rows (cell table n k g)) l) (rising-next group m here)
 
-  pub group-fails : (x : ℕ) (b : Bool) → group < 64 → x ≡ cell table n k group → b ≡ countCovers group c nodes rows x → not b ≡ true
-      → false ≡ countsCoverFrom 0 64 c nodes rows table n k
-  group-fails x b here e f g = sym (turn here ∙ ap (λ (t : Bool). t && countsCoverFrom (group + 1) (64 - (group + 1)) c nodes rows table n k)
-      (ap (countCovers group c nodes rows) (sym e) ∙ sym f ∙ not-true b g))
+  pub group-fails : m ≡ extentAt table n k → (x : ℕ) (b : Bool) → group < m → x ≡ cell table n k group → b ≡ countCovers group c nodes rows x
+      → not b ≡ true → false ≡ countsCoverFrom 0 (extentAt table n k) c nodes rows table n k
+  group-fails is x b here e f g = rw (← is) (sym (turn here ∙ ap (λ (t : Bool). t && countsCoverFrom (group + 1) (m - (group + 1)) c nodes rows table n k)
+      (ap (countCovers group c nodes rows) (sym e) ∙ sym f ∙ not-true b g)))
 
-  pub group-passes : (x : ℕ) (b : Bool) → group < 64 → x ≡ cell table n k group → b ≡ countCovers group c nodes rows x → not b ≡ false
-      → GroupsSoFar c nodes rows table n k (group + 1)
+  pub group-passes : (x : ℕ) (b : Bool) → group < m → x ≡ cell table n k group → b ≡ countCovers group c nodes rows x → not b ≡ false
+      → GroupsSoFar c nodes rows table n k m (group + 1)
   group-passes x b here e f g = record {
     within = omega arith;
-    same = turn here ∙ ap (λ (t : Bool). t && countsCoverFrom (group + 1) (64 - (group + 1)) c nodes rows table n k)
+    same = turn here ∙ ap (λ (t : Bool). t && countsCoverFrom (group + 1) (m - (group + 1)) c nodes rows table n k)
         (ap (countCovers group c nodes rows) (sym e) ∙ sym f ∙ not-false b g);
   }
 
-  pub groups-end : 64 ≤ group → true ≡ countsCoverFrom 0 64 c nodes rows table n k
+  pub groups-end : m ≡ extentAt table n k → m ≤ group → true ≡ countsCoverFrom 0 (extentAt table n k) c nodes rows table n k
   unfolding countsCoverFrom every
-  groups-end done = sym (so .same ∙ ap (λ (l : List ℕ). every (λ g. countCovers g c nodes rows (cell table n k g)) l) (rising-done group 64 done))
+  groups-end is done = rw (← is) (sym (so .same ∙ ap (λ (l : List ℕ). every (λ g. countCovers g c nodes rows (cell table n k g)) l) (rising-done group m done)))
 
 -- Questions 17 and 18 of the rows.
 module _ (c nodes rows table : List ℕ) (n k : ℕ) where
@@ -131,12 +131,12 @@ module _ (c nodes rows table : List ℕ) (n k : ℕ) where
   flags-missing a b e f g h = rw (← e, not-false a f, ← g, not-true b h) refl
 
   pub counts-missing : (a b d : Bool) → a ≡ every (λ row. ltb row 64) rows → not a ≡ false → b ≡ flagsCover c nodes rows table n k → not b ≡ false
-      → d ≡ countsCoverFrom 0 64 c nodes rows table n k → d ≡ false → 18 ≡ rowsFault c nodes rows table n k
+      → d ≡ countsCoverFrom 0 (extentAt table n k) c nodes rows table n k → d ≡ false → 18 ≡ rowsFault c nodes rows table n k
   unfolding rowsFault allGiven
   counts-missing a b d e f g h i j = rw (← e, not-false a f, ← g, not-false b h, ← i, j) refl
 
   pub all-covered : (a b d : Bool) → a ≡ every (λ row. ltb row 64) rows → not a ≡ false → b ≡ flagsCover c nodes rows table n k → not b ≡ false
-      → d ≡ countsCoverFrom 0 64 c nodes rows table n k → d ≡ true → 19 ≡ rowsFault c nodes rows table n k
+      → d ≡ countsCoverFrom 0 (extentAt table n k) c nodes rows table n k → d ≡ true → 19 ≡ rowsFault c nodes rows table n k
   unfolding rowsFault allGiven
   all-covered a b d e f g h i j = rw (← e, not-false a f, ← g, not-false b h, ← i, j) refl
 
@@ -172,6 +172,6 @@ module _ (c nodes rows path path′ table : List ℕ) (n k start len : ℕ) (is 
   flag-missing a b e f g h = flags-missing c nodes rows table n k a b e f (g c) h ∙ ap (λ (r : List ℕ). rowsFault c nodes r table n k) found-here
 
   pub count-decides : (a b d : Bool) (v : ℕ) → a ≡ every (λ row. ltb row 64) rows → not a ≡ false → ((e : List ℕ) → b ≡ flagsCover e nodes rows table n k) → not b ≡ false
-      → d ≡ countsCoverFrom 0 64 c nodes rows table n k → v ≡ cond d 19 18 → v ≡ rowsFault c nodes (giversIn c nodes path′ start len) table n k
+      → d ≡ countsCoverFrom 0 (extentAt table n k) c nodes rows table n k → v ≡ cond d 19 18 → v ≡ rowsFault c nodes (giversIn c nodes path′ start len) table n k
   count-decides a b true v e f g h i j = j ∙ all-covered c nodes rows table n k a b true e f (g c) h i refl ∙ ap (λ (r : List ℕ). rowsFault c nodes r table n k) found-here
   count-decides a b false v e f g h i j = j ∙ counts-missing c nodes rows table n k a b false e f (g c) h i refl ∙ ap (λ (r : List ℕ). rowsFault c nodes r table n k) found-here

@@ -5,7 +5,7 @@ use mathlib.Core.Bool.{Bool, cond, not, _&&_, _||_}
 use lib.Dec.{ltb}
 use Rattle.inference.specs.Lists.{every, any, rising}
 use Rattle.inference.specs.Counts.{atMost}
-use Rattle.inference.specs.Rows.{isSet, cell, countOf}
+use Rattle.inference.specs.Rows.{isSet, cell, countOf, extentAt}
 use Rattle.policy.specs.Syntax.{hasBit}
 use Rattle.fit.specs.Givers.{givenAt, joinedAt}
 
@@ -40,4 +40,4 @@ unfoldable pub rowsFault : List ℕ → List ℕ → List ℕ → List ℕ → �
 rowsFault c nodes rows table component kind =
     cond (allGiven rows)
     (cond (flagsCover c nodes rows table component kind)
-    (cond (countsCoverFrom 0 64 c nodes rows table component kind) 19 18) 18) 17
+    (cond (countsCoverFrom 0 (extentAt table component kind) c nodes rows table component kind) 19 18) 18) 17

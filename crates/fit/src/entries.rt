@@ -3,7 +3,7 @@ ghost use mathlib.Core.Path.{_≡_};
 ghost use mathlib.Core.List.{List};
 ghost use Prim.Native.Nat.{ℕ, _<_, _≤_, _-_, min};
 ghost use Rattle.inference.specs.Counts.{atMost};
-ghost use Rattle.inference.specs.Rows.{countOf, pathAt, entryAt, rowEntries, tableEntries};
+ghost use Rattle.inference.specs.Rows.{countOf, extentAt, pathAt, entryAt, rowEntries, tableEntries};
 ghost use Rattle.policy.specs.Syntax.{Tree};
 ghost use Rattle.policy.specs.Loads.{Bounded, AllHeld};
 ghost use Rattle.fit.specs.Givers.{givenRows, totalOf, giversIn};
@@ -18,6 +18,7 @@ use crate::grants::givers;
 use crate::grants::tree_for;
 use inference::rows::path_of;
 use interface::count_at;
+use interface::extent_at;
 use interface::map_at;
 use policy::Span;
 use policy::Trees;
@@ -85,10 +86,12 @@ fn counts_covered(
     givers: Givers,
 ) -> bool
     requires { ⌜ (component < 32) × (kind < 16) ⌝ }
-    ensures { λ r. ⌜ r ≡ countsCoverFrom 0 64 (now (c .entry)) (now (nodes .entry)) (givenRows givers) (now (table .entry)) component kind ⌝ }
+    ensures { λ r. ⌜ r ≡ countsCoverFrom 0 (extentAt (now (table .entry)) component kind) (now (c .entry)) (now (nodes .entry)) (givenRows givers)
+        (now (table .entry)) component kind ⌝ }
 {
+    let extent = extent_at(table, component, kind);
     let mut group: usize = 0;
-    while group < 64 {
+    while group < extent {
         if !count_covered(
             count_at(table, component, kind, group),
             c,

@@ -1,6 +1,6 @@
 -- The tables in lent memory: the types of the names in scope, and the rows of what components need. Each lemma is one return of
 -- a function of scope or rows.
-use Prim.Native.Nat.{ℕ, zero, suc, _+_, _-_, _*_, _≤_, _<_, min}
+use Prim.Native.Nat.{ℕ, zero, suc, _+_, _-_, _*_, _%_, _≤_, _<_, min}
 use mathlib.Core.Bool.{Bool, true, false}
 use mathlib.Core.List.{List, [], _∷_}
 use mathlib.Core.Option.{some, none}
@@ -12,7 +12,7 @@ use lib.Seq.{set-out, getD-take}
 use Rattle.reading.proofs.Tests.{tests}
 use Rattle.reading.specs.Told.{pathOf}
 use Rattle.reading.specs.declared.Path.{Path}
-use Rattle.inference.specs.Rows.{bumped, chargeAt, cellOf, chargeCell, charge}
+use Rattle.inference.specs.Rows.{bumped, chargeAt, cellOf, chargeCell, widenedAt, widened, charge}
 use Rattle.inference.specs.declared.Need.{Need}
 use Rattle.inference.specs.declared.Need.the-variants as need-case
 
@@ -65,7 +65,7 @@ unfolding chargeAt
 charge-out l i b h = sym (set-out l i (bumped (getD l i 0) b) h)
 
 module _ (l : List ℕ) (c k j : ℕ) (b : Bool) where
-  pub charge-in-row : {y : List ℕ} → k < 16 → j < 67 → y ≡ chargeAt l (c * 1081 + (9 + (k * 67 + j))) b → y ≡ chargeCell l c k j b
+  pub charge-in-row : {y : List ℕ} → k < 16 → j < 67 → y ≡ chargeAt l (c * 1097 + (9 + (k * 68 + j))) b → y ≡ chargeCell l c k j b
   unfolding chargeCell cellOf
   charge-in-row h i e = rw (lt-ltb k 16 h, lt-ltb j 67 i) e
 
@@ -76,6 +76,33 @@ module _ (l : List ℕ) (c k j : ℕ) (b : Bool) where
   pub no-such-column : k < 16 → 67 ≤ j → l ≡ chargeCell l c k j b
   unfolding chargeCell
   no-such-column h i = rw (lt-ltb k 16 h, le-ltb j 67 i)
+
+-- The extent of a kind's groups.
+module _ (l : List ℕ) (i e v : ℕ) (is : v ≡ getD l i 0) where
+  pub widen-cell : {y : List ℕ} → v < e → y ≡ set l i (e % 65536) → y ≡ widenedAt l i e
+  unfolding widenedAt
+  widen-cell h f = rw (← is, lt-ltb v e h) f
+
+  pub wide-enough : e ≤ v → l ≡ widenedAt l i e
+  unfolding widenedAt
+  wide-enough h = rw (← is, le-ltb v e h)
+
+module _ (l : List ℕ) (c k g : ℕ) where
+  pub widen-in-row : {y : List ℕ} → k < 16 → g < 64 → y ≡ widenedAt l (c * 1097 + (9 + (k * 68 + 67))) (g + 1) → y ≡ widened l c k g
+  unfolding widened cellOf
+  widen-in-row h i e = rw (lt-ltb k 16 h, lt-ltb g 64 i) e
+
+  pub no-kind-to-widen : 16 ≤ k → l ≡ widened l c k g
+  unfolding widened
+  no-kind-to-widen h = rw (le-ltb k 16 h)
+
+  pub no-group-to-widen : k < 16 → 64 ≤ g → l ≡ widened l c k g
+  unfolding widened
+  no-group-to-widen h i = rw (lt-ltb k 16 h, le-ltb g 64 i)
+
+  pub disclosure-charged : (l′ : List ℕ) (b : Bool) {y : List ℕ} → l′ ≡ widened l c k g → y ≡ chargeCell l′ c k g b
+      → y ≡ chargeCell (widened l c k g) c k g b
+  disclosure-charged l′ b e f = rw (← e) f
 
 module _ (l : List ℕ) (c : ℕ) (n : Need) (b : Bool) where
   pub charge-nothing : n ≡ need-case.Nothing → l ≡ charge l c n b
@@ -94,7 +121,7 @@ module _ (l : List ℕ) (c : ℕ) (n : Need) (b : Bool) where
   unfolding charge
   charge-access k e h = rw e h
 
-  pub charge-disclose : {y : List ℕ} (k g : ℕ) → n ≡ need-case.Disclose k g → y ≡ chargeCell l c k g b → y ≡ charge l c n b
+  pub charge-disclose : {y : List ℕ} (k g : ℕ) → n ≡ need-case.Disclose k g → y ≡ chargeCell (widened l c k g) c k g b → y ≡ charge l c n b
   unfolding charge
   charge-disclose k g e h = rw e h
 
@@ -124,6 +151,12 @@ pub ruleset row-steps = (
   charge-in-row,
   no-such-kind,
   no-such-column,
+  widen-cell,
+  wide-enough,
+  widen-in-row,
+  no-kind-to-widen,
+  no-group-to-widen,
+  disclosure-charged,
   charge-nothing,
   charge-read,
   charge-write,

@@ -1,6 +1,6 @@
 -- The table of what components need: rows of 1,081 cells (src/rows.rt). Its cells are the counts that acts need together
 -- (`charged-count` of the crate interface's proofs/CellLaws.antt).
-use Prim.Native.Nat.{ℕ, zero, suc, _+_, _*_, _%_}
+use Prim.Native.Nat.{ℕ, zero, suc, _+_, _*_, _%_, min}
 use mathlib.Core.List.{List, [], _∷_, map}
 use mathlib.Core.Bool.{Bool, true, false, cond, not, _&&_}
 use lib.ListN.{length, getD, set, take, drop}
@@ -20,11 +20,20 @@ unfoldable pub chargeAt : List ℕ → ℕ → Bool → List ℕ
 chargeAt table at repeated = set table at (bumped (getD table at 0) repeated)
 
 unfoldable pub cellOf : ℕ → ℕ → ℕ → ℕ
-cellOf component kind column = component * 1081 + (9 + (kind * 67 + column))
+cellOf component kind column = component * 1097 + (9 + (kind * 68 + column))
 
 unfoldable pub chargeCell : List ℕ → ℕ → ℕ → ℕ → Bool → List ℕ
 chargeCell table component kind column repeated =
     cond (ltb kind 16 && ltb column 67) (chargeAt table (cellOf component kind column) repeated) table
+
+-- at least so much in a cell
+unfoldable pub widenedAt : List ℕ → ℕ → ℕ → List ℕ
+widenedAt table at extent = cond (ltb (getD table at 0) extent) (set table at (extent % 65536)) table
+
+-- the extent of a component and a kind reaches past a group
+unfoldable pub widened : List ℕ → ℕ → ℕ → ℕ → List ℕ
+widened table component kind group =
+    cond (ltb kind 16 && ltb group 64) (widenedAt table (cellOf component kind 67) (group + 1)) table
 
 -- what an act needs, counted in its component's row
 unfoldable pub charge : List ℕ → ℕ → Need → Bool → List ℕ
@@ -32,7 +41,7 @@ charge table component Nothing repeated = table
 charge table component (Read kind) repeated = chargeCell table component kind 64 repeated
 charge table component (Write kind) repeated = chargeCell table component kind 65 repeated
 charge table component (Access kind) repeated = chargeCell table component kind 66 repeated
-charge table component (Disclose kind group) repeated = chargeCell table component kind group repeated
+charge table component (Disclose kind group) repeated = chargeCell (widened table component kind group) component kind group repeated
 
 -- numbers stored one after another
 unfoldable pub stored : List ℕ → ℕ → List ℕ → List ℕ
@@ -41,10 +50,10 @@ stored table at (x ∷ xs) = stored (set table at (x % 65536)) (at + 1) xs
 
 -- a path in its component's row: its length, then its groups
 unfoldable pub withPath : List ℕ → ℕ → List ℕ → List ℕ
-withPath table component path = stored table (component * 1081) (length path ∷ path)
+withPath table component path = stored table (component * 1097) (length path ∷ path)
 
 unfoldable pub pathAt : List ℕ → ℕ → List ℕ
-pathAt table component = take (getD table (component * 1081) 0) (take 8 (drop (component * 1081 + 1) table))
+pathAt table component = take (getD table (component * 1097) 0) (take 8 (drop (component * 1097 + 1) table))
 
 unfoldable pub cell : List ℕ → ℕ → ℕ → ℕ → ℕ
 cell table component kind column = getD table (cellOf component kind column) 0
@@ -56,9 +65,14 @@ countOf n = cond (eqb n 65535) unlimited (fin n)
 unfoldable pub isSet : ℕ → Bool
 isSet n = not (eqb n 0)
 
+-- the groups that a component may disclose data of a kind to are below its extent
+unfoldable pub extentAt : List ℕ → ℕ → ℕ → ℕ
+extentAt table component kind = min (cell table component kind 67) 64
+
 unfoldable pub disclosuresAt : List ℕ → ℕ → ℕ → List Disclosure
 disclosuresAt table component kind =
-    only (λ d. not (isZero (d .count))) (map (λ g. record { group = g; count = countOf (cell table component kind g) }) (rising 0 64))
+    only (λ d. not (isZero (d .count)))
+    (map (λ g. record { group = g; count = countOf (cell table component kind g) }) (rising 0 (extentAt table component kind)))
 
 -- the entry of a component and a kind that a table holds
 unfoldable pub entryAt : List ℕ → ℕ → ℕ → Entry

@@ -1,11 +1,20 @@
-// The table of what components need, in lent memory: a row of 1,081 cells for each component. Cell 0 is the length of its
+// The table of what components need, in lent memory: a row of 1,097 cells for each component. Cell 0 is the length of its
 // path, cells 1 to 8 its path, and from cell 9 on for each kind 67 counts: of disclosures into groups 0 to 63, of reads, of
-// writes and of accesses. 65,535 is unlimited.
+// writes and of accesses; then its extent, one more than the highest group disclosed to. 65,535 is unlimited.
 ghost use mathlib.Core.Path.{_≡_};
 ghost use Prim.Native.Nat.{_+_, _-_, _%_, _<_, min};
 ghost use Rattle.reading.specs.Told.{pathOf};
 ghost use lib.ListN.{length, getD, set};
-ghost use Rattle.inference.specs.Rows.{bumped, charge, chargeAt, chargeCell, pathAt, withPath};
+ghost use Rattle.inference.specs.Rows.{
+  bumped,
+  charge,
+  chargeAt,
+  chargeCell,
+  pathAt,
+  widened,
+  widenedAt,
+  withPath,
+};
 use crate::Need;
 use reading::Path;
 
@@ -37,11 +46,41 @@ fn charge_cell(table: &mut [u16], component: usize, kind: usize, column: usize, 
         if column < 67 {
             charge_at(
                 table,
-                component * 1081 + (9 + (kind * 67 + column)),
+                component * 1097 + (9 + (kind * 68 + column)),
                 repeated,
             );
         }
     }
+}
+
+// Makes a cell hold at least so much.
+fn widen_at(table: &mut [u16], at: usize, extent: usize)
+    ensures { λ r. ⌜ now (table .exit) ≡ widenedAt (now (table .entry)) at extent ⌝ }
+{
+    if cell_at(table, at) < extent {
+        put(table, at, extent);
+    }
+}
+
+// Makes the extent of a component and a kind reach past a group.
+fn widen(table: &mut [u16], component: usize, kind: usize, group: usize)
+    requires { ⌜ component < 32 ⌝ }
+    ensures { λ r. ⌜ now (table .exit) ≡ widened (now (table .entry)) component kind group ⌝ }
+{
+    if kind < 16 {
+        if group < 64 {
+            widen_at(table, component * 1097 + (9 + (kind * 68 + 67)), group + 1);
+        }
+    }
+}
+
+// Counts a disclosure into a group.
+fn charge_disclosure(table: &mut [u16], component: usize, kind: usize, group: usize, repeated: bool)
+    requires { ⌜ component < 32 ⌝ }
+    ensures { λ r. ⌜ now (table .exit) ≡ chargeCell (widened (now (table .entry)) component kind group) component kind group repeated ⌝ }
+{
+    widen(table, component, kind, group);
+    charge_cell(table, component, kind, group, repeated);
 }
 
 // Counts what an act needs in its component's row.
@@ -54,7 +93,9 @@ pub fn charge_need(table: &mut [u16], component: usize, need: Need, repeated: bo
         Need::Read(kind) => charge_cell(table, component, kind, 64, repeated),
         Need::Write(kind) => charge_cell(table, component, kind, 65, repeated),
         Need::Access(kind) => charge_cell(table, component, kind, 66, repeated),
-        Need::Disclose { kind, group } => charge_cell(table, component, kind, group, repeated),
+        Need::Disclose { kind, group } => {
+            charge_disclosure(table, component, kind, group, repeated)
+        }
     }
 }
 
@@ -71,7 +112,7 @@ pub fn store_path(table: &mut [u16], component: usize, path: Path)
     ensures { λ r. ⌜ now (table .exit) ≡ withPath (now (table .entry)) component (pathOf path) ⌝ }
 {
     let len = path_len(path);
-    let row = component * 1081;
+    let row = component * 1097;
     put(table, row, len);
     let groups = path.groups;
     let mut i: usize = 0;
@@ -119,7 +160,7 @@ pub fn path_of(table: &[u16], component: usize) -> Path
     requires { ⌜ component < 32 ⌝ }
     ensures { λ r. ⌜ pathOf r ≡ pathAt (now (table .entry)) component ⌝ }
 {
-    let row = component * 1081;
+    let row = component * 1097;
     let len = stored_len(table, row);
     let mut groups = [0usize; 8];
     let mut i: usize = 0;

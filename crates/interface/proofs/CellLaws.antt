@@ -1,6 +1,6 @@
 -- The table's cells: which cell a charge changes, and that acts charged one after another leave in each cell of their
 -- component's row the count that they need together.
-use Prim.Native.Nat.{ℕ, zero, suc, _+_, _*_, _<_, _≤_}
+use Prim.Native.Nat.{ℕ, zero, suc, _+_, _*_, _%_, _<_, _≤_}
 use mathlib.Core.Path.{_≡_, refl, sym, ap, _∙_}
 use mathlib.Core.List.{List, [], _∷_, _++_}
 use mathlib.Core.Bool.{Bool, true, false, cond, _&&_}
@@ -16,7 +16,7 @@ use Rattle.inference.specs.declared.Need.the-variants.{Nothing, Read, Write, Ac
 use Rattle.inference.specs.Counts.{Count, fin, unlimited, _⊕_, repeatedly, countNumber}
 use Rattle.inference.specs.Acts.{Act}
 use Rattle.inference.specs.Needs.{needOf, weigh, total}
-use Rattle.inference.specs.Rows.{bumped, chargeAt, cellOf, chargeCell, charge}
+use Rattle.inference.specs.Rows.{bumped, chargeAt, cellOf, chargeCell, widenedAt, widened, charge}
 use Rattle.inference.specs.Walks.{charged}
 use Rattle.inference.proofs.CountLaws.{join-assoc, join-nothing}
 
@@ -36,11 +36,11 @@ unfoldable pub raised : ℕ → ℕ → Bool → ℕ
 raised v zero repeated = v
 raised v (suc n) repeated = bumped v repeated
 
-pub cell-inj-component : (n m k j c d : ℕ) → k < 16 → j < 16 → c < 67 → d < 67 → cellOf n k c ≡ cellOf m j d → n ≡ m
+pub cell-inj-component : (n m k j c d : ℕ) → k < 16 → j < 16 → c < 68 → d < 68 → cellOf n k c ≡ cellOf m j d → n ≡ m
 unfolding cellOf
 cell-inj-component n m k j c d p q r s e = omega arith
 
-pub cell-inj-kind : (n k j c d : ℕ) → c < 67 → d < 67 → cellOf n k c ≡ cellOf n j d → k ≡ j
+pub cell-inj-kind : (n k j c d : ℕ) → c < 68 → d < 68 → cellOf n k c ≡ cellOf n j d → k ≡ j
 unfolding cellOf
 cell-inj-kind n k j c d r s e = omega arith
 
@@ -48,7 +48,7 @@ pub cell-inj-column : (n k c d : ℕ) → cellOf n k c ≡ cellOf n k d → c �
 unfolding cellOf
 cell-inj-column n k c d e = omega arith
 
-pub cell-below : (n k c : ℕ) → n < 32 → k < 16 → c < 67 → cellOf n k c < 34592
+pub cell-below : (n k c : ℕ) → n < 32 → k < 16 → c < 68 → cellOf n k c < 35104
 unfolding cellOf
 cell-below n k c p q r = omega arith
 
@@ -56,7 +56,7 @@ lands-here : (kind column k c : ℕ) → kind ≡ k → column ≡ c → landsIn
 unfolding landsIn
 lands-here kind column k c p q = rw (eq-eqb kind k p, eq-eqb column c q) refl
 
-lands-off-kind : (kind column k c : ℕ) → (kind ≡ k → ⊥) → landsIn kind column k c ≡ 0
+pub lands-off-kind : (kind column k c : ℕ) → (kind ≡ k → ⊥) → landsIn kind column k c ≡ 0
 unfolding landsIn
 lands-off-kind kind column k c p = rw (ne-eqb kind k p) refl
 
@@ -68,7 +68,35 @@ lands-off-column kind column k c p = rw (ne-eqb column c p) (go (eqb kind k))
     go true = refl
     go false = refl
 
-module _ (table : List ℕ) (n : ℕ) (small : n < 32) (long : length table ≡ 34592) (repeated : Bool) where
+-- Widening an extent changes no other cell, nor the table's length.
+pub widen-other : (table : List ℕ) (n kind group i : ℕ) → (kind < 16 → i ≡ cellOf n kind 67 → ⊥) → getD (widened table n kind group) i 0 ≡ getD table i 0
+unfolding widened widenedAt
+widen-other table n kind group i off = go (ltb kind 16) (ltb group 64) (ltb (getD table (cellOf n kind 67) 0) (group + 1)) refl
+  where
+    go : (a b d : Bool) → ltb kind 16 ≡ a
+        → getD (cond (a && b) (cond d (set table (cellOf n kind 67) ((group + 1) % 65536)) table) table) i 0 ≡ getD table i 0
+    go true true true e = getD-set-other table (cellOf n kind 67) i ((group + 1) % 65536) 0 (off (ltb-true kind 16 e))
+    go true true false e = refl
+    go true false d e = refl
+    go false b d e = refl
+
+length-widened : (table : List ℕ) (n kind group : ℕ) → length (widened table n kind group) ≡ length table
+unfolding widened widenedAt
+length-widened table n kind group = go (ltb kind 16 && ltb group 64) (ltb (getD table (cellOf n kind 67) 0) (group + 1))
+  where
+    go : (a d : Bool) → length (cond a (cond d (set table (cellOf n kind 67) ((group + 1) % 65536)) table) table) ≡ length table
+    go true true = length-set table (cellOf n kind 67) ((group + 1) % 65536)
+    go true false = refl
+    go false d = refl
+
+widen-count : (table : List ℕ) (n kind group k c : ℕ) → c < 67 → getD (widened table n kind group) (cellOf n k c) 0 ≡ getD table (cellOf n k c) 0
+widen-count table n kind group k c q =
+    widen-other table n kind group (cellOf n k c) (λ p e. not-extent (cell-inj-kind n k kind c 67 (omega arith) (omega arith) e) e)
+  where
+    not-extent : k ≡ kind → cellOf n k c ≡ cellOf n kind 67 → ⊥
+    not-extent f e = omega (arith, cell-inj-column n k c 67 (e ∙ ap (λ (x : ℕ). cellOf n x 67) (sym f)))
+
+module _ (table : List ℕ) (n : ℕ) (small : n < 32) (long : length table ≡ 35104) (repeated : Bool) where
   charge-in : (kind column k c : ℕ) → k < 16 → c < 67 → kind < 16 → column < 67
       → getD (chargeAt table (cellOf n kind column) repeated) (cellOf n k c) 0
       ≡ raised (getD table (cellOf n k c) 0) (landsIn kind column k c) repeated
@@ -80,7 +108,7 @@ module _ (table : List ℕ) (n : ℕ) (small : n < 32) (long : length table ≡ 
           ≡ raised (getD table (cellOf n k c) 0) (landsIn kind column k c) repeated
       go (yes e) (yes f) =
           rw (lands-here kind column k c e f, e, f)
-          (getD-set-same table (cellOf n k c) (bumped (getD table (cellOf n k c) 0) repeated) 0 (rw long (cell-below n k c small p q)))
+          (getD-set-same table (cellOf n k c) (bumped (getD table (cellOf n k c) 0) repeated) 0 (rw long (cell-below n k c small p (omega arith))))
       go (yes e) (no f) =
           rw (lands-off-column kind column k c f)
           (getD-set-other table (cellOf n kind column) (cellOf n k c) (bumped (getD table (cellOf n kind column) 0) repeated) 0
@@ -88,7 +116,7 @@ module _ (table : List ℕ) (n : ℕ) (small : n < 32) (long : length table ≡ 
       go (no e) f =
           rw (lands-off-kind kind column k c e)
           (getD-set-other table (cellOf n kind column) (cellOf n k c) (bumped (getD table (cellOf n kind column) 0) repeated) 0
-          (λ h. e (sym (cell-inj-kind n k kind c column q s h))))
+          (λ h. e (sym (cell-inj-kind n k kind c column (omega arith) (omega arith) h))))
 
   charge-cell : (kind column k c : ℕ) → k < 16 → c < 67
       → getD (chargeCell table n kind column repeated) (cellOf n k c) 0
@@ -103,25 +131,28 @@ module _ (table : List ℕ) (n : ℕ) (small : n < 32) (long : length table ≡ 
       go true false e f = rw (lands-off-column kind column k c (λ h. absurd (omega (arith, ltb-false column 67 f)))) refl
       go false b e f = rw (lands-off-kind kind column k c (λ h. absurd (omega (arith, ltb-false kind 16 e)))) refl
 
+module _ (table : List ℕ) (n : ℕ) (small : n < 32) (long : length table ≡ 35104) (repeated : Bool) where
   -- a charge raises the cell of the component's row in which it lands
   pub charge-lands : (need : Need) (k c : ℕ) → k < 16 → c < 67
       → getD (charge table n need repeated) (cellOf n k c) 0 ≡ raised (getD table (cellOf n k c) 0) (lands k c need) repeated
   unfolding charge lands raised
   charge-lands Nothing k c p q = refl
-  charge-lands (Read t) k c p q = charge-cell t 64 k c p q
-  charge-lands (Write t) k c p q = charge-cell t 65 k c p q
-  charge-lands (Access t) k c p q = charge-cell t 66 k c p q
-  charge-lands (Disclose t g) k c p q = charge-cell t g k c p q
+  charge-lands (Read t) k c p q = charge-cell table n small long repeated t 64 k c p q
+  charge-lands (Write t) k c p q = charge-cell table n small long repeated t 65 k c p q
+  charge-lands (Access t) k c p q = charge-cell table n small long repeated t 66 k c p q
+  charge-lands (Disclose t g) k c p q =
+      charge-cell (widened table n t g) n small (length-widened table n t g ∙ long) repeated t g k c p q
+      ∙ ap (λ (v : ℕ). raised v (landsIn t g k c) repeated) (widen-count table n t g k c q)
 
 -- outside the cells of a component's row from the tenth on
 unfoldable pub Outside : ℕ → ℕ → Type 0
-Outside n i = (i < n * 1081 + 9) ⊎ (n * 1081 + 1081 ≤ i)
+Outside n i = (i < n * 1097 + 9) ⊎ (n * 1097 + 1097 ≤ i)
 
-outside-cell : (n kind column i : ℕ) → kind < 16 → column < 67 → Outside n i → i ≡ cellOf n kind column → ⊥
+outside-cell : (n kind column i : ℕ) → kind < 16 → column < 68 → Outside n i → i ≡ cellOf n kind column → ⊥
 unfolding Outside cellOf
 outside-cell n kind column i p q o e = ⊎-elim (λ h. omega arith) (λ h. omega arith) o
 
-module _ (table : List ℕ) (n : ℕ) (repeated : Bool) (i : ℕ) (out : Outside n i) where
+module _ (n : ℕ) (repeated : Bool) (i : ℕ) (out : Outside n i) (table : List ℕ) where
   charge-cell-kept : (kind column : ℕ) → getD (chargeCell table n kind column repeated) i 0 ≡ getD table i 0
   unfolding chargeCell chargeAt
   charge-cell-kept kind column = go (ltb kind 16) (ltb column 67) refl refl
@@ -131,19 +162,22 @@ module _ (table : List ℕ) (n : ℕ) (repeated : Bool) (i : ℕ) (out : Outside
           ≡ getD table i 0
       go true true e f =
           getD-set-other table (cellOf n kind column) i (bumped (getD table (cellOf n kind column) 0) repeated) 0
-          (outside-cell n kind column i (ltb-true kind 16 e) (ltb-true column 67 f) out)
+          (outside-cell n kind column i (ltb-true kind 16 e) (omega (arith, ltb-true column 67 f)) out)
       go true false e f = refl
       go false b e f = refl
 
+module _ (n : ℕ) (repeated : Bool) (i : ℕ) (out : Outside n i) (table : List ℕ) where
   pub charge-kept : (need : Need) → getD (charge table n need repeated) i 0 ≡ getD table i 0
   unfolding charge
   charge-kept Nothing = refl
-  charge-kept (Read t) = charge-cell-kept t 64
-  charge-kept (Write t) = charge-cell-kept t 65
-  charge-kept (Access t) = charge-cell-kept t 66
-  charge-kept (Disclose t g) = charge-cell-kept t g
+  charge-kept (Read t) = charge-cell-kept n repeated i out table t 64
+  charge-kept (Write t) = charge-cell-kept n repeated i out table t 65
+  charge-kept (Access t) = charge-cell-kept n repeated i out table t 66
+  charge-kept (Disclose t g) =
+      charge-cell-kept n repeated i out (widened table n t g) t g
+      ∙ widen-other table n t g i (λ p. outside-cell n t 67 i p (omega arith) out)
 
-length-charge-cell : (table : List ℕ) (n kind column : ℕ) (repeated : Bool) → length (chargeCell table n kind column repeated) ≡ length table
+pub length-charge-cell : (table : List ℕ) (n kind column : ℕ) (repeated : Bool) → length (chargeCell table n kind column repeated) ≡ length table
 unfolding chargeCell chargeAt
 length-charge-cell table n kind column repeated = go (ltb kind 16 && ltb column 67)
   where
@@ -157,7 +191,8 @@ length-charge table n Nothing repeated = refl
 length-charge table n (Read t) repeated = length-charge-cell table n t 64 repeated
 length-charge table n (Write t) repeated = length-charge-cell table n t 65 repeated
 length-charge table n (Access t) repeated = length-charge-cell table n t 66 repeated
-length-charge table n (Disclose t g) repeated = length-charge-cell table n t g repeated
+length-charge table n (Disclose t g) repeated =
+    length-charge-cell (widened table n t g) n t g repeated ∙ length-widened table n t g
 
 -- All acts are of one component.
 pub data AllOf (n : ℕ) : List Act → Type 0 where
@@ -178,7 +213,7 @@ charged-kept n i out table of-none = refl
 charged-kept n i out table (of-more {a = a} {rest = rest} e more) =
     charged-kept n i out (charge table (a .component .number) (needOf a) (a .repeated)) more
     ∙ ap (λ (m : ℕ). getD (charge table m (needOf a) (a .repeated)) i 0) e
-    ∙ charge-kept table n (a .repeated) i out (needOf a)
+    ∙ charge-kept n (a .repeated) i out table (needOf a)
 
 -- a count with a few more to come is no 65,535
 unfoldable pub Few : Count → ℕ → Type 0
@@ -238,7 +273,7 @@ few-weigh unlimited more (suc w) true few h = tt
 few-weigh unlimited more w false few h = tt
 
 -- Acts of one component leave in each cell of its row what stood there joined with what they need.
-pub charged-count : (n : ℕ) → n < 32 → (k c : ℕ) → k < 16 → c < 67 → (table : List ℕ) → length table ≡ 34592 → (x : Count)
+pub charged-count : (n : ℕ) → n < 32 → (k c : ℕ) → k < 16 → c < 67 → (table : List ℕ) → length table ≡ 35104 → (x : Count)
     → getD table (cellOf n k c) 0 ≡ countNumber x → {acts : List Act} → AllOf n acts → Few x (length acts)
     → getD (charged table acts) (cellOf n k c) 0 ≡ countNumber (x ⊕ total (λ a. lands k c (needOf a)) acts)
 unfolding charged total

@@ -1,5 +1,5 @@
 -- The definitions of an interface's entries and bytes as parts that a loop takes one by one, and how long they are.
-use Prim.Native.Nat.{ℕ, zero, suc, _+_, _-_, _*_, _≤_}
+use Prim.Native.Nat.{ℕ, zero, suc, _+_, _-_, _*_, _≤_, min}
 use mathlib.Core.Bool.{Bool, true, false, cond, not, _||_}
 use mathlib.Core.List.{List, [], _∷_, _++_, map, append-assoc}
 use mathlib.Core.Path.{_≡_, refl, sym, ap, _∙_}
@@ -12,7 +12,7 @@ use lib.Seq.{drop-cons}
 use Rattle.inference.specs.Lists.{only, gather, rising}
 use Rattle.inference.specs.Counts.{fin, unlimited, isZero, countNumber}
 use Rattle.inference.specs.Interface.{Disclosure, Entry, isEmpty, holdsAny, bit, mapOf, disclosureBytes, listBytes, entryBytes, interfaceBytes}
-use Rattle.inference.specs.Rows.{pathAt, cell, countOf, isSet, disclosuresAt, entryAt, rowEntries, tableEntries}
+use Rattle.inference.specs.Rows.{pathAt, cell, countOf, isSet, extentAt, disclosuresAt, entryAt, rowEntries, tableEntries}
 use Rattle.interface.specs.Writes.{groupBytes, entryBytesAt}
 use Rattle.interface.proofs.WriteLaws.{partsFrom}
 
@@ -110,22 +110,26 @@ module _ (table : List ℕ) (component kind : ℕ) where
   group-few g = cond-few (isSet (cell table component kind g)) _ 3 (omega arith)
 
   disclosed-parts : {B : Type 0} (h : Disclosure → List B) → gather h (disclosuresAt table component kind)
-      ≡ partsFrom (λ g. cond (isSet (cell table component kind g)) (h (record { group = g; count = countOf (cell table component kind g) })) []) 64 0
+      ≡ partsFrom (λ g. cond (isSet (cell table component kind g)) (h (record { group = g; count = countOf (cell table component kind g) })) [])
+      (extentAt table component kind) 0
   unfolding disclosuresAt partsFrom
   disclosed-parts h =
-      simp set-count at
-      (gather-only h (λ d. not (isZero (d .count))) (λ g. record { group = g; count = countOf (cell table component kind g) }) (rising 0 64))
+      let z : extentAt table component kind - 0 ≡ extentAt table component kind = omega arith in
+      rw z (simp set-count at
+      (gather-only h (λ d. not (isZero (d .count))) (λ g. record { group = g; count = countOf (cell table component kind g) })
+      (rising 0 (extentAt table component kind))))
 
-  pub disclosures-are : disclosuresAt table component kind ≡ partsFrom disclosedTo 64 0
+  pub disclosures-are : disclosuresAt table component kind ≡ partsFrom disclosedTo (extentAt table component kind) 0
   unfolding disclosedTo
   disclosures-are = sym (gather-one (disclosuresAt table component kind)) ∙ disclosed-parts (λ d. d ∷ [])
 
-  pub group-bytes-are : gather disclosureBytes (disclosuresAt table component kind) ≡ partsFrom groupBytesAt 64 0
+  pub group-bytes-are : gather disclosureBytes (disclosuresAt table component kind) ≡ partsFrom groupBytesAt (extentAt table component kind) 0
   unfolding groupBytesAt groupBytes
   group-bytes-are = disclosed-parts disclosureBytes
 
   pub disclosures-few : length (disclosuresAt table component kind) ≤ 64
-  disclosures-few = rw disclosures-are (parts-few disclosedTo 1 64 disclosed-few)
+  unfolding extentAt
+  disclosures-few = rw disclosures-are (omega (arith, parts-few disclosedTo 1 (min (cell table component kind 67) 64) disclosed-few))
 
 -- A disclose list is as long as its groups make it.
 pub list-bytes : (ds : List Disclosure) → (length ds ≡ 0 → ⊥) → listBytes ds ≡ length ds ∷ gather disclosureBytes ds
@@ -181,8 +185,8 @@ unfolding pathAt
 path-few table component =
     omega (
       arith,
-      length-take (getD table (component * 1081) 0) (take 8 (drop (component * 1081 + 1) table)),
-      length-take 8 (drop (component * 1081 + 1) table),
+      length-take (getD table (component * 1097) 0) (take 8 (drop (component * 1097 + 1) table)),
+      length-take 8 (drop (component * 1097 + 1) table),
     )
 
 pub entry-length : (e : Entry) → length (entryBytes e) ≡ 3 + (length (e .component .path) + length (listBytes (e .disclose)))

@@ -16,7 +16,7 @@ use Rattle.reading.specs.Told.{pathOf}
 use Rattle.reading.specs.declared.Path.{Path}
 use Rattle.inference.specs.Lists.{gather}
 use Rattle.inference.specs.Interface.{Disclosure, isEmpty, bit, mapOf, disclosureBytes, listBytes, entryBytes, interfaceBytes}
-use Rattle.inference.specs.Rows.{pathAt, cellOf, cell, isSet, disclosuresAt, entryAt, rowEntries, tableEntries}
+use Rattle.inference.specs.Rows.{pathAt, cellOf, cell, isSet, extentAt, disclosuresAt, entryAt, rowEntries, tableEntries}
 use Rattle.interface.specs.Writes.{storeBytes, Stored, groupBytes, entryBytesAt}
 use Rattle.inference.proofs.RowSteps.{unset}
 use Rattle.interface.proofs.WriteLaws.{
@@ -57,9 +57,19 @@ use Rattle.interface.proofs.InterfaceLaws.{
   table-bytes-are,
 }
 
-pub cell-is : {r : ℕ} (t : List ℕ) (c k j : ℕ) → r ≡ getD t (c * 1081 + (9 + (k * 67 + j))) 0 → r ≡ cell t c k j
+pub cell-is : {r : ℕ} (t : List ℕ) (c k j : ℕ) → r ≡ getD t (c * 1097 + (9 + (k * 68 + j))) 0 → r ≡ cell t c k j
 unfolding cell cellOf
 cell-is t c k j e = e
+
+-- The extent of a component and a kind.
+module _ (t : List ℕ) (c k x : ℕ) (is : x ≡ cell t c k 67) where
+  pub extent-below : x < 64 → x ≡ extentAt t c k
+  unfolding extentAt
+  extent-below h = omega (arith, is)
+
+  pub extent-full : 64 ≤ x → 64 ≡ extentAt t c k
+  unfolding extentAt
+  extent-full h = omega (arith, is)
 
 -- A flag of a count.
 pub bit-unset : (n v : ℕ) → n ≡ 0 → 0 ≡ bit (isSet n) v
@@ -72,20 +82,20 @@ bit-set n v h = rw (ne-eqb n 0 h)
 
 -- How many groups are disclosed to.
 module _ (t : List ℕ) (c k : ℕ) where
-  pub groups-first : Counting (disclosedTo t c k) 1 64 0 0
-  groups-first = count-first (disclosedTo t c k) 1 64 (disclosed-few t c k)
+  pub groups-first : (m : ℕ) → Counting (disclosedTo t c k) 1 m 0 0
+  groups-first m = count-first (disclosedTo t c k) 1 m (disclosed-few t c k)
 
-  pub groups-next : (n g x v : ℕ) → Counting (disclosedTo t c k) 1 64 n g → g < 64 → x ≡ cell t c k g → v ≡ bit (isSet x) 1
-      → Counting (disclosedTo t c k) 1 64 (n + v) (g + 1)
+  pub groups-next : (m n g x v : ℕ) → Counting (disclosedTo t c k) 1 m n g → g < m → x ≡ cell t c k g → v ≡ bit (isSet x) 1
+      → Counting (disclosedTo t c k) 1 m (n + v) (g + 1)
   unfolding disclosedTo bit
-  groups-next n g x v w h e f = count-next w v h (rw (f, e) (go (isSet (cell t c k g)) _))
+  groups-next m n g x v w h e f = count-next w v h (rw (f, e) (go (isSet (cell t c k g)) _))
     where
       go : (b : Bool) (d : Disclosure) → bit b 1 ≡ length (cond b (d ∷ []) [])
       go true d = refl
       go false d = refl
 
-  pub groups-last : {n g : ℕ} → Counting (disclosedTo t c k) 1 64 n g → 64 ≤ g → n ≡ length (disclosuresAt t c k)
-  groups-last w h = rw (disclosures-are t c k) (count-last w h)
+  pub groups-last : {m n g : ℕ} → Counting (disclosedTo t c k) 1 m n g → m ≤ g → m ≡ extentAt t c k → n ≡ length (disclosuresAt t c k)
+  groups-last w h e = rw (disclosures-are t c k, ← e) (count-last w h)
 
 -- The permission map.
 not-empty : {A : Type 0} (l : List A) → not (isEmpty l) ≡ isSet (length l)
@@ -193,17 +203,17 @@ module _ (o : List ℕ) (at : ℕ) where
 
   -- The groups that data is disclosed to, and the list of them.
   module _ (t : List ℕ) (c k : ℕ) where
-    pub groups-written-first : Writing (groupBytesAt t c k) 3 64 o at o at 0
-    groups-written-first = write-first (groupBytesAt t c k) 3 64 o at (group-few t c k)
+    pub groups-written-first : (e : ℕ) → Writing (groupBytesAt t c k) 3 e o at o at 0
+    groups-written-first e = write-first (groupBytesAt t c k) 3 e o at (group-few t c k)
 
-    pub groups-written-next : {o₁ o₂ : List ℕ} {m r : ℕ} (g n : ℕ) → Writing (groupBytesAt t c k) 3 64 o at o₁ m g → g < 64 → n ≡ cell t c k g
-        → Stored o₁ o₂ m (groupBytes g n) r → Writing (groupBytesAt t c k) 3 64 o at o₂ r (g + 1)
+    pub groups-written-next : {o₁ o₂ : List ℕ} {e m r : ℕ} (g n : ℕ) → Writing (groupBytesAt t c k) 3 e o at o₁ m g → g < e → n ≡ cell t c k g
+        → Stored o₁ o₂ m (groupBytes g n) r → Writing (groupBytesAt t c k) 3 e o at o₂ r (g + 1)
     unfolding groupBytesAt
     groups-written-next g n w h e s = write-next w h (rw e at s)
 
-    pub groups-written : {o₁ : List ℕ} {m g : ℕ} → Writing (groupBytesAt t c k) 3 64 o at o₁ m g → 64 ≤ g
+    pub groups-written : {o₁ : List ℕ} {e m g : ℕ} → Writing (groupBytesAt t c k) 3 e o at o₁ m g → e ≤ g → e ≡ extentAt t c k
         → Stored o o₁ at (gather disclosureBytes (disclosuresAt t c k)) m
-    groups-written w h = rw (group-bytes-are t c k) (write-last w h)
+    groups-written w h e = rw (group-bytes-are t c k, ← e) (write-last w h)
 
     pub list-unwritten : (n : ℕ) → n ≡ length (disclosuresAt t c k) → n ≡ 0 → Stored o o at (listBytes (disclosuresAt t c k)) at
     list-unwritten n e h = rw (no-list (disclosuresAt t c k) (sym e ∙ h)) (stored-none o at)
@@ -243,6 +253,8 @@ pub ruleset interface-steps = (
   needs,
   unset,
   cell-is,
+  extent-below,
+  extent-full,
   bit-unset,
   bit-set,
   groups-first,

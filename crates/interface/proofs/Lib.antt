@@ -1,5 +1,6 @@
 -- The lemmas that the proofs of the functions share, and laws of the table and of the interface.
 pub mod CellLaws
+pub mod ExtentLaws
 pub mod RowLaws
 pub mod TableLaws
 pub mod StoreLaws

@@ -1,6 +1,6 @@
 -- A component's row, after its path was stored and its acts were charged, holds the component's entries: each cell is the
 -- count of the acts that land in it, and the entry of a kind is read off the cells as the definition reads it off the acts.
-use Prim.Native.Nat.{ℕ, zero, suc, _+_, _-_, _*_, _%_, _<_, _≤_}
+use Prim.Native.Nat.{ℕ, zero, suc, _+_, _-_, _*_, _%_, _<_, _≤_, min}
 use mathlib.Core.Path.{_≡_, refl, sym, ap, ap₂, _∙_}
 use mathlib.Core.List.{List, [], _∷_, _++_, map}
 use mathlib.Core.Bool.{Bool, true, false, cond, not, _&&_, _||_}
@@ -21,7 +21,7 @@ use Rattle.inference.specs.Counts.{Count, fin, unlimited, _⊕_, repeatedly, co
 use Rattle.inference.specs.Acts.{Act, Component}
 use Rattle.inference.specs.Needs.{linkNeed, carriedNeed, channelNeed, need, needOn, needOf, isRead, isWrite, isAccess, disclosures, weigh, total, disclosed}
 use Rattle.inference.specs.Interface.{Disclosure, Entry, disclosuresOf, entryOf, holdsAny}
-use Rattle.inference.specs.Rows.{cellOf, cell, countOf, isSet, disclosuresAt, entryAt, pathAt, stored, withPath, rowEntries}
+use Rattle.inference.specs.Rows.{cellOf, cell, countOf, isSet, extentAt, disclosuresAt, entryAt, pathAt, stored, withPath, rowEntries}
 use Rattle.inference.proofs.CountLaws.{join-comm}
 use Rattle.interface.proofs.CellLaws.{landsIn, lands, lands-off-column, lands-few, Few, few-weigh}
 
@@ -156,10 +156,26 @@ map-rising f g start zero e = refl
 map-rising f g start (suc n) e =
     ap₂ _∷_ (e start (omega arith) (omega arith)) (map-rising f g (suc start) n (λ i p q. e i (omega arith) (omega arith)))
 
--- The cells of a component's row for a kind are the counts of acts.
+none-counted : not (isZero (countOf 0)) ≡ false
+unfolding isZero countOf
+none-counted = refl
+
+-- what is not chosen past a place can be left out
+only-shorter : {A : Type 0} (q : A → Bool) (f : ℕ → A) (e n start : ℕ) → e ≤ n → ((i : ℕ) → start + e ≤ i → i < start + n → q (f i) ≡ false)
+    → only q (map f (rising start e)) ≡ only q (map f (rising start n))
+unfolding only rising
+only-shorter q f zero zero start h off = refl
+only-shorter q f zero (suc n) start h off =
+    rw (off start (omega arith) (omega arith)) (only-shorter q f zero n (suc start) (omega arith) (λ i p r. off i (omega arith) (omega arith)))
+only-shorter q f (suc e) zero start h off = absurd (omega arith)
+only-shorter q f (suc e) (suc n) start h off =
+    ap (λ (l : List _). cond (q (f start)) (f start ∷ l) l) (only-shorter q f e n (suc start) (omega arith) (λ i p r. off i (omega arith) (omega arith)))
+
+-- The cells of a component's row for a kind are the counts of acts, none past the kind's extent.
 pub record Counted (table : List ℕ) (n : ℕ) (acts : List Act) : Type 0 where
   pub few : length acts ≤ 65000
   pub cells : (k c : ℕ) → k < 16 → c < 67 → cell table n k c ≡ countNumber (total (λ a. lands k c (needOf a)) acts)
+  pub past : (k g : ℕ) → k < 16 → g < 64 → cell table n k 67 ≤ g → cell table n k g ≡ 0
 
 module _ (table : List ℕ) (n : ℕ) (acts : List Act) (h : Counted table n acts) where
   flag-cell : (k c : ℕ) → k < 16 → c < 67 → (p : Need → Bool) → ((a : Act) → lands k c (needOf a) ≡ cond (p (needOf a)) 1 0)
@@ -176,9 +192,11 @@ module _ (table : List ℕ) (n : ℕ) (acts : List Act) (h : Counted table n act
       ∙ total-cong (λ a. lands k g (needOf a)) (λ a. disclosures k g (needOf a)) (λ a. lands-disclose k g r (needOf a)) acts
 
   disclosures-cells : (k : ℕ) → k < 16 → disclosuresAt table n k ≡ disclosuresOf k acts
-  unfolding disclosuresAt disclosuresOf
+  unfolding disclosuresAt disclosuresOf extentAt
   disclosures-cells k q =
-      ap (only (λ d. not (isZero (d .count))))
+      only-shorter (λ d. not (isZero (d .count))) (λ g. record { group = g; count = countOf (cell table n k g) }) (min (cell table n k 67) 64) 64 0
+      (omega arith) (λ g p r. rw (h .past k g q (omega arith) (omega arith)) none-counted)
+      ∙ ap (only (λ d. not (isZero (d .count))))
       (map-rising (λ g. record { group = g; count = countOf (cell table n k g) }) (λ g. record { group = g; count = disclosed k g acts }) 0 64
       (λ g p r. λ i. record { group = g; count = disclosure-cell k g q (omega arith) i }))
 

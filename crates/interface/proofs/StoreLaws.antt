@@ -253,7 +253,7 @@ sheet-components s charter sheet k h =
 
 -- The table that a sheet's walk leaves in clear memory holds the sheet's interface.
 pub sheet-table : (s charter : List ℕ) (sheet : Sheet) (k : ℕ) → SheetParts s charter sheet k
-    → (table : List ℕ) → length table ≡ 34592 → Clear 0 table
+    → (table : List ℕ) → length table ≡ 35104 → Clear 0 table
     → tableEntries (chargedAll table (located sheet)) (components (sheet .system)) ≡ interface sheet
 unfolding tableEntries interface located
 sheet-table s charter sheet k h table long clear =

@@ -18,6 +18,7 @@ use Rattle.inference.specs.Rows.{cellOf, cell, pathAt, stored, withPath, rowEnt
 use Rattle.inference.specs.Walks.{charged, chargedAll}
 use Rattle.inference.proofs.CountLaws.{nothing-join}
 use Rattle.interface.proofs.CellLaws.{lands, Few, Outside, AllOf, length-charged, charged-kept, charged-count}
+use Rattle.interface.proofs.ExtentLaws.{charged-extent}
 use Rattle.interface.proofs.RowLaws.{Counted, row-entries, map-rising}
 
 length-stored : (table : List ℕ) (at : ℕ) (xs : List ℕ) → length (stored table at xs) ≡ length table
@@ -56,78 +57,78 @@ pub record FitsRow (path : List ℕ) : Type 0 where
   pub groups : (i : ℕ) → i < length path → getD path i 0 < 64
 
 -- Two tables agree on the first nine cells of a row.
-agree-path : (table table′ : List ℕ) (n : ℕ) → n < 32 → length table ≡ 34592 → length table′ ≡ 34592
-    → ((i : ℕ) → n * 1081 ≤ i → i < n * 1081 + 9 → getD table i 0 ≡ getD table′ i 0)
+agree-path : (table table′ : List ℕ) (n : ℕ) → n < 32 → length table ≡ 35104 → length table′ ≡ 35104
+    → ((i : ℕ) → n * 1097 ≤ i → i < n * 1097 + 9 → getD table i 0 ≡ getD table′ i 0)
     → pathAt table n ≡ pathAt table′ n
 unfolding pathAt
 agree-path table table′ n small long long′ same =
-    ap₂ take (same (n * 1081) (omega arith) (omega arith))
-    (ext-getD 0 (take 8 (drop (n * 1081 + 1) table)) (take 8 (drop (n * 1081 + 1) table′))
-    (simp (length-take, length-drop) (ap (λ (k : ℕ). min 8 (k - (n * 1081 + 1))) (long ∙ sym long′)))
+    ap₂ take (same (n * 1097) (omega arith) (omega arith))
+    (ext-getD 0 (take 8 (drop (n * 1097 + 1) table)) (take 8 (drop (n * 1097 + 1) table′))
+    (simp (length-take, length-drop) (ap (λ (k : ℕ). min 8 (k - (n * 1097 + 1))) (long ∙ sym long′)))
     (λ i p. each i (len i p)))
   where
-    len : (i : ℕ) → i < length (take 8 (drop (n * 1081 + 1) table)) → i < 8
-    len i p = let e : length (take 8 (drop (n * 1081 + 1) table)) ≡ min 8 (length (drop (n * 1081 + 1) table)) = length-take 8 (drop (n * 1081 + 1) table) in omega arith
+    len : (i : ℕ) → i < length (take 8 (drop (n * 1097 + 1) table)) → i < 8
+    len i p = let e : length (take 8 (drop (n * 1097 + 1) table)) ≡ min 8 (length (drop (n * 1097 + 1) table)) = length-take 8 (drop (n * 1097 + 1) table) in omega arith
 
-    each : (i : ℕ) → i < 8 → getD (take 8 (drop (n * 1081 + 1) table)) i 0 ≡ getD (take 8 (drop (n * 1081 + 1) table′)) i 0
+    each : (i : ℕ) → i < 8 → getD (take 8 (drop (n * 1097 + 1) table)) i 0 ≡ getD (take 8 (drop (n * 1097 + 1) table′)) i 0
     each i p =
-        getD-take 8 (drop (n * 1081 + 1) table) i 0 p ∙ getD-drop (n * 1081 + 1) table i 0
-        ∙ same (n * 1081 + 1 + i) (omega arith) (omega arith)
-        ∙ sym (getD-take 8 (drop (n * 1081 + 1) table′) i 0 p ∙ getD-drop (n * 1081 + 1) table′ i 0)
+        getD-take 8 (drop (n * 1097 + 1) table) i 0 p ∙ getD-drop (n * 1097 + 1) table i 0
+        ∙ same (n * 1097 + 1 + i) (omega arith) (omega arith)
+        ∙ sym (getD-take 8 (drop (n * 1097 + 1) table′) i 0 p ∙ getD-drop (n * 1097 + 1) table′ i 0)
 
-module _ (table : List ℕ) (n : ℕ) (small : n < 32) (long : length table ≡ 34592) (path : List ℕ) (fits : FitsRow path) where
-  stored-length : getD (withPath table n path) (n * 1081) 0 ≡ length path
+module _ (table : List ℕ) (n : ℕ) (small : n < 32) (long : length table ≡ 35104) (path : List ℕ) (fits : FitsRow path) where
+  stored-length : getD (withPath table n path) (n * 1097) 0 ≡ length path
   unfolding withPath
   stored-length =
-      let e : n * 1081 + 0 ≡ n * 1081 = omega arith in
-      let h : getD (stored table (n * 1081) (length path ∷ path)) (n * 1081 + 0) 0 ≡ length path % 65536 =
-      stored-in table (n * 1081) (length path ∷ path) 0 (omega arith) (rw long (omega (arith, fits .short))) in
-      ap (λ (i : ℕ). getD (stored table (n * 1081) (length path ∷ path)) i 0) (sym e) ∙ h
+      let e : n * 1097 + 0 ≡ n * 1097 = omega arith in
+      let h : getD (stored table (n * 1097) (length path ∷ path)) (n * 1097 + 0) 0 ≡ length path % 65536 =
+      stored-in table (n * 1097) (length path ∷ path) 0 (omega arith) (rw long (omega (arith, fits .short))) in
+      ap (λ (i : ℕ). getD (stored table (n * 1097) (length path ∷ path)) i 0) (sym e) ∙ h
       ∙ mod-eq-of-lt (omega (arith, fits .short))
 
-  stored-group : (i : ℕ) → i < length path → getD (withPath table n path) (n * 1081 + 1 + i) 0 ≡ getD path i 0
+  stored-group : (i : ℕ) → i < length path → getD (withPath table n path) (n * 1097 + 1 + i) 0 ≡ getD path i 0
   unfolding withPath
   stored-group i p =
-      let e : n * 1081 + 1 + i ≡ n * 1081 + suc i = omega arith in
-      let h : getD (stored table (n * 1081) (length path ∷ path)) (n * 1081 + suc i) 0 ≡ getD path i 0 % 65536 =
-      stored-in table (n * 1081) (length path ∷ path) (suc i) (omega arith) (rw long (omega (arith, fits .short))) in
-      ap (λ (j : ℕ). getD (stored table (n * 1081) (length path ∷ path)) j 0) e ∙ h
+      let e : n * 1097 + 1 + i ≡ n * 1097 + suc i = omega arith in
+      let h : getD (stored table (n * 1097) (length path ∷ path)) (n * 1097 + suc i) 0 ≡ getD path i 0 % 65536 =
+      stored-in table (n * 1097) (length path ∷ path) (suc i) (omega arith) (rw long (omega (arith, fits .short))) in
+      ap (λ (j : ℕ). getD (stored table (n * 1097) (length path ∷ path)) j 0) e ∙ h
       ∙ mod-eq-of-lt (omega (arith, fits .groups i p))
 
-  length-with-path : length (withPath table n path) ≡ 34592
+  length-with-path : length (withPath table n path) ≡ 35104
   unfolding withPath
-  length-with-path = length-stored table (n * 1081) (length path ∷ path) ∙ long
+  length-with-path = length-stored table (n * 1097) (length path ∷ path) ∙ long
 
   path-back : pathAt (withPath table n path) n ≡ path
   unfolding pathAt
   path-back =
-      ap (λ (k : ℕ). take k (take 8 (drop (n * 1081 + 1) (withPath table n path)))) stored-length
-      ∙ ext-getD 0 (take (length path) (take 8 (drop (n * 1081 + 1) (withPath table n path)))) path len each
+      ap (λ (k : ℕ). take k (take 8 (drop (n * 1097 + 1) (withPath table n path)))) stored-length
+      ∙ ext-getD 0 (take (length path) (take 8 (drop (n * 1097 + 1) (withPath table n path)))) path len each
     where
-      l8 : length (drop (n * 1081 + 1) (withPath table n path)) ≡ 34592 - (n * 1081 + 1)
-      l8 = length-drop (n * 1081 + 1) (withPath table n path) ∙ ap (λ (k : ℕ). k - (n * 1081 + 1)) length-with-path
+      l8 : length (drop (n * 1097 + 1) (withPath table n path)) ≡ 35104 - (n * 1097 + 1)
+      l8 = length-drop (n * 1097 + 1) (withPath table n path) ∙ ap (λ (k : ℕ). k - (n * 1097 + 1)) length-with-path
 
-      len : length (take (length path) (take 8 (drop (n * 1081 + 1) (withPath table n path)))) ≡ length path
+      len : length (take (length path) (take 8 (drop (n * 1097 + 1) (withPath table n path)))) ≡ length path
       len =
-          let a : length (take (length path) (take 8 (drop (n * 1081 + 1) (withPath table n path))))
-          ≡ min (length path) (length (take 8 (drop (n * 1081 + 1) (withPath table n path))))
-          = length-take (length path) (take 8 (drop (n * 1081 + 1) (withPath table n path))) in
-          let b : length (take 8 (drop (n * 1081 + 1) (withPath table n path))) ≡ min 8 (length (drop (n * 1081 + 1) (withPath table n path)))
-          = length-take 8 (drop (n * 1081 + 1) (withPath table n path)) in
+          let a : length (take (length path) (take 8 (drop (n * 1097 + 1) (withPath table n path))))
+          ≡ min (length path) (length (take 8 (drop (n * 1097 + 1) (withPath table n path))))
+          = length-take (length path) (take 8 (drop (n * 1097 + 1) (withPath table n path))) in
+          let b : length (take 8 (drop (n * 1097 + 1) (withPath table n path))) ≡ min 8 (length (drop (n * 1097 + 1) (withPath table n path)))
+          = length-take 8 (drop (n * 1097 + 1) (withPath table n path)) in
           omega (arith, l8, fits .short)
 
-      each : (i : ℕ) → i < length (take (length path) (take 8 (drop (n * 1081 + 1) (withPath table n path))))
-          → getD (take (length path) (take 8 (drop (n * 1081 + 1) (withPath table n path)))) i 0 ≡ getD path i 0
+      each : (i : ℕ) → i < length (take (length path) (take 8 (drop (n * 1097 + 1) (withPath table n path))))
+          → getD (take (length path) (take 8 (drop (n * 1097 + 1) (withPath table n path)))) i 0 ≡ getD path i 0
       each i p =
           let q : i < length path = rw len at p in
-          getD-take (length path) (take 8 (drop (n * 1081 + 1) (withPath table n path))) i 0 q
-          ∙ getD-take 8 (drop (n * 1081 + 1) (withPath table n path)) i 0 (omega (arith, fits .short))
-          ∙ getD-drop (n * 1081 + 1) (withPath table n path) i 0
+          getD-take (length path) (take 8 (drop (n * 1097 + 1) (withPath table n path))) i 0 q
+          ∙ getD-take 8 (drop (n * 1097 + 1) (withPath table n path)) i 0 (omega (arith, fits .short))
+          ∙ getD-drop (n * 1097 + 1) (withPath table n path) i 0
           ∙ stored-group i q
 
 -- Nothing is stored yet from a row on.
 unfoldable pub Clear : ℕ → List ℕ → Type 0
-Clear n table = (i : ℕ) → n * 1081 ≤ i → getD table i 0 ≡ 0
+Clear n table = (i : ℕ) → n * 1097 ≤ i → getD table i 0 ≡ 0
 
 -- A component that can be stored: its path fits, its acts are its own and few.
 pub record Storable (n : ℕ) (l : Located) : Type 0 where
@@ -145,8 +146,8 @@ pub data AllStorable : ℕ → List Located → Type 0 where
 unfoldable pub rowOf : List ℕ → ℕ → Located → List ℕ
 rowOf table n l = charged (withPath table n (l .component .path)) (actsOf l)
 
-module _ (table : List ℕ) (n : ℕ) (small : n < 32) (long : length table ≡ 34592) (l : Located) (ok : Storable n l) where
-  length-row : length (rowOf table n l) ≡ 34592
+module _ (table : List ℕ) (n : ℕ) (small : n < 32) (long : length table ≡ 35104) (l : Located) (ok : Storable n l) where
+  length-row : length (rowOf table n l) ≡ 35104
   unfolding rowOf
   length-row =
       length-charged (withPath table n (l .component .path)) (actsOf l)
@@ -161,37 +162,49 @@ module _ (table : List ℕ) (n : ℕ) (small : n < 32) (long : length table ≡ 
       ∙ path-back table n small long (l .component .path) (ok .fits)
 
   -- the rows before are as they were
-  row-before : (i : ℕ) → i < n * 1081 → getD (rowOf table n l) i 0 ≡ getD table i 0
+  row-before : (i : ℕ) → i < n * 1097 → getD (rowOf table n l) i 0 ≡ getD table i 0
   unfolding rowOf
   row-before i p =
       charged-kept n i (unfold Outside in inl (omega arith)) (withPath table n (l .component .path)) (ok .own)
-      ∙ unfold withPath in stored-before table (n * 1081) i (length (l .component .path) ∷ l .component .path) p
+      ∙ unfold withPath in stored-before table (n * 1097) i (length (l .component .path) ∷ l .component .path) p
 
   -- the rows after it are as they were
-  row-after : (i : ℕ) → n * 1081 + 1081 ≤ i → getD (rowOf table n l) i 0 ≡ getD table i 0
+  row-after : (i : ℕ) → n * 1097 + 1097 ≤ i → getD (rowOf table n l) i 0 ≡ getD table i 0
   unfolding rowOf
   row-after i p =
       charged-kept n i (unfold Outside in inr p) (withPath table n (l .component .path)) (ok .own)
-      ∙ unfold withPath in stored-after table (n * 1081) i (length (l .component .path) ∷ l .component .path) (omega (arith, ok .fits .short))
+      ∙ unfold withPath in stored-after table (n * 1097) i (length (l .component .path) ∷ l .component .path) (omega (arith, ok .fits .short))
+
+  row-count : Clear n table → (k c : ℕ) → k < 16 → c < 67
+      → getD (rowOf table n l) (cellOf n k c) 0 ≡ countNumber (total (λ a. lands k c (needOf a)) (actsOf l))
+  unfolding rowOf Clear
+  row-count clear k c p q =
+      charged-count n small k c p q (withPath table n (l .component .path))
+      (length-with-path table n small long (l .component .path) (ok .fits)) (fin 0)
+      (unfold withPath countNumber in (stored-after table (n * 1097) (cellOf n k c) (length (l .component .path) ∷ l .component .path) past
+      ∙ clear (cellOf n k c) beyond))
+      (ok .own) (unfold Few in omega (arith, ok .few))
+      ∙ ap countNumber (nothing-join (total (λ a. lands k c (needOf a)) (actsOf l)))
+    where
+      past : n * 1097 + length (length (l .component .path) ∷ l .component .path) ≤ cellOf n k c
+      past = unfold cellOf in omega (arith, ok .fits .short)
+
+      beyond : n * 1097 ≤ cellOf n k c
+      beyond = unfold cellOf in omega arith
+
+  row-extent : (k g : ℕ) → k < 16 → g < 64 → getD (rowOf table n l) (cellOf n k 67) 0 ≤ g → total (λ a. lands k g (needOf a)) (actsOf l) ≡ fin 0
+  unfolding rowOf
+  row-extent k g p q h =
+      charged-extent n small k p (withPath table n (l .component .path))
+      (length-with-path table n small long (l .component .path) (ok .fits)) g q (ok .own) h
 
   row-counted : Clear n table → Counted (rowOf table n l) n (actsOf l)
-  unfolding rowOf Clear cell
+  unfolding cell countNumber
   row-counted clear = record {
     few = ok .few;
-    cells = λ k c p q.
-        charged-count n small k c p q (withPath table n (l .component .path))
-        (length-with-path table n small long (l .component .path) (ok .fits)) (fin 0)
-        (unfold withPath countNumber in (stored-after table (n * 1081) (cellOf n k c) (length (l .component .path) ∷ l .component .path) (past k c)
-        ∙ clear (cellOf n k c) (beyond k c)))
-        (ok .own) (unfold Few in omega (arith, ok .few))
-        ∙ ap countNumber (nothing-join (total (λ a. lands k c (needOf a)) (actsOf l)));
+    cells = row-count clear;
+    past = λ k g p q h. row-count clear k g p (omega arith) ∙ ap countNumber (row-extent k g p q h);
   }
-    where
-      past : (k c : ℕ) → n * 1081 + length (length (l .component .path) ∷ l .component .path) ≤ cellOf n k c
-      past k c = unfold cellOf in omega (arith, ok .fits .short)
-
-      beyond : (k c : ℕ) → n * 1081 ≤ cellOf n k c
-      beyond k c = unfold cellOf in omega arith
 
   row-clear : Clear n table → Clear (suc n) (rowOf table n l)
   unfolding Clear
@@ -204,15 +217,15 @@ charged-row table n l rest e =
     ap (λ (m : ℕ). chargedAll (charged (withPath table m (l .component .path)) (actsOf l)) rest) e
 
 -- the table keeps its length, and later components leave earlier rows as they are
-length-all : (ls : List Located) (n : ℕ) → AllStorable n ls → n + length ls ≤ 32 → (table : List ℕ) → length table ≡ 34592
-    → length (chargedAll table ls) ≡ 34592
+length-all : (ls : List Located) (n : ℕ) → AllStorable n ls → n + length ls ≤ 32 → (table : List ℕ) → length table ≡ 35104
+    → length (chargedAll table ls) ≡ 35104
 length-all [] n store-none h table long = unfold chargedAll in long
 length-all (l ∷ rest) n (store-more ok more) h table long =
     rw (charged-row table n l rest (ok .number))
     (length-all rest (suc n) more (omega arith) (rowOf table n l) (length-row table n (omega arith) long l ok))
 
-rows-kept : (ls : List Located) (n : ℕ) → AllStorable n ls → n + length ls ≤ 32 → (table : List ℕ) → length table ≡ 34592
-    → (i : ℕ) → i < n * 1081 → getD (chargedAll table ls) i 0 ≡ getD table i 0
+rows-kept : (ls : List Located) (n : ℕ) → AllStorable n ls → n + length ls ≤ 32 → (table : List ℕ) → length table ≡ 35104
+    → (i : ℕ) → i < n * 1097 → getD (chargedAll table ls) i 0 ≡ getD table i 0
 rows-kept [] n store-none h table long i p = unfold chargedAll in refl
 rows-kept (l ∷ rest) n (store-more ok more) h table long i p =
     rw (charged-row table n l rest (ok .number))
@@ -221,7 +234,7 @@ rows-kept (l ∷ rest) n (store-more ok more) h table long i p =
 
 -- one component's row, in the whole table
 row-in-table : (table : List ℕ) (n : ℕ) (l : Located) (rest : List Located) → Storable n l → AllStorable (suc n) rest
-    → suc n + length rest ≤ 32 → length table ≡ 34592 → Clear n table
+    → suc n + length rest ≤ 32 → length table ≡ 35104 → Clear n table
     → rowEntries (chargedAll (rowOf table n l) rest) n ≡ entriesOf l
 unfolding entriesOf
 row-in-table table n l rest ok more h long clear =
@@ -233,24 +246,30 @@ row-in-table table n l rest ok more h long clear =
     small : n < 32
     small = omega arith
 
-    long′ : length (rowOf table n l) ≡ 34592
+    long′ : length (rowOf table n l) ≡ 35104
     long′ = length-row table n small long l ok
 
-    kept : (i : ℕ) → i < suc n * 1081 → getD (chargedAll (rowOf table n l) rest) i 0 ≡ getD (rowOf table n l) i 0
+    kept : (i : ℕ) → i < suc n * 1097 → getD (chargedAll (rowOf table n l) rest) i 0 ≡ getD (rowOf table n l) i 0
     kept i p = rows-kept rest (suc n) more h (rowOf table n l) long′ i p
 
-    below : (k c : ℕ) → k < 16 → c < 67 → cellOf n k c < suc n * 1081
+    below : (k c : ℕ) → k < 16 → c < 68 → cellOf n k c < suc n * 1097
     below k c p q = unfold cellOf in omega arith
+
+    same : (k c : ℕ) → k < 16 → c < 68 → cell (chargedAll (rowOf table n l) rest) n k c ≡ cell (rowOf table n l) n k c
+    same k c p q = unfold cell in kept (cellOf n k c) (below k c p q)
+
+    row : Counted (rowOf table n l) n (actsOf l)
+    row = row-counted table n small long l ok clear
 
     counted : Counted (chargedAll (rowOf table n l) rest) n (actsOf l)
     counted = record {
       few = ok .few;
-      cells = λ k c p q. unfold cell in (kept (cellOf n k c) (below k c p q)
-          ∙ unfold cell in (row-counted table n small long l ok clear .cells k c p q));
+      cells = λ k c p q. same k c p (omega arith) ∙ row .cells k c p q;
+      past = λ k g p q h. same k g p (omega arith) ∙ row .past k g p q (omega (arith, same k 67 p (omega arith)));
     }
 
 -- The table of components that are stored one after another holds their entries.
-pub table-from : (ls : List Located) (n : ℕ) → AllStorable n ls → n + length ls ≤ 32 → (table : List ℕ) → length table ≡ 34592
+pub table-from : (ls : List Located) (n : ℕ) → AllStorable n ls → n + length ls ≤ 32 → (table : List ℕ) → length table ≡ 35104
     → Clear n table → gather (rowEntries (chargedAll table ls)) (rising n (length ls)) ≡ gather entriesOf ls
 unfolding gather rising
 table-from [] n store-none h table long clear = refl

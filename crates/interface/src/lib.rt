@@ -4,7 +4,7 @@ ghost use mathlib.Core.List.{[], _∷_};
 ghost use Prim.Native.Nat.{_+_, _<_, _≤_, _%_};
 ghost use lib.ListN.{length, set};
 ghost use Rattle.reading.specs.Told.{pathOf};
-ghost use Rattle.inference.specs.Rows.{isSet, cell, pathAt, disclosuresAt, entryAt, rowEntries, tableEntries};
+ghost use Rattle.inference.specs.Rows.{isSet, cell, extentAt, pathAt, disclosuresAt, entryAt, rowEntries, tableEntries};
 ghost use Rattle.inference.specs.Interface.{bit as flag, mapOf, disclosureBytes, listBytes, interfaceBytes};
 ghost use Rattle.inference.specs.Lists.{gather};
 ghost use Rattle.interface.specs.Writes.{Stored, groupBytes, entryBytesAt};
@@ -13,12 +13,22 @@ use inference::rows::path_len;
 use inference::rows::path_of;
 use reading::Path;
 
-// The count in the cell of a component, a kind and a column.
+// What stands in the cell of a component, a kind and a column.
 pub fn count_at(table: &[u16], component: usize, kind: usize, column: usize) -> usize
-    requires { ⌜ (component < 32) × (kind < 16) × (column < 67) ⌝ }
+    requires { ⌜ (component < 32) × (kind < 16) × (column < 68) ⌝ }
     ensures { λ r. ⌜ r ≡ cell (now (table .entry)) component kind column ⌝ }
 {
-    cell_at(table, component * 1081 + (9 + (kind * 67 + column)))
+    cell_at(table, component * 1097 + (9 + (kind * 68 + column)))
+}
+
+// The extent of a component and a kind: it discloses data of the kind to groups below it alone.
+pub fn extent_at(table: &[u16], component: usize, kind: usize) -> usize
+    requires { ⌜ (component < 32) × (kind < 16) ⌝ }
+    ensures { λ r. ⌜ r ≡ extentAt (now (table .entry)) component kind ⌝ }
+    ensures few { λ r. ⌜ r ≤ 64 ⌝ }
+{
+    let extent = count_at(table, component, kind, 67);
+    if extent < 64 { extent } else { 64 }
 }
 
 // How many groups a component discloses data of a kind to.
@@ -27,9 +37,10 @@ pub fn disclosed_groups(table: &[u16], component: usize, kind: usize) -> usize
     ensures { λ r. ⌜ r ≡ length (disclosuresAt (now (table .entry)) component kind) ⌝ }
     ensures few { λ r. ⌜ r ≤ 64 ⌝ }
 {
+    let extent = extent_at(table, component, kind);
     let mut n: usize = 0;
     let mut group: usize = 0;
-    while group < 64 {
+    while group < extent {
         n += bit(count_at(table, component, kind, group), 1);
         group += 1;
     }
@@ -176,9 +187,10 @@ fn put_disclosures(table: &[u16], component: usize, kind: usize, out: &mut [u8],
     requires { ⌜ (component < 32) × (kind < 16) × (at < 4010000000) ⌝ }
     ensures { λ r. ⌜ Stored (now (out .entry)) (now (out .exit)) at (gather disclosureBytes (disclosuresAt (now (table .entry)) component kind)) r ⌝ }
 {
+    let extent = extent_at(table, component, kind);
     let mut next = at;
     let mut group: usize = 0;
-    while group < 64 {
+    while group < extent {
         next = put_disclosure(count_at(table, component, kind, group), group, out, next);
         group += 1;
     }

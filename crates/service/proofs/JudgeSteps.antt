@@ -102,22 +102,22 @@ module _ (s c table table′ : List ℕ) (walk : SystemWalk) (reads : Reads s c)
   pub few-components : walk .components ≤ 32
   few-components = omega (arith, here .number, sheet-components s c (reads .tree) (reads .end) whole)
 
-  table-is : length table ≡ 34592 → Clear table → tableEntries table′ (walk .components) ≡ interface (reads .tree)
+  table-is : length table ≡ 35104 → Clear table → tableEntries table′ (walk .components) ≡ interface (reads .tree)
   table-is long clear =
       ap₂ tableEntries (here .counted) (here .number)
       ∙ sheet-table s c (reads .tree) (reads .end) whole table long (unfold ClearFrom in λ i p. clear .zeros i)
 
-  holds : length table ≡ 34592 → Clear table → (a : Accepted) → judged s c ≡ passed a → tableEntries table′ (walk .components) ≡ interface (a .sheet)
+  holds : length table ≡ 35104 → Clear table → (a : Accepted) → judged s c ≡ passed a → tableEntries table′ (walk .components) ≡ interface (a .sheet)
   holds long clear a e = table-is long clear ∙ ap interface (one-tree s c (reads .reads) (passed-reads s c a e .reads))
 
-  pub typing-fails : length table ≡ 34592 → Clear table → walk .fault < 11 → Judges s c table′ (record { fault = walk .fault; components = walk .components })
+  pub typing-fails : length table ≡ 35104 → Clear table → walk .fault < 11 → Judges s c table′ (record { fault = walk .fault; components = walk .components })
   typing-fails long clear h = record {
     first = here .first ∙ judged-typing s c (reads .tree) (reads .end) (reads .reads) (omega (arith, here .first));
     few = few-components;
     held = holds long clear;
   }
 
-  pub typing-passes : (fault : ℕ) → length table ≡ 34592 → Clear table → 11 ≤ walk .fault → fault ≡ laterFault c (tableEntries table′ (walk .components))
+  pub typing-passes : (fault : ℕ) → length table ≡ 35104 → Clear table → 11 ≤ walk .fault → fault ≡ laterFault c (tableEntries table′ (walk .components))
       → Judges s c table′ (record { fault = fault; components = walk .components })
   typing-passes fault long clear h e = record {
     first = e ∙ ap (laterFault c) (table-is long clear) ∙ judged-later s c (reads .tree) (reads .end) (reads .reads) (omega (arith, here .first));

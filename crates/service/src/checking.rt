@@ -25,7 +25,7 @@ fn deliver(table: &[u16], components: usize, output: &mut [u8]) -> Answer
 
 // Questions 1 to 19, with a clear table for the sheet's components.
 fn check_with(sheet: &[u8], charter: &[u8], table: &mut [u16], output: &mut [u8]) -> Answer
-    requires { ⌜ (length (now table) ≡ 34592) × Clear (now table) ⌝ }
+    requires { ⌜ (length (now table) ≡ 35104) × Clear (now table) ⌝ }
     ensures { λ r. ⌜ Checked (now (sheet .entry)) (now (charter .entry)) (now (output .entry)) (now (output .exit)) r ⌝ }
 {
     let judged = judge_sheet(sheet, charter, table);
@@ -40,6 +40,6 @@ fn check_with(sheet: &[u8], charter: &[u8], table: &mut [u16], output: &mut [u8]
 pub fn check(sheet: &[u8], charter: &[u8], output: &mut [u8]) -> Answer
     ensures { λ r. ⌜ Checked (now (sheet .entry)) (now (charter .entry)) (now (output .entry)) (now (output .exit)) r ⌝ }
 {
-    let mut table = [0u16; 34592];
+    let mut table = [0u16; 35104];
     check_with(sheet, charter, &mut table, output)
 }

@@ -51,7 +51,7 @@ fn question(end: End) -> usize
 
 // Questions 7 to 18 of a sheet that reads, with a clear table for its components.
 fn judge_read(sheet: &[u8], charter: &[u8], table: &mut [u16]) -> Judged
-    requires { ⌜ Reads (now sheet) (now charter) × (length (now table) ≡ 34592) × Clear (now table) ⌝ }
+    requires { ⌜ Reads (now sheet) (now charter) × (length (now table) ≡ 35104) × Clear (now table) ⌝ }
     ensures { λ r. ⌜ Judges (now (sheet .entry)) (now (charter .entry)) (now (table .exit)) r ⌝ }
 {
     let walk = infer(sheet, table);
@@ -68,7 +68,7 @@ fn judge_read(sheet: &[u8], charter: &[u8], table: &mut [u16]) -> Judged
 
 // Questions 1 to 18, with a clear table for the sheet's components.
 pub fn judge_sheet(sheet: &[u8], charter: &[u8], table: &mut [u16]) -> Judged
-    requires { ⌜ (length (now table) ≡ 34592) × Clear (now table) ⌝ }
+    requires { ⌜ (length (now table) ≡ 35104) × Clear (now table) ⌝ }
     ensures { λ r. ⌜ Judges (now (sheet .entry)) (now (charter .entry)) (now (table .exit)) r ⌝ }
 {
     let end = read(sheet, charter);
@@ -85,7 +85,7 @@ pub fn judge_sheet(sheet: &[u8], charter: &[u8], table: &mut [u16]) -> Judged
 pub fn first_failed(sheet: &[u8], charter: &[u8]) -> usize
     ensures { λ r. ⌜ r ≡ firstFailed (judged (now (sheet .entry)) (now (charter .entry))) ⌝ }
 {
-    let mut table = [0u16; 34592];
+    let mut table = [0u16; 35104];
     let judged = judge_sheet(sheet, charter, &mut table);
     judged.fault
 }

@@ -9,10 +9,10 @@ use Rattle.interface.proofs.disclosed_groups.Statement.{statement}
 use Rattle.interface.proofs.disclosed_groups.Tie as tie
 
 abbrev Inv-loop : tie.InvT-loop
-Inv-loop table component kind n₀ group₀ n group = Counting (disclosedTo table component kind) 1 64 n group
+Inv-loop table component kind extent n₀ group₀ n group = Counting (disclosedTo table component kind) 1 extent n group
 
 abbrev μ-loop : tie.MeasureT-loop
-μ-loop table component kind n₀ group₀ n group = 64 - group
+μ-loop table component kind extent n₀ group₀ n group = extent - group
 
 pub disclosed-groups-spec : {M : Type 1} → statement M
 disclosed-groups-spec =
@@ -20,6 +20,7 @@ disclosed-groups-spec =
     (tie.spec
     Inv-loop
     μ-loop
+    (λ c κs. search needs)
     (λ c. search interface-steps)
     (λ c κs. search needs)
     (λ c κs. search needs)

@@ -9,10 +9,10 @@ use Rattle.interface.proofs.put_disclosures.Statement.{statement}
 use Rattle.interface.proofs.put_disclosures.Tie as tie
 
 abbrev Inv-loop : tie.InvT-loop
-Inv-loop table component kind out₀ at next₀ group₀ out next group = Writing (groupBytesAt table component kind) 3 64 out₀ at out next group
+Inv-loop table component kind out₀ at extent next₀ group₀ out next group = Writing (groupBytesAt table component kind) 3 extent out₀ at out next group
 
 abbrev μ-loop : tie.MeasureT-loop
-μ-loop table component kind out₀ at next₀ group₀ out next group = 64 - group
+μ-loop table component kind out₀ at extent next₀ group₀ out next group = extent - group
 
 pub put-disclosures-spec : {M : Type 1} → statement M
 put-disclosures-spec =
@@ -20,6 +20,7 @@ put-disclosures-spec =
     (tie.spec
     Inv-loop
     μ-loop
+    (λ c κs. search needs)
     (λ c. search interface-steps)
     (λ c κs. search needs)
     (λ c κs. search needs)

@@ -6,10 +6,10 @@ use Rattle.fit.proofs.entries.counts_covered.Statement.{statement}
 use Rattle.fit.proofs.entries.counts_covered.Tie as tie
 
 abbrev Inv-loop : tie.InvT-loop
-Inv-loop c table component kind nodes givers group₀ group = GroupsSoFar c nodes (givenRows givers) table component kind group
+Inv-loop c table component kind nodes givers extent group₀ group = GroupsSoFar c nodes (givenRows givers) table component kind extent group
 
 abbrev μ-loop : tie.MeasureT-loop
-μ-loop c table component kind nodes givers group₀ group = 64 - group
+μ-loop c table component kind nodes givers extent group₀ group = extent - group
 
 pub counts-covered-spec : {M : Type 1} → statement M
 counts-covered-spec =
@@ -17,6 +17,7 @@ counts-covered-spec =
     (tie.spec
     Inv-loop
     μ-loop
+    (λ c κs. search entry-steps)
     (λ c. search entry-steps)
     (λ c κs. search entry-steps)
     (λ c κs. search entry-steps)

@@ -7,7 +7,7 @@ use Rattle.service.proofs.checking.check.Statement.{statement}
 use Rattle.service.proofs.checking.check.Tie as tie
 
 check-with-requires : tie.Need-check-with-requires
-check-with-requires c κs = (length-replicate {A = ℕ} 34592 0, zeros-clear 34592)
+check-with-requires c κs = (length-replicate {A = ℕ} 35104 0, zeros-clear 35104)
 
 pub check-spec : {M : Type 1} → statement M
 check-spec =
