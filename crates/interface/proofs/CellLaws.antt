@@ -48,7 +48,7 @@ pub cell-inj-column : (n k c d : ℕ) → cellOf n k c ≡ cellOf n k d → c �
 unfolding cellOf
 cell-inj-column n k c d e = omega arith
 
-pub cell-below : (n k c : ℕ) → n < 32 → k < 16 → c < 68 → cellOf n k c < 35104
+pub cell-below : {rows : ℕ} (n k c : ℕ) → n < rows → k < 16 → c < 68 → cellOf n k c < rows * 1097
 unfolding cellOf
 cell-below n k c p q r = omega arith
 
@@ -96,7 +96,7 @@ widen-count table n kind group k c q =
     not-extent : k ≡ kind → cellOf n k c ≡ cellOf n kind 67 → ⊥
     not-extent f e = omega (arith, cell-inj-column n k c 67 (e ∙ ap (λ (x : ℕ). cellOf n x 67) (sym f)))
 
-module _ (table : List ℕ) (n : ℕ) (small : n < 32) (long : length table ≡ 35104) (repeated : Bool) where
+module _ {rows : ℕ} (table : List ℕ) (n : ℕ) (small : n < rows) (long : length table ≡ rows * 1097) (repeated : Bool) where
   charge-in : (kind column k c : ℕ) → k < 16 → c < 67 → kind < 16 → column < 67
       → getD (chargeAt table (cellOf n kind column) repeated) (cellOf n k c) 0
       ≡ raised (getD table (cellOf n k c) 0) (landsIn kind column k c) repeated
@@ -131,7 +131,7 @@ module _ (table : List ℕ) (n : ℕ) (small : n < 32) (long : length table ≡ 
       go true false e f = rw (lands-off-column kind column k c (λ h. absurd (omega (arith, ltb-false column 67 f)))) refl
       go false b e f = rw (lands-off-kind kind column k c (λ h. absurd (omega (arith, ltb-false kind 16 e)))) refl
 
-module _ (table : List ℕ) (n : ℕ) (small : n < 32) (long : length table ≡ 35104) (repeated : Bool) where
+module _ {rows : ℕ} (table : List ℕ) (n : ℕ) (small : n < rows) (long : length table ≡ rows * 1097) (repeated : Bool) where
   -- a charge raises the cell of the component's row in which it lands
   pub charge-lands : (need : Need) (k c : ℕ) → k < 16 → c < 67
       → getD (charge table n need repeated) (cellOf n k c) 0 ≡ raised (getD table (cellOf n k c) 0) (lands k c need) repeated
@@ -273,7 +273,7 @@ few-weigh unlimited more (suc w) true few h = tt
 few-weigh unlimited more w false few h = tt
 
 -- Acts of one component leave in each cell of its row what stood there joined with what they need.
-pub charged-count : (n : ℕ) → n < 32 → (k c : ℕ) → k < 16 → c < 67 → (table : List ℕ) → length table ≡ 35104 → (x : Count)
+pub charged-count : {rows : ℕ} (n : ℕ) → n < rows → (k c : ℕ) → k < 16 → c < 67 → (table : List ℕ) → length table ≡ rows * 1097 → (x : Count)
     → getD table (cellOf n k c) 0 ≡ countNumber x → {acts : List Act} → AllOf n acts → Few x (length acts)
     → getD (charged table acts) (cellOf n k c) 0 ≡ countNumber (x ⊕ total (λ a. lands k c (needOf a)) acts)
 unfolding charged total

@@ -1,5 +1,5 @@
 -- The extent of a component and a kind: after acts were charged, no act discloses data of the kind to a group at or past it.
-use Prim.Native.Nat.{ℕ, zero, suc, _+_, _%_, _<_, _≤_}
+use Prim.Native.Nat.{ℕ, zero, suc, _+_, _*_, _%_, _<_, _≤_}
 use mathlib.Core.Path.{_≡_, refl, sym, ap, ap₂, _∙_}
 use mathlib.Core.List.{List, [], _∷_}
 use mathlib.Core.Bool.{Bool, true, false, cond, _&&_}
@@ -55,7 +55,7 @@ count-extent table n kind column repeated k = go (ltb kind 16) (ltb column 67) r
     go true false f = refl
     go false b f = refl
 
-module _ (table : List ℕ) (n : ℕ) (small : n < 32) (long : length table ≡ 35104) (k : ℕ) (kind : k < 16) where
+module _ {rows : ℕ} (table : List ℕ) (n : ℕ) (small : n < rows) (long : length table ≡ rows * 1097) (k : ℕ) (kind : k < 16) where
   -- widening for a group reaches past it, and an extent only grows
   widen-reaches : (g : ℕ) → g < 64 → g < extent (widened table n k g) n k
   unfolding widened widenedAt
@@ -123,8 +123,8 @@ weighs-nothing true = refl
 weighs-nothing false = refl
 
 -- Acts of one component: the extent grows, and what they leave is past each group that they disclose to.
-module _ (n : ℕ) (small : n < 32) (k : ℕ) (kind : k < 16) where
-  charged-grows : (table : List ℕ) → length table ≡ 35104 → {acts : List Act} → AllOf n acts → extent table n k ≤ extent (charged table acts) n k
+module _ {rows : ℕ} (n : ℕ) (small : n < rows) (k : ℕ) (kind : k < 16) where
+  charged-grows : (table : List ℕ) → length table ≡ rows * 1097 → {acts : List Act} → AllOf n acts → extent table n k ≤ extent (charged table acts) n k
   unfolding charged
   charged-grows table long of-none = omega arith
   charged-grows table long (of-more {a = a} {rest = rest} e more) =
@@ -135,7 +135,7 @@ module _ (n : ℕ) (small : n < 32) (k : ℕ) (kind : k < 16) where
         charged-grows (charge table n (needOf a) (a .repeated)) (length-charge table n (needOf a) (a .repeated) ∙ long) more,
       )
 
-  pub charged-extent : (table : List ℕ) → length table ≡ 35104 → (g : ℕ) → g < 64 → {acts : List Act} → AllOf n acts
+  pub charged-extent : (table : List ℕ) → length table ≡ rows * 1097 → (g : ℕ) → g < 64 → {acts : List Act} → AllOf n acts
       → extent (charged table acts) n k ≤ g → total (λ a. lands k g (needOf a)) acts ≡ fin 0
   unfolding charged total
   charged-extent table long g h of-none past = refl
@@ -146,7 +146,7 @@ module _ (n : ℕ) (small : n < 32) (k : ℕ) (kind : k < 16) where
       after : List ℕ
       after = charge table n (needOf a) (a .repeated)
 
-      long′ : length after ≡ 35104
+      long′ : length after ≡ rows * 1097
       long′ = length-charge table n (needOf a) (a .repeated) ∙ long
 
       grows : extent after n k ≤ extent (charged after rest) n k

@@ -1,6 +1,6 @@
 -- The components of a sheet that was read can be stored in the table: their numbers are consecutive, there are at most 32 of
 -- them, their paths have at most eight groups below 64, and they have fewer acts than the sheet has bytes.
-use Prim.Native.Nat.{ℕ, zero, suc, _+_, _-_, _<_, _≤_}
+use Prim.Native.Nat.{ℕ, zero, suc, _+_, _-_, _*_, _<_, _≤_}
 use mathlib.Core.Path.{_≡_, refl, sym, ap, ap₂, _∙_}
 use mathlib.Core.List.{List, [], _∷_, _++_}
 use mathlib.Core.Bool.{Bool, true, false}
@@ -253,15 +253,15 @@ sheet-components s charter sheet k h =
 
 -- The table that a sheet's walk leaves in clear memory holds the sheet's interface.
 pub sheet-table : (s charter : List ℕ) (sheet : Sheet) (k : ℕ) → SheetParts s charter sheet k
-    → (table : List ℕ) → length table ≡ 35104 → Clear 0 table
+    → (rows : ℕ) → components (sheet .system) ≤ rows → (table : List ℕ) → length table ≡ rows * 1097 → Clear 0 table
     → tableEntries (chargedAll table (located sheet)) (components (sheet .system)) ≡ interface sheet
 unfolding tableEntries interface located
-sheet-table s charter sheet k h table long clear =
+sheet-table s charter sheet k h rows room table long clear =
     ap (λ (n : ℕ). gather (rowEntries (chargedAll table (locate 0 [] (sheet .free) (sheet .system)))) (rising 0 n))
     (sym (located-count 0 [] (sheet .free) (sheet .system)))
     ∙ table-from (locate 0 [] (sheet .free) (sheet .system)) 0
     (sheet-storable s charter sheet k h)
-    (omega (arith, located-count 0 [] (sheet .free) (sheet .system), sheet-components s charter sheet k h))
+    (omega (arith, located-count 0 [] (sheet .free) (sheet .system), room))
     table long clear
 
 pub clear-zeros : (n : ℕ) → Clear 0 (replicate n 0)

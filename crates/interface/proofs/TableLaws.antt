@@ -57,7 +57,7 @@ pub record FitsRow (path : List ℕ) : Type 0 where
   pub groups : (i : ℕ) → i < length path → getD path i 0 < 64
 
 -- Two tables agree on the first nine cells of a row.
-agree-path : (table table′ : List ℕ) (n : ℕ) → n < 32 → length table ≡ 35104 → length table′ ≡ 35104
+agree-path : {rows : ℕ} (table table′ : List ℕ) (n : ℕ) → n < rows → length table ≡ rows * 1097 → length table′ ≡ rows * 1097
     → ((i : ℕ) → n * 1097 ≤ i → i < n * 1097 + 9 → getD table i 0 ≡ getD table′ i 0)
     → pathAt table n ≡ pathAt table′ n
 unfolding pathAt
@@ -76,7 +76,7 @@ agree-path table table′ n small long long′ same =
         ∙ same (n * 1097 + 1 + i) (omega arith) (omega arith)
         ∙ sym (getD-take 8 (drop (n * 1097 + 1) table′) i 0 p ∙ getD-drop (n * 1097 + 1) table′ i 0)
 
-module _ (table : List ℕ) (n : ℕ) (small : n < 32) (long : length table ≡ 35104) (path : List ℕ) (fits : FitsRow path) where
+module _ {rows : ℕ} (table : List ℕ) (n : ℕ) (small : n < rows) (long : length table ≡ rows * 1097) (path : List ℕ) (fits : FitsRow path) where
   stored-length : getD (withPath table n path) (n * 1097) 0 ≡ length path
   unfolding withPath
   stored-length =
@@ -95,7 +95,7 @@ module _ (table : List ℕ) (n : ℕ) (small : n < 32) (long : length table ≡ 
       ap (λ (j : ℕ). getD (stored table (n * 1097) (length path ∷ path)) j 0) e ∙ h
       ∙ mod-eq-of-lt (omega (arith, fits .groups i p))
 
-  length-with-path : length (withPath table n path) ≡ 35104
+  length-with-path : length (withPath table n path) ≡ rows * 1097
   unfolding withPath
   length-with-path = length-stored table (n * 1097) (length path ∷ path) ∙ long
 
@@ -105,7 +105,7 @@ module _ (table : List ℕ) (n : ℕ) (small : n < 32) (long : length table ≡ 
       ap (λ (k : ℕ). take k (take 8 (drop (n * 1097 + 1) (withPath table n path)))) stored-length
       ∙ ext-getD 0 (take (length path) (take 8 (drop (n * 1097 + 1) (withPath table n path)))) path len each
     where
-      l8 : length (drop (n * 1097 + 1) (withPath table n path)) ≡ 35104 - (n * 1097 + 1)
+      l8 : length (drop (n * 1097 + 1) (withPath table n path)) ≡ rows * 1097 - (n * 1097 + 1)
       l8 = length-drop (n * 1097 + 1) (withPath table n path) ∙ ap (λ (k : ℕ). k - (n * 1097 + 1)) length-with-path
 
       len : length (take (length path) (take 8 (drop (n * 1097 + 1) (withPath table n path)))) ≡ length path
@@ -146,8 +146,8 @@ pub data AllStorable : ℕ → List Located → Type 0 where
 unfoldable pub rowOf : List ℕ → ℕ → Located → List ℕ
 rowOf table n l = charged (withPath table n (l .component .path)) (actsOf l)
 
-module _ (table : List ℕ) (n : ℕ) (small : n < 32) (long : length table ≡ 35104) (l : Located) (ok : Storable n l) where
-  length-row : length (rowOf table n l) ≡ 35104
+module _ {rows : ℕ} (table : List ℕ) (n : ℕ) (small : n < rows) (long : length table ≡ rows * 1097) (l : Located) (ok : Storable n l) where
+  length-row : length (rowOf table n l) ≡ rows * 1097
   unfolding rowOf
   length-row =
       length-charged (withPath table n (l .component .path)) (actsOf l)
@@ -217,14 +217,14 @@ charged-row table n l rest e =
     ap (λ (m : ℕ). chargedAll (charged (withPath table m (l .component .path)) (actsOf l)) rest) e
 
 -- the table keeps its length, and later components leave earlier rows as they are
-length-all : (ls : List Located) (n : ℕ) → AllStorable n ls → n + length ls ≤ 32 → (table : List ℕ) → length table ≡ 35104
-    → length (chargedAll table ls) ≡ 35104
+length-all : {rows : ℕ} (ls : List Located) (n : ℕ) → AllStorable n ls → n + length ls ≤ rows → (table : List ℕ) → length table ≡ rows * 1097
+    → length (chargedAll table ls) ≡ rows * 1097
 length-all [] n store-none h table long = unfold chargedAll in long
 length-all (l ∷ rest) n (store-more ok more) h table long =
     rw (charged-row table n l rest (ok .number))
     (length-all rest (suc n) more (omega arith) (rowOf table n l) (length-row table n (omega arith) long l ok))
 
-rows-kept : (ls : List Located) (n : ℕ) → AllStorable n ls → n + length ls ≤ 32 → (table : List ℕ) → length table ≡ 35104
+rows-kept : {rows : ℕ} (ls : List Located) (n : ℕ) → AllStorable n ls → n + length ls ≤ rows → (table : List ℕ) → length table ≡ rows * 1097
     → (i : ℕ) → i < n * 1097 → getD (chargedAll table ls) i 0 ≡ getD table i 0
 rows-kept [] n store-none h table long i p = unfold chargedAll in refl
 rows-kept (l ∷ rest) n (store-more ok more) h table long i p =
@@ -233,20 +233,20 @@ rows-kept (l ∷ rest) n (store-more ok more) h table long i p =
     ∙ row-before table n (omega arith) long l ok i p)
 
 -- one component's row, in the whole table
-row-in-table : (table : List ℕ) (n : ℕ) (l : Located) (rest : List Located) → Storable n l → AllStorable (suc n) rest
-    → suc n + length rest ≤ 32 → length table ≡ 35104 → Clear n table
+row-in-table : {rows : ℕ} (table : List ℕ) (n : ℕ) (l : Located) (rest : List Located) → Storable n l → AllStorable (suc n) rest
+    → suc n + length rest ≤ rows → length table ≡ rows * 1097 → Clear n table
     → rowEntries (chargedAll (rowOf table n l) rest) n ≡ entriesOf l
 unfolding entriesOf
-row-in-table table n l rest ok more h long clear =
+row-in-table {rows} table n l rest ok more h long clear =
     row-entries (chargedAll (rowOf table n l) rest) n (actsOf l) counted (l .component) (ok .number)
     (sym (agree-path (chargedAll (rowOf table n l) rest) (rowOf table n l) n small
     (length-all rest (suc n) more h (rowOf table n l) long′) long′
     (λ i p q. kept i (omega arith)) ∙ row-path table n small long l ok))
   where
-    small : n < 32
+    small : n < rows
     small = omega arith
 
-    long′ : length (rowOf table n l) ≡ 35104
+    long′ : length (rowOf table n l) ≡ rows * 1097
     long′ = length-row table n small long l ok
 
     kept : (i : ℕ) → i < suc n * 1097 → getD (chargedAll (rowOf table n l) rest) i 0 ≡ getD (rowOf table n l) i 0
@@ -269,7 +269,7 @@ row-in-table table n l rest ok more h long clear =
     }
 
 -- The table of components that are stored one after another holds their entries.
-pub table-from : (ls : List Located) (n : ℕ) → AllStorable n ls → n + length ls ≤ 32 → (table : List ℕ) → length table ≡ 35104
+pub table-from : {rows : ℕ} (ls : List Located) (n : ℕ) → AllStorable n ls → n + length ls ≤ rows → (table : List ℕ) → length table ≡ rows * 1097
     → Clear n table → gather (rowEntries (chargedAll table ls)) (rising n (length ls)) ≡ gather entriesOf ls
 unfolding gather rising
 table-from [] n store-none h table long clear = refl

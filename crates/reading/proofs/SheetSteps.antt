@@ -1,5 +1,5 @@
 -- Reading past a sheet: the free names' types one by one, then the system, then the end; each part's answer decides the whole.
-use Prim.Native.Nat.{ℕ, zero, suc, _-_, _<_, _≤_}
+use Prim.Native.Nat.{ℕ, zero, suc, _+_, _-_, _<_, _≤_}
 use mathlib.Core.List.{List, [], _∷_}
 use mathlib.Core.Path.{_≡_, refl, sym, ap, _∙_}
 use native.Mathlib.Numerals.{sub-one}
@@ -12,9 +12,9 @@ use Rattle.reading.proofs.ProcessSteps.{ended-map}
 use Rattle.reading.proofs.TreeLaws.{free-count}
 use Rattle.reading.specs.Read.{Read, got, refused, andThen, below}
 use Rattle.reading.specs.Types.{typeAt}
-use Rattle.reading.specs.Syntax.{System}
+use Rattle.reading.specs.Syntax.{System, components}
 use Rattle.reading.specs.System.{readSystem, freeTypes, header, toItsEnd, readSheet}
-use Rattle.reading.specs.Told.{number, ending, ended, counted, refusalOf, pathOf}
+use Rattle.reading.specs.Told.{number, ending, ended, counted, countedIn, refusalOf, whyNone, pathOf}
 use Rattle.reading.specs.declared.End.{End}
 use Rattle.reading.specs.declared.End.the-variants as end
 use Rattle.reading.specs.declared.Number.{Number}
@@ -38,10 +38,19 @@ unfolding ended
 ended-refused (got a k) h = never h
 ended-refused (refused a b) {q} {p} h = let v : a ≡ q = cc in let w : b ≡ p = cc in rw (v, w)
 
-counted-got : (n : ℕ) (x : Read System) {v m : ℕ} → got v m ≡ counted n x → Kept x m
+-- a system of which the number of components and the place after it were kept
+record Numbered (x : Read System) (v m : ℕ) : Type 0 where
+  system : System
+  is : x ≡ got system m
+  number-is : v ≡ components system
+
+counted-got : (x : Read System) {v m : ℕ} → got v m ≡ counted 0 x → Numbered x v m
 unfolding counted
-counted-got n (got a k) {v} {m} h = let z : k ≡ m = cc in record { value = a; is = ap (λ (i : ℕ). got a i) z }
-counted-got n (refused q p) h = never (sym h)
+counted-got (got a k) {v} {m} h =
+    let z : k ≡ m = cc in
+    let w : v ≡ 0 + components a = cc in
+    record { system = a; is = ap (λ (i : ℕ). got a i) z; number-is = omega (arith, w) }
+counted-got (refused q p) h = never (sym h)
 
 counted-refused : (n : ℕ) (x : Read System) {q p : ℕ} → refused q p ≡ counted n x → x ≡ refused q p
 unfolding counted
@@ -89,19 +98,18 @@ record Header (s : List ℕ) (n at : ℕ) : Type 0 where
   count : length free ≡ n
 
 module _ (s : List ℕ) (c : NumberRead) where
-  pub count-refused : (q w : Refusal) → c ≡ number-read.Refused q → number c ≡ below 33 s 0 → w ≡ refusalOf c
-      → refused (w .question) (w .at) ≡ ended (readSheet s)
-  unfolding andThen ended readSheet header
-  count-refused q w f e k = let z = sym (rw f at e) in rw (z, k, f)
+  pub count-refused : (q : Refusal) → c ≡ number-read.Refused q → number c ≡ below 33 s 0 → number c ≡ countedIn (readSheet s)
+  unfolding andThen countedIn readSheet header
+  count-refused q f e = let z = sym (rw f at e) in rw (z, f)
 
   module _ (n : Number) (f : c ≡ number-read.Found n) (e : number c ≡ below 33 s 0) (t : End) (h : ending t ≡ ended (freeTypes (n .value) s (n .next))) where
     types-are : header s ≡ freeTypes (n .value) s (n .next)
     unfolding andThen header
     types-are = let z = sym (rw f at e) in rw z
 
-    pub types-refused : (q : Refusal) → t ≡ end.Refused q → ending t ≡ ended (readSheet s)
-    unfolding andThen ended readSheet
-    types-refused q k = rw (types-are, ended-refused (freeTypes (n .value) s (n .next)) {q = q .question} {p = q .at} (rw k at h), k)
+    pub types-refused : (q w : Refusal) → t ≡ end.Refused q → w ≡ whyNone t → refused (w .question) (w .at) ≡ countedIn (readSheet s)
+    unfolding andThen countedIn readSheet
+    types-refused q w k l = rw (types-are, ended-refused (freeTypes (n .value) s (n .next)) {q = q .question} {p = q .at} (rw k at h), l, k)
 
     module _ (at : ℕ) (k : t ≡ end.At at) (p : Path) (i : pathOf p ≡ []) (r : NumberRead) (j : number r ≡ counted 0 (readSystem 64 s (n .value) (pathOf p) 0 at)) where
       head : Header s (n .value) at
@@ -116,21 +124,20 @@ module _ (s : List ℕ) (c : NumberRead) where
       told : number r ≡ counted 0 (readSystem 64 s (n .value) [] 0 at)
       told = rw i at j
 
-      pub system-refused : (q w : Refusal) → r ≡ number-read.Refused q → w ≡ refusalOf r
-          → refused (w .question) (w .at) ≡ ended (readSheet s)
-      unfolding andThen ended
-      system-refused q w l m = rw (sheet-is, counted-refused 0 (readSystem 64 s (n .value) [] 0 at) {q = q .question} {p = q .at} (rw l at told), m, l)
+      pub system-refused : (q : Refusal) → r ≡ number-read.Refused q → number r ≡ countedIn (readSheet s)
+      unfolding andThen countedIn
+      system-refused q l = rw (sheet-is, counted-refused 0 (readSystem 64 s (n .value) [] 0 at) {q = q .question} {p = q .at} (rw l at told), l)
 
       module _ (v : Number) (l : r ≡ number-read.Found v) where
-        found : Kept (readSystem 64 s (n .value) [] 0 at) (v .next)
-        found = counted-got 0 (readSystem 64 s (n .value) [] 0 at) {v = v .value} {m = v .next} (rw l at told)
+        found : Numbered (readSystem 64 s (n .value) [] 0 at) (v .value) (v .next)
+        found = counted-got (readSystem 64 s (n .value) [] 0 at) {v = v .value} {m = v .next} (rw l at told)
 
-        pub to-its-end : v .next ≡ length s → got tt (v .next) ≡ ended (readSheet s)
-        unfolding andThen ended toItsEnd
-        to-its-end m = rw (sheet-is, found .is, eq-eqb (v .next) (length s) m)
+        pub to-its-end : v .next ≡ length s → got (v .value) (v .next) ≡ countedIn (readSheet s)
+        unfolding andThen countedIn toItsEnd
+        to-its-end m = rw (sheet-is, found .is, eq-eqb (v .next) (length s) m) (ap (λ (n : ℕ). got n (v .next)) (found .number-is))
 
-        pub left-over : (v .next ≡ length s → ⊥) → refused 3 (v .next) ≡ ended (readSheet s)
-        unfolding andThen ended toItsEnd
+        pub left-over : (v .next ≡ length s → ⊥) → refused 3 (v .next) ≡ countedIn (readSheet s)
+        unfolding andThen countedIn toItsEnd
         left-over m = rw (sheet-is, found .is, ne-eqb (v .next) (length s) m)
 
 pub ruleset sheet-steps = (needs, count-refused, types-refused, system-refused, to-its-end, left-over)

@@ -3,7 +3,7 @@ use Prim.Native.Nat.{ℕ, _+_}
 use mathlib.Core.List.{List}
 use lib.ListN.{take}
 use Rattle.reading.specs.Read.{Read, got, refused}
-use Rattle.reading.specs.Syntax.{System, components}
+use Rattle.reading.specs.Syntax.{System, Sheet, components}
 use Rattle.reading.specs.declared.Form.{Form}
 use Rattle.reading.specs.declared.Path.{Path}
 use Rattle.reading.specs.declared.Refusal.{Refusal}
@@ -37,10 +37,20 @@ unfoldable pub counted : ℕ → Read System → Read ℕ
 counted before (got system next) = got (before + components system) next
 counted before (refused question at) = refused question at
 
+-- a sheet of which only the number of components is kept
+unfoldable pub countedIn : Read Sheet → Read ℕ
+countedIn (got sheet next) = got (components (sheet .system)) next
+countedIn (refused question at) = refused question at
+
 -- why a number was not read
 abbrev pub refusalOf : NumberRead → Refusal
 refusalOf (number-read.Found n) = record { question = 0; at = 0 }
 refusalOf (number-read.Refused r) = r
+
+-- why nothing was read
+abbrev pub whyNone : End → Refusal
+whyNone (end.At next) = record { question = 0; at = 0 }
+whyNone (end.Refused r) = r
 
 -- why a form was not read
 abbrev pub whyOf : FormRead → Refusal

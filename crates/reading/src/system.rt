@@ -2,7 +2,7 @@
 ghost use mathlib.Core.Path.{_≡_};
 ghost use Prim.Native.Nat.{ℕ, _<_};
 ghost use Rattle.reading.specs.System.{component, readProcess, readSystem, freeTypes, sheetOf, readSheet};
-ghost use Rattle.reading.specs.Told.{number, ending, ended, counted, whyOf, pathOf};
+ghost use Rattle.reading.specs.Told.{number, ending, ended, counted, countedIn, whyNone, whyOf, pathOf};
 use crate::End;
 use crate::Form;
 use crate::FormRead;
@@ -24,6 +24,16 @@ fn why(read: FormRead) -> Refusal
     match read {
         FormRead::Found(_) => Refusal { question: 0, at: 0 },
         FormRead::Refused(r) => r,
+    }
+}
+
+// Why nothing was read.
+fn why_none(end: End) -> Refusal
+    ensures { λ r. ⌜ r ≡ whyNone end ⌝ }
+{
+    match end {
+        End::At(_) => Refusal { question: 0, at: 0 },
+        End::Refused(r) => r,
     }
 }
 
@@ -125,45 +135,44 @@ fn free_types(s: &[u8], at: usize, count: usize) -> End
     End::At(next)
 }
 
-// Questions 2 to 6.
-fn read_sheet(s: &[u8]) -> End
-    ensures { λ r. ⌜ ending r ≡ ended (readSheet (now (s .entry))) ⌝ }
+// Questions 2 to 6. The number found is that of the components.
+fn read_sheet(s: &[u8]) -> NumberRead
+    ensures { λ r. ⌜ number r ≡ countedIn (readSheet (now (s .entry))) ⌝ }
 {
     let count = byte_below(s, 0, 33);
     let NumberRead::Found(free) = count else {
-        return End::Refused(refusal(count));
+        return count;
     };
     let types = free_types(s, free.next, free.value);
     let End::At(start) = types else {
-        return types;
+        return NumberRead::Refused(why_none(types));
     };
     let read = read_system(s, start, 64, free.value, paths::empty(), 0);
     let NumberRead::Found(system) = read else {
-        return End::Refused(refusal(read));
+        return read;
     };
-    let next = system.next;
-    if next == s.len() {
-        End::At(next)
+    if system.next == s.len() {
+        NumberRead::Found(system)
     } else {
-        End::Refused(Refusal {
+        NumberRead::Refused(Refusal {
             question: 3,
-            at: next,
+            at: system.next,
         })
     }
 }
 
-// Questions 1 to 6 of document 01, for a sheet and a charter of any bytes.
-pub fn read(sheet: &[u8], charter: &[u8]) -> End
-    ensures { λ r. ⌜ ending r ≡ ended (sheetOf (now (sheet .entry)) (now (charter .entry))) ⌝ }
+// Questions 1 to 6 of document 01, for a sheet and a charter of any bytes. The number found is that of the sheet's components.
+pub fn read(sheet: &[u8], charter: &[u8]) -> NumberRead
+    ensures { λ r. ⌜ number r ≡ countedIn (sheetOf (now (sheet .entry)) (now (charter .entry))) ⌝ }
 {
     if 4096 < sheet.len() {
-        return End::Refused(Refusal {
+        return NumberRead::Refused(Refusal {
             question: 1,
             at: 4096,
         });
     }
     if 4096 < charter.len() {
-        return End::Refused(Refusal {
+        return NumberRead::Refused(Refusal {
             question: 1,
             at: 4096,
         });

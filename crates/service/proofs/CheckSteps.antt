@@ -7,6 +7,11 @@ use native.Mathlib.Omega.{arith}
 use lib.ListN.{length, getD}
 use borrow.Author.Needs.{needs}
 use borrow.Author.Tests.{le-leb, lt-leb}
+use Rattle.reading.specs.System.{sheetOf}
+use Rattle.reading.specs.Told.{number, countedIn, refusalOf}
+use Rattle.reading.specs.declared.NumberRead.{NumberRead}
+use Rattle.reading.specs.declared.NumberRead.the-variants as number-read
+use Rattle.reading.specs.declared.Refusal.{Refusal}
 use Rattle.reading.proofs.TreeLaws.{sheet-parts}
 use Rattle.inference.specs.Interface.{interface, interfaceBytes}
 use Rattle.inference.specs.Rows.{tableEntries}
@@ -20,6 +25,7 @@ use Rattle.service.specs.declared.Answer.{Answer}
 use Rattle.service.specs.declared.Answer.the-variants as answer-case
 use Rattle.service.specs.declared.Judged.{Judged}
 use Rattle.service.proofs.FirstLaws.{Passed, first-passes, first-fails}
+use Rattle.service.proofs.JudgeSteps.{unread-failed, few-ready, all-ready}
 
 -- Question 19.
 all-bytes : (bs : List ℕ) → ((i : ℕ) → getD bs i 0 < 256) → Bytes bs
@@ -70,4 +76,9 @@ module _ (s c table : List ℕ) (r : Judged) (j : Judges s c table r) where
       let p = first-passes s c (omega (arith, j .first)) in
       delivered output output′ answer p (rw (j .held (p .accepted) (p .passes)) at d)
 
-pub ruleset checking = (needs, refuses, delivers)
+-- A sheet that does not read is refused with the reading's question.
+pub unread-refused : (s c output : List ℕ) (r : NumberRead) (q w : Refusal) → number r ≡ countedIn (sheetOf s c) → r ≡ number-read.Refused q
+    → w ≡ refusalOf r → Checked s c output output (answer-case.Refused (w .question))
+unread-refused s c output r q w e f h = refused-leaves s c output (w .question) (unread-failed s c r e q w f h)
+
+pub ruleset checking = (needs, refuses, delivers, unread-refused, few-ready, all-ready)

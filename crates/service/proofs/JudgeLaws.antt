@@ -222,9 +222,9 @@ later-first sheet c (got policy next) e =
 later-first sheet c (refused q at) e = policy-eleven c q at e
 
 -- The first question that a sheet fails: by the reading, else by the walk's answer, else by the charter's.
-pub judged-unread : (s c : List ℕ) (q at : ℕ) → sheetOf s c ≡ refused q at → q ≡ firstFailed (judged s c)
+pub judged-refused : (s c : List ℕ) (q at : ℕ) → sheetOf s c ≡ refused q at → judged s c ≡ failed q
 unfolding judged
-judged-unread s c q at e = rw e (unfold afterReading firstFailed in refl)
+judged-refused s c q at e = rw e (unfold afterReading in refl)
 
 pub judged-typing : (s c : List ℕ) (sheet : Sheet) (k : ℕ) → sheetOf s c ≡ got sheet k → worstAll (located sheet) < 11
     → worstAll (located sheet) ≡ firstFailed (judged s c)

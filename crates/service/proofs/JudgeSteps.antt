@@ -1,20 +1,21 @@
 -- What each return of the judging functions has to show, over plain values: that the code's number is the first of document 01's
 -- questions 1 to 18 that fails, and that the table holds the interface.
-use Prim.Native.Nat.{ℕ, _<_, _≤_}
+use Prim.Native.Nat.{ℕ, _*_, _<_, _≤_}
 use mathlib.Core.Path.{_≡_, refl, sym, ap, ap₂, _∙_}
 use mathlib.Core.List.{List}
 use mathlib.Core.Bool.{Bool, true, false, not, _&&_}
 use native.Mathlib.Omega.{arith}
-use lib.ListN.{length, replicate}
+use lib.ListN.{length, replicate, length-replicate}
 use lib.Dec.{leb}
 use borrow.Author.Needs.{needs}
 use borrow.Author.Tests.{lt-ltb, le-ltb, not-true, not-false}
 use Rattle.reading.specs.Read.{Read, got, refused}
-use Rattle.reading.specs.Syntax.{Sheet}
+use Rattle.reading.specs.Syntax.{Sheet, components}
 use Rattle.reading.specs.System.{readSheet, sheetOf}
-use Rattle.reading.specs.Told.{ending, ended}
-use Rattle.reading.specs.declared.End.{End}
-use Rattle.reading.specs.declared.End.the-variants as end-case
+use Rattle.reading.specs.Told.{number, countedIn, refusalOf}
+use Rattle.reading.specs.declared.Number.{Number}
+use Rattle.reading.specs.declared.NumberRead.{NumberRead}
+use Rattle.reading.specs.declared.NumberRead.the-variants as number-read
 use Rattle.reading.specs.declared.Refusal.{Refusal}
 use Rattle.reading.proofs.Parts.{never, passed as test-passed}
 use Rattle.reading.proofs.ReadLaws.{one-tree}
@@ -30,10 +31,11 @@ use Rattle.policy.specs.Reading.{readPolicy}
 use Rattle.policy.specs.Loads.{AllHeld, Bounded, LoadedPolicy, unread, loaded, policyFault}
 use Rattle.policy.specs.declared.Trees.{Trees}
 use Rattle.fit.specs.Faults.{entriesFault}
-use Rattle.service.specs.Questions.{passed, Accepted, judged}
+use Rattle.service.specs.Questions.{passed, failed, Accepted, judged}
 use Rattle.service.specs.Later.{policyThenEntries, afterPolicy, laterFault}
-use Rattle.service.specs.Told.{questionOf, Reads, Clear, Judges}
-use Rattle.service.proofs.JudgeLaws.{judged-unread, judged-typing, judged-later}
+use Rattle.service.specs.Told.{firstFailed, Reads, Ready, Judges}
+use Rattle.service.specs.declared.Judged.{Judged}
+use Rattle.service.proofs.JudgeLaws.{judged-refused, judged-typing, judged-later}
 use Rattle.service.proofs.FirstLaws.{passed-reads}
 
 differ : {P : Type 0} → _≡_ {A = Bool} true false → P
@@ -89,10 +91,13 @@ sheet-reads s c sheet k e = test-passed (leb (length s) 4096 && leb (length c) 4
 abbrev Infers : List ℕ → List ℕ → List ℕ → SystemWalk → Type 0
 Infers s table table′ walk = (sheet : Sheet) (k : ℕ) → readSheet s ≡ got sheet k → InferredSheet sheet table table′ walk
 
-pub short-charter : (s c : List ℕ) → Reads s c → length c ≤ 4096
-short-charter s c reads = sheet-parts s c (reads .reads) .short-charter
+pub short-charter : (s c table : List ℕ) → Ready s c table → length c ≤ 4096
+short-charter s c table ready = sheet-parts s c (ready .reads .reads) .short-charter
 
-module _ (s c table table′ : List ℕ) (walk : SystemWalk) (reads : Reads s c) (inferred : Infers s table table′ walk) where
+module _ (s c table table′ : List ℕ) (walk : SystemWalk) (ready : Ready s c table) (inferred : Infers s table table′ walk) where
+  abbrev reads : Reads s c
+  reads = ready .reads
+
   whole : SheetParts s c (reads .tree) (reads .end)
   whole = sheet-parts s c (reads .reads)
 
@@ -102,56 +107,82 @@ module _ (s c table table′ : List ℕ) (walk : SystemWalk) (reads : Reads s c)
   pub few-components : walk .components ≤ 32
   few-components = omega (arith, here .number, sheet-components s c (reads .tree) (reads .end) whole)
 
-  table-is : length table ≡ 35104 → Clear table → tableEntries table′ (walk .components) ≡ interface (reads .tree)
-  table-is long clear =
+  table-is : tableEntries table′ (walk .components) ≡ interface (reads .tree)
+  table-is =
       ap₂ tableEntries (here .counted) (here .number)
-      ∙ sheet-table s c (reads .tree) (reads .end) whole table long (unfold ClearFrom in λ i p. clear .zeros i)
+      ∙ sheet-table s c (reads .tree) (reads .end) whole (ready .rows) (ready .room) table (ready .long) (unfold ClearFrom in λ i p. ready .zeros i)
 
-  holds : length table ≡ 35104 → Clear table → (a : Accepted) → judged s c ≡ passed a → tableEntries table′ (walk .components) ≡ interface (a .sheet)
-  holds long clear a e = table-is long clear ∙ ap interface (one-tree s c (reads .reads) (passed-reads s c a e .reads))
+  holds : (a : Accepted) → judged s c ≡ passed a → tableEntries table′ (walk .components) ≡ interface (a .sheet)
+  holds a e = table-is ∙ ap interface (one-tree s c (reads .reads) (passed-reads s c a e .reads))
 
-  pub typing-fails : length table ≡ 35104 → Clear table → walk .fault < 11 → Judges s c table′ (record { fault = walk .fault; components = walk .components })
-  typing-fails long clear h = record {
+  pub typing-fails : walk .fault < 11 → Judges s c table′ (record { fault = walk .fault; components = walk .components })
+  typing-fails h = record {
     first = here .first ∙ judged-typing s c (reads .tree) (reads .end) (reads .reads) (omega (arith, here .first));
     few = few-components;
-    held = holds long clear;
+    held = holds;
   }
 
-  pub typing-passes : (fault : ℕ) → length table ≡ 35104 → Clear table → 11 ≤ walk .fault → fault ≡ laterFault c (tableEntries table′ (walk .components))
+  pub typing-passes : (fault : ℕ) → 11 ≤ walk .fault → fault ≡ laterFault c (tableEntries table′ (walk .components))
       → Judges s c table′ (record { fault = fault; components = walk .components })
-  typing-passes fault long clear h e = record {
-    first = e ∙ ap (laterFault c) (table-is long clear) ∙ judged-later s c (reads .tree) (reads .end) (reads .reads) (omega (arith, here .first));
+  typing-passes fault h e = record {
+    first = e ∙ ap (laterFault c) table-is ∙ judged-later s c (reads .tree) (reads .end) (reads .reads) (omega (arith, here .first));
     few = few-components;
-    held = holds long clear;
+    held = holds;
   }
 
 -- Questions 1 to 6.
-pub unread-fails : (s c table : List ℕ) (e : End) (q : Refusal) (n : ℕ) → e ≡ end-case.Refused q → ending e ≡ ended (sheetOf s c) → n ≡ questionOf e
-    → Judges s c table (record { fault = n; components = 0 })
-unread-fails s c table e q n f g h = go (sheetOf s c) refl
-  where
-    go : (x : Read Sheet) → sheetOf s c ≡ x → Judges s c table (record { fault = n; components = 0 })
-    go (got a k) i = let z : _≡_ {A = ℕ} 0 1 = unfold ended in cc in absurd (omega arith)
-    go (refused p m) i =
-        let u : refused (q .question) (q .at) ≡ refused p m = ap ending (sym f) ∙ g ∙ (ap ended i ∙ unfold ended in refl) in
-        let v : q .question ≡ p = cc in
-        record {
-          first = h ∙ ap questionOf f ∙ v ∙ judged-unread s c p m i;
-          few = omega arith;
-          held = λ a j. never (sym i ∙ passed-reads s c a j .reads);
-        }
+module _ (s c : List ℕ) (r : NumberRead) (told : number r ≡ countedIn (sheetOf s c)) where
+  pub unread-failed : (q w : Refusal) → r ≡ number-read.Refused q → w ≡ refusalOf r → judged s c ≡ failed (w .question)
+  unread-failed q w f h = go (sheetOf s c) refl
+    where
+      go : (x : Read Sheet) → sheetOf s c ≡ x → judged s c ≡ failed (w .question)
+      go (got a k) i =
+          let u : refused (q .question) (q .at) ≡ got (components (a .system)) k = ap number (sym f) ∙ told ∙ (ap countedIn i ∙ unfold countedIn in refl) in
+          never u
+      go (refused p m) i =
+          let u : refused (q .question) (q .at) ≡ refused p m = ap number (sym f) ∙ told ∙ (ap countedIn i ∙ unfold countedIn in refl) in
+          let v : q .question ≡ p = cc in
+          judged-refused s c p m i ∙ ap failed (sym (ap (λ (x : Refusal). x .question) (h ∙ ap refusalOf f) ∙ v))
 
-pub read-reads : (s c : List ℕ) (e : End) (k : ℕ) → e ≡ end-case.At k → ending e ≡ ended (sheetOf s c) → Reads s c
-read-reads s c e k f g = go (sheetOf s c) refl
-  where
-    go : (x : Read Sheet) → sheetOf s c ≡ x → Reads s c
-    go (got a m) i = record { tree = a; end = m; reads = i }
-    go (refused p m) i =
-        let u : got tt k ≡ refused p m = ap ending (sym f) ∙ g ∙ (ap ended i ∙ unfold ended in refl) in
-        let z : _≡_ {A = ℕ} 0 1 = cc in absurd (omega arith)
+  pub unread-fails : (q w : Refusal) → r ≡ number-read.Refused q → w ≡ refusalOf r → w .question ≡ firstFailed (judged s c)
+  unread-fails q w f h = sym (ap firstFailed (unread-failed q w f h) ∙ unfold firstFailed in refl)
 
--- A new table.
-pub zeros-clear : (n : ℕ) → Clear (replicate n 0)
-zeros-clear n = record { zeros = λ i. unfold ClearFrom in clear-zeros n i (omega arith) }
+  module _ (n : Number) (f : r ≡ number-read.Found n) where
+    record Counts : Type 0 where
+      sheet : Sheet
+      end : ℕ
+      reads : sheetOf s c ≡ got sheet end
+      number-is : n .value ≡ components (sheet .system)
 
-pub ruleset judging = (needs, short-charter, typing-fails, typing-passes, unread-fails, read-reads, zeros-clear)
+    counts : Counts
+    counts = go (sheetOf s c) refl
+      where
+        go : (x : Read Sheet) → sheetOf s c ≡ x → Counts
+        go (got a k) i =
+            let u : got (n .value) (n .next) ≡ got (components (a .system)) k = ap number (sym f) ∙ told ∙ (ap countedIn i ∙ unfold countedIn in refl) in
+            record { sheet = a; end = k; reads = i; number-is = cc }
+        go (refused p m) i =
+            let u : got (n .value) (n .next) ≡ refused p m = ap number (sym f) ∙ told ∙ (ap countedIn i ∙ unfold countedIn in refl) in
+            never (sym u)
+
+    -- a new table of enough rows
+    ready : (rows : ℕ) → n .value ≤ rows → Ready s c (replicate (rows * 1097) 0)
+    ready rows h = record {
+      reads = record { tree = counts .sheet; end = counts .end; reads = counts .reads };
+      rows = rows;
+      room = omega (arith, counts .number-is);
+      long = length-replicate {A = ℕ} (rows * 1097) 0;
+      zeros = λ i. unfold ClearFrom in clear-zeros (rows * 1097) i (omega arith);
+    }
+
+    pub few-ready : n .value ≤ 4 → Ready s c (replicate 4388 0)
+    few-ready h = ready 4 h
+
+    pub all-ready : Ready s c (replicate 35104 0)
+    all-ready = ready 32 (omega (arith, counts .number-is, sheet-components s c (counts .sheet) (counts .end) (sheet-parts s c (counts .reads))))
+
+-- The first question that fails, where the sheet reads.
+pub judges-first : (s c table : List ℕ) (r : Judged) → Judges s c table r → r .fault ≡ firstFailed (judged s c)
+judges-first s c table r j = j .first
+
+pub ruleset judging = (needs, short-charter, typing-fails, typing-passes, unread-fails, few-ready, all-ready, judges-first)

@@ -1,13 +1,11 @@
 -- Which number and values of document 01 each case of an answer is, and what the calls of the services promise.
-use Prim.Native.Nat.{ℕ, _<_, _≤_}
+use Prim.Native.Nat.{ℕ, _*_, _<_, _≤_}
 use mathlib.Core.Path.{_≡_}
 use mathlib.Core.List.{List}
-use lib.ListN.{getD}
+use lib.ListN.{length, getD}
 use Rattle.reading.specs.Read.{got}
-use Rattle.reading.specs.Syntax.{Sheet}
+use Rattle.reading.specs.Syntax.{Sheet, components}
 use Rattle.reading.specs.System.{sheetOf}
-use Rattle.reading.specs.declared.End.{End}
-use Rattle.reading.specs.declared.End.the-variants as end-case
 use Rattle.inference.specs.Interface.{interface}
 use Rattle.inference.specs.Rows.{tableEntries}
 use Rattle.service.specs.Questions.{Asked, passed, failed, Accepted, judged}
@@ -30,19 +28,18 @@ pub record Checked (sheet charter output output′ : List ℕ) (r : Answer) : Ty
   pub answer : told r ≡ checked sheet charter output .answer
   pub lent : output′ ≡ checked sheet charter output .lent
 
--- the question that a reading fails
-abbrev pub questionOf : End → ℕ
-questionOf (end-case.At next) = 0
-questionOf (end-case.Refused r) = r .question
-
 -- A sheet that passes questions 1 to 6 beside a charter.
 pub record Reads (s charter : List ℕ) : Type 0 where
   pub tree : Sheet
   pub end : ℕ
   pub reads : sheetOf s charter ≡ got tree end
 
--- Memory without a count.
-pub record Clear (table : List ℕ) : Type 0 where
+-- A sheet that passes questions 1 to 6, and memory without a count that has a row for each of its components.
+pub record Ready (s charter table : List ℕ) : Type 0 where
+  pub reads : Reads s charter
+  pub rows : ℕ
+  pub room : components (reads .tree .system) ≤ rows
+  pub long : length table ≡ rows * 1097
   pub zeros : (i : ℕ) → getD table i 0 ≡ 0
 
 -- What questions 1 to 18 come to, and a table that holds the interface of a sheet that passes them.

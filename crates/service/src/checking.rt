@@ -4,11 +4,14 @@ ghost use Prim.Native.Nat.{_≤_};
 ghost use lib.ListN.{length};
 ghost use Rattle.inference.specs.Rows.{tableEntries};
 ghost use Rattle.inference.specs.Interface.{interfaceBytes};
-ghost use Rattle.service.specs.Told.{Clear, Delivered, Checked};
+ghost use Rattle.service.specs.Told.{Ready, Delivered, Checked};
 use crate::Answer;
-use crate::judging::judge_sheet;
+use crate::judging::judge_read;
 use interface::interface_len;
 use interface::write_interface;
+use reading::NumberRead;
+use reading::bytes::refusal;
+use reading::system::read;
 
 // Question 19, and the interface.
 fn deliver(table: &[u16], components: usize, output: &mut [u8]) -> Answer
@@ -23,12 +26,12 @@ fn deliver(table: &[u16], components: usize, output: &mut [u8]) -> Answer
     Answer::Accepted(len)
 }
 
-// Questions 1 to 19, with a clear table for the sheet's components.
-fn check_with(sheet: &[u8], charter: &[u8], table: &mut [u16], output: &mut [u8]) -> Answer
-    requires { ⌜ (length (now table) ≡ 35104) × Clear (now table) ⌝ }
+// Questions 7 to 19 of a sheet that reads, with a clear table for its components.
+fn check_read(sheet: &[u8], charter: &[u8], table: &mut [u16], output: &mut [u8]) -> Answer
+    requires { ⌜ Ready (now sheet) (now charter) (now table) ⌝ }
     ensures { λ r. ⌜ Checked (now (sheet .entry)) (now (charter .entry)) (now (output .entry)) (now (output .exit)) r ⌝ }
 {
-    let judged = judge_sheet(sheet, charter, table);
+    let judged = judge_read(sheet, charter, table);
     if judged.fault < 19 {
         return Answer::Refused(judged.fault);
     }
@@ -36,10 +39,18 @@ fn check_with(sheet: &[u8], charter: &[u8], table: &mut [u16], output: &mut [u8]
 }
 
 // Checks a sheet against a charter. The answer and the output's final bytes are those of the definition `checked`, for any bytes
-// in all three slices.
+// in all three slices. A sheet of at most four components, as most are, has a small table to clear.
 pub fn check(sheet: &[u8], charter: &[u8], output: &mut [u8]) -> Answer
     ensures { λ r. ⌜ Checked (now (sheet .entry)) (now (charter .entry)) (now (output .entry)) (now (output .exit)) r ⌝ }
 {
+    let read = read(sheet, charter);
+    let NumberRead::Found(components) = read else {
+        return Answer::Refused(refusal(read).question);
+    };
+    if components.value <= 4 {
+        let mut few = [0u16; 4388];
+        return check_read(sheet, charter, &mut few, output);
+    }
     let mut table = [0u16; 35104];
-    check_with(sheet, charter, &mut table, output)
+    check_read(sheet, charter, &mut table, output)
 }

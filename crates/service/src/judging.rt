@@ -4,14 +4,15 @@ ghost use Prim.Native.Nat.{_≤_};
 ghost use lib.ListN.{length};
 ghost use Rattle.inference.specs.Rows.{tableEntries};
 ghost use Rattle.service.specs.Questions.{judged};
-ghost use Rattle.service.specs.Told.{questionOf, firstFailed, Reads, Clear, Judges};
+ghost use Rattle.service.specs.Told.{firstFailed, Ready, Judges};
 ghost use Rattle.service.specs.Later.{laterFault};
 use crate::Judged;
 use fit::entries::fit;
 use inference::sheet::infer;
 use policy::read::read_policy;
 use policy::wellformed::policy_fault;
-use reading::End;
+use reading::NumberRead;
+use reading::bytes::refusal;
 use reading::system::read;
 
 // Questions 11 to 18, with a table for the charter's nodes: the first that fails, or 19.
@@ -39,19 +40,9 @@ fn judge(charter: &[u8], table: &[u16], components: usize) -> usize
     judge_with(charter, table, components, &mut nodes)
 }
 
-// The question that a reading fails.
-fn question(end: End) -> usize
-    ensures { λ r. ⌜ r ≡ questionOf end ⌝ }
-{
-    match end {
-        End::At(_) => 0,
-        End::Refused(r) => r.question,
-    }
-}
-
 // Questions 7 to 18 of a sheet that reads, with a clear table for its components.
-fn judge_read(sheet: &[u8], charter: &[u8], table: &mut [u16]) -> Judged
-    requires { ⌜ Reads (now sheet) (now charter) × (length (now table) ≡ 35104) × Clear (now table) ⌝ }
+pub fn judge_read(sheet: &[u8], charter: &[u8], table: &mut [u16]) -> Judged
+    requires { ⌜ Ready (now sheet) (now charter) (now table) ⌝ }
     ensures { λ r. ⌜ Judges (now (sheet .entry)) (now (charter .entry)) (now (table .exit)) r ⌝ }
 {
     let walk = infer(sheet, table);
@@ -66,26 +57,20 @@ fn judge_read(sheet: &[u8], charter: &[u8], table: &mut [u16]) -> Judged
     Judged { fault, components }
 }
 
-// Questions 1 to 18, with a clear table for the sheet's components.
-pub fn judge_sheet(sheet: &[u8], charter: &[u8], table: &mut [u16]) -> Judged
-    requires { ⌜ (length (now table) ≡ 35104) × Clear (now table) ⌝ }
-    ensures { λ r. ⌜ Judges (now (sheet .entry)) (now (charter .entry)) (now (table .exit)) r ⌝ }
-{
-    let end = read(sheet, charter);
-    let End::At(_) = end else {
-        return Judged {
-            fault: question(end),
-            components: 0,
-        };
-    };
-    judge_read(sheet, charter, table)
-}
-
 // Questions 1 to 18 of a sheet and a charter: the first that fails, or 19.
 pub fn first_failed(sheet: &[u8], charter: &[u8]) -> usize
     ensures { λ r. ⌜ r ≡ firstFailed (judged (now (sheet .entry)) (now (charter .entry))) ⌝ }
 {
+    let read = read(sheet, charter);
+    let NumberRead::Found(components) = read else {
+        return refusal(read).question;
+    };
+    if components.value <= 4 {
+        let mut few = [0u16; 4388];
+        let judged = judge_read(sheet, charter, &mut few);
+        return judged.fault;
+    }
     let mut table = [0u16; 35104];
-    let judged = judge_sheet(sheet, charter, &mut table);
+    let judged = judge_read(sheet, charter, &mut table);
     judged.fault
 }

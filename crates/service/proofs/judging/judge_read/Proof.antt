@@ -5,7 +5,7 @@ use Rattle.service.proofs.judging.judge_read.Statement.{statement}
 use Rattle.service.proofs.judging.judge_read.Tie as tie
 
 judge-requires : tie.Need-judge-requires
-judge-requires c κs = (few-components _ _ _ _ _ (c .before .before .before .before .before .before .before .before .before .before .pre .0) (c .before .before .before .before .before .infer .ensures), search judging)
+judge-requires c κs = (few-components _ _ _ _ _ (c .before .before .before .before .before .before .before .before .before .before .pre) (c .before .before .before .before .before .infer .ensures), search judging)
 
 pub judge-read-spec : {M : Type 1} → statement M
 judge-read-spec =

@@ -1,11 +1,11 @@
 -- Questions 1 to 18 decide; where they pass, what is delivered is the interface, since the table holds it.
 use Rattle.service.proofs.CheckSteps.{checking}
 use borrow.Author.Needs.{needs}
-use Rattle.service.proofs.checking.check_with.Statement.{statement}
-use Rattle.service.proofs.checking.check_with.Tie as tie
+use Rattle.service.proofs.checking.check_read.Statement.{statement}
+use Rattle.service.proofs.checking.check_read.Tie as tie
 
-pub check-with-spec : {M : Type 1} → statement M
-check-with-spec =
+pub check-read-spec : {M : Type 1} → statement M
+check-read-spec =
     tie.close
     (tie.spec
     (λ c κs. search needs)
