@@ -84,13 +84,9 @@ pub fn running_sheet(idle: usize) -> Vec<u8> {
 /// A charter that lets post 0 read and write kind 0.
 pub const RUNNING_CHARTER: [u8; 5] = [1, 0, 0, 3, 0];
 
-/// 1,024 moves: copies of the send and of the receive, and their meeting, over and over.
-pub fn running_script(idle: usize) -> Vec<u8> {
+/// So many moves: copies of the send and of the receive, and their meeting, over and over.
+pub fn running_script(moves: usize, idle: usize) -> Vec<u8> {
     let at = idle as u8;
-    let mut out = Vec::new();
-    for _ in 0..341 {
-        out.extend_from_slice(&[1, at, 1, at + 2, 4, at, at + 2]);
-    }
-    out.extend_from_slice(&[1, at]);
-    out
+    let turn: [&[u8]; 3] = [&[1, at], &[1, at + 2], &[4, at, at + 2]];
+    (0..moves).flat_map(|i| turn[i % 3].to_vec()).collect()
 }

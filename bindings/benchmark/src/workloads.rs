@@ -25,8 +25,8 @@ pub fn all() -> Vec<Workload> {
     for (size, posts) in [(256, 2), (1024, 8), (4096, 32)] {
         all.push(check(&format!("check, growth: {size} bytes"), inputs::sheet(size, posts, 4), inputs::charter(4)));
     }
-    for (idle, threads) in [(0, "few"), (60, "64")] {
-        all.push(play(&format!("play, 1,024 moves, {threads} threads"), idle));
+    for (moves, idle, threads) in [(1024, 0, "few"), (1024, 60, "64"), (512, 60, "64"), (256, 60, "64")] {
+        all.push(play(&format!("play, {moves} moves, {threads} threads"), moves, idle));
     }
     all
 }
@@ -35,12 +35,12 @@ fn check(name: &str, sheet: Vec<u8>, charter: Vec<u8>) -> Workload {
     Workload { name: name.to_string(), sheet, charter, script: None }
 }
 
-fn play(name: &str, idle: usize) -> Workload {
+fn play(name: &str, moves: usize, idle: usize) -> Workload {
     Workload {
         name: name.to_string(),
         sheet: inputs::running_sheet(idle),
         charter: inputs::RUNNING_CHARTER.to_vec(),
-        script: Some(inputs::running_script(idle)),
+        script: Some(inputs::running_script(moves, idle)),
     }
 }
 
@@ -64,7 +64,7 @@ impl Workload {
         assert_eq!(self.call(1, &mut right), number, "{}", self.name);
         assert!(left == right, "{}: what they write differs", self.name);
         if self.script.is_some() {
-            assert!(number == 1024 && left.chunks(8).all(|record| record[0] == 0), "{}: a move is refused", self.name);
+            assert!(left[..8 * number].chunks(8).all(|record| record[0] == 0), "{}: a move is refused", self.name);
         }
     }
 }

@@ -150,10 +150,13 @@ three-each (d ∷ ds) = omega (arith, three-each ds)
 pub list-length : (ds : List Disclosure) → (length ds ≡ 0 → ⊥) → length (listBytes ds) ≡ 1 + 3 * length ds
 list-length ds h = rw (list-bytes ds h) (omega (arith, three-each ds))
 
-list-few : (ds : List Disclosure) → length ds ≤ 64 → length (listBytes ds) ≤ 193
+pub list-most : (ds : List Disclosure) → length (listBytes ds) ≤ 1 + 3 * length ds
 unfolding listBytes
-list-few [] h = omega arith
-list-few (d ∷ ds) h = omega (arith, three-each (d ∷ ds))
+list-most [] = omega arith
+list-most (d ∷ ds) = omega (arith, three-each (d ∷ ds))
+
+list-few : (ds : List Disclosure) → length ds ≤ 64 → length (listBytes ds) ≤ 193
+list-few ds h = omega (arith, list-most ds)
 
 -- Entries: their map is 0 where they hold no permission.
 none-held : (a b c d : Bool) → bit a 1 + (bit b 2 + (bit c 4 + bit d 16)) ≡ 0 → ((a || b) || (c || d)) ≡ false

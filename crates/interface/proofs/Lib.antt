@@ -7,4 +7,5 @@ pub mod StoreLaws
 pub mod ByteLaws
 pub mod WriteLaws
 pub mod InterfaceLaws
+pub mod SizeLaws
 pub mod InterfaceSteps

@@ -39,7 +39,7 @@ actCount (input x t p) = suc (actCount p)
 actCount (output x y p) = suc (actCount p)
 actCount (repl p) = actCount p
 
-open-acts : (c : Owner) (r : Bool) (scope : List ℕ) (p : Process) → length (acts c r scope p) ≡ actCount p
+pub open-acts : (c : Owner) (r : Bool) (scope : List ℕ) (p : Process) → length (acts c r scope p) ≡ actCount p
 unfolding acts actCount
 open-acts c r scope nil = refl
 open-acts c r scope (par p q) = length-append (acts c r scope p) (acts c r scope q) ∙ ap₂ _+_ (open-acts c r scope p) (open-acts c r scope q)
@@ -86,7 +86,7 @@ module _ (read : ℕ → ℕ → Read Process) (l : (ns m : ℕ) (p : Process) (
   acts-from (Group g) next h e = never e
   acts-from (Component g) next h e = never e
 
-acts-read : (nest : ℕ) (s : List ℕ) (names at : ℕ) {p : Process} {k : ℕ} → readProcess nest s names at ≡ got p k → at + actCount p ≤ k
+pub acts-read : (nest : ℕ) (s : List ℕ) (names at : ℕ) {p : Process} {k : ℕ} → readProcess nest s names at ≡ got p k → at + actCount p ≤ k
 unfolding readProcess
 acts-read zero s names at e =
     let a = parts (processAt s at 0 names) (λ f next. refused 5 at) e in never (a .rest)

@@ -70,6 +70,10 @@ pub passed-reads : (s c : List ℕ) (a : Accepted) → judged s c ≡ passed a �
 unfolding Ends
 passed-reads s c a h = rw h at (judged-ends s c)
 
+pub failed-below : (s c : List ℕ) (n : ℕ) → judged s c ≡ failed n → n < 19
+unfolding Ends
+failed-below s c n h = rw h at (judged-ends s c)
+
 -- A sheet and a charter that pass questions 1 to 18.
 pub record Passed (s c : List ℕ) : Type 0 where
   pub accepted : Accepted

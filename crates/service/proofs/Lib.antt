@@ -4,5 +4,6 @@ pub mod Table
 pub mod Cases
 pub mod JudgeLaws
 pub mod FirstLaws
+pub mod RoomLaws
 pub mod JudgeSteps
 pub mod CheckSteps

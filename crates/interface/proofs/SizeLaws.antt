@@ -1,0 +1,302 @@
+-- How long an interface can be: twelve bytes for the entry of a component and a kind, and three for each group disclosed to. An
+-- act discloses to one group at most and takes at least one byte of the sheet, so that 32 components and 4,096 bytes make at most
+-- 18,432 bytes of interface.
+use Prim.Native.Nat.{ℕ, zero, suc, _+_, _*_, _<_, _≤_}
+use mathlib.Core.Path.{_≡_, refl, sym, ap, ap₂, _∙_}
+use mathlib.Core.List.{List, [], _∷_, _++_, map}
+use mathlib.Core.Bool.{Bool, true, false, cond, not, _&&_}
+use native.Mathlib.Omega.{arith}
+use native.Mathlib.Decide.{ℕ-discrete}
+use lib.ListN.{length, length-append}
+use lib.Dec.{eqb}
+use borrow.Author.Tests.{eq-eqb, ne-eqb}
+use Rattle.reading.specs.Read.{Read, got, refused, andThen}
+use Rattle.reading.specs.Syntax.{Process, System, nilₛ, parₛ, groupₛ, newₛ, compₛ, Sheet, components}
+use Rattle.reading.specs.Forms.{systemAt}
+use Rattle.reading.specs.System.{component, systemFrom, readProcess, readSystem}
+use Rattle.reading.specs.declared.Form.{Form}
+use Rattle.reading.specs.declared.Form.the-variants.{Nil, Par, Group, New, Component, Input, Output, Replicate}
+use Rattle.reading.proofs.Parts.{never, parts}
+use Rattle.reading.proofs.ReadLaws.{system-local}
+use Rattle.reading.proofs.Local.{place-after}
+use Rattle.reading.proofs.TreeLaws.{SheetParts}
+use Rattle.inference.specs.Lists.{only, gather, rising}
+use Rattle.inference.specs.Counts.{Count, fin, unlimited, _⊕_, repeatedly, isZero}
+use Rattle.inference.specs.Acts.{Act, Component as Owner, Located, acts, actsOf, locate, located}
+use Rattle.inference.specs.Needs.{needOf, disclosures, weigh, total, disclosed}
+use Rattle.inference.specs.declared.Need.{Need}
+use Rattle.inference.specs.declared.Need.the-variants.{Nothing, Read as Reading, Write, Access, Disclose}
+use Rattle.inference.specs.Interface.{Disclosure, Entry, disclosuresOf, entryOf, holdsAny, entriesOf, interface, listBytes, entryBytes, interfaceBytes}
+use Rattle.inference.proofs.CountLaws.{nothing-join}
+use Rattle.interface.proofs.TableLaws.{AllStorable, store-none, store-more}
+use Rattle.interface.proofs.StoreLaws.{actCount, open-acts, acts-read, located-count, sheet-storable, sheet-components}
+use Rattle.interface.proofs.InterfaceLaws.{entry-length, list-most}
+
+-- The sum over the numbers from a start on.
+sum : (ℕ → ℕ) → ℕ → ℕ → ℕ
+sum w start zero = 0
+sum w start (suc n) = w start + sum w (suc start) n
+
+sum-most : (v w : ℕ → ℕ) → ((i : ℕ) → v i ≤ w i) → (start n : ℕ) → sum v start n ≤ sum w start n
+unfolding sum
+sum-most v w h start zero = omega arith
+sum-most v w h start (suc n) = omega (arith, h start, sum-most v w h (suc start) n)
+
+sum-plus : (v w : ℕ → ℕ) (start n : ℕ) → sum (λ i. v i + w i) start n ≡ sum v start n + sum w start n
+unfolding sum
+sum-plus v w start zero = refl
+sum-plus v w start (suc n) = omega (arith, sum-plus v w (suc start) n)
+
+sum-entries : (v : ℕ → ℕ) (start n : ℕ) → sum (λ i. 12 + 3 * v i) start n ≡ 12 * n + 3 * sum v start n
+unfolding sum
+sum-entries v start zero = refl
+sum-entries v start (suc n) = omega (arith, sum-entries v (suc start) n)
+
+sum-nothing : (start n : ℕ) → sum (λ i. 0) start n ≡ 0
+unfolding sum
+sum-nothing start zero = refl
+sum-nothing start (suc n) = omega (arith, sum-nothing (suc start) n)
+
+-- One number is counted once.
+one : ℕ → ℕ → ℕ
+one t i = cond (eqb t i) 1 0
+
+sum-past : (t start n : ℕ) → t < start → sum (one t) start n ≡ 0
+unfolding sum one
+sum-past t start zero h = refl
+sum-past t start (suc n) h = rw (ne-eqb t start (λ e. omega arith)) (omega (arith, sum-past t (suc start) n (omega arith)))
+
+sum-one : (t start n : ℕ) → sum (one t) start n ≤ 1
+unfolding sum
+sum-one t start zero = omega arith
+sum-one t start (suc n) = go (ℕ-discrete t start) (sum-one t (suc start) n)
+  where
+    go : Dec (t ≡ start) → sum (one t) (suc start) n ≤ 1 → one t start + sum (one t) (suc start) n ≤ 1
+    go (yes e) h = omega (arith, here, sum-past t (suc start) n (omega arith))
+      where
+        here : one t start ≡ 1
+        here = unfold one in rw (eq-eqb t start e) refl
+    go (no f) h = omega (arith, off)
+      where
+        off : one t start ≡ 0
+        off = unfold one in rw (ne-eqb t start f) refl
+
+chosen-count : {A : Type 0} (q : A → Bool) (f : ℕ → A) (start n : ℕ) → length (only q (map f (rising start n))) ≡ sum (λ i. cond (q (f i)) 1 0) start n
+unfolding sum only rising
+chosen-count q f start zero = refl
+chosen-count {A} q f start (suc n) = go (q (f start)) (only q (map f (rising (suc start) n))) (chosen-count q f (suc start) n)
+  where
+    go : (b : Bool) (l : List A) {m : ℕ} → length l ≡ m → length (cond b (f start ∷ l) l) ≡ cond b 1 0 + m
+    go true l e = omega (arith, e)
+    go false l e = omega (arith, e)
+
+-- An act discloses data of one kind to one group at most.
+groups : ℕ → Need → ℕ
+groups k n = sum (λ g. disclosures k g n) 0 64
+
+groups-of-kind : (t h k : ℕ) → groups k (Disclose t h) ≤ one t k
+unfolding groups disclosures one
+groups-of-kind t h k = go (eqb t k)
+  where
+    go : (b : Bool) → sum (λ g. cond (b && eqb h g) 1 0) 0 64 ≤ cond b 1 0
+    go true = unfold one in sum-one h 0 64
+    go false = omega (arith, sum-nothing 0 64)
+
+no-groups : (n : Need) → ((k g : ℕ) → disclosures k g n ≡ 0) → sum (λ k. groups k n) 0 16 ≤ 1
+unfolding groups
+no-groups n e = omega (
+  arith,
+  sum-most (λ k. sum (λ g. disclosures k g n) 0 64) (λ k. 0)
+  (λ k. omega (arith, sum-most (λ g. disclosures k g n) (λ g. 0) (λ g. omega (arith, e k g)) 0 64, sum-nothing 0 64)) 0 16,
+  sum-nothing 0 16,
+)
+
+discloses-once : (n : Need) → sum (λ k. groups k n) 0 16 ≤ 1
+discloses-once Nothing = no-groups Nothing (λ k g. unfold disclosures in refl)
+discloses-once (Reading t) = no-groups (Reading t) (λ k g. unfold disclosures in refl)
+discloses-once (Write t) = no-groups (Write t) (λ k g. unfold disclosures in refl)
+discloses-once (Access t) = no-groups (Access t) (λ k g. unfold disclosures in refl)
+discloses-once (Disclose t h) =
+    omega (arith, sum-most (λ k. groups k (Disclose t h)) (one t) (groups-of-kind t h) 0 16, sum-one t 0 16)
+
+-- So acts disclose to no more groups than they are many.
+held : List Act → ℕ → ℕ → ℕ
+held l k g = cond (not (isZero (disclosed k g l))) 1 0
+
+heldOf : List Act → ℕ → ℕ
+heldOf l k = sum (held l k) 0 64
+
+join-held : (d : ℕ) (r : Bool) (x : Count) → cond (not (isZero (weigh r d ⊕ x))) 1 0 ≤ d + cond (not (isZero x)) 1 0
+unfolding weigh repeatedly
+join-held zero true x = rw (nothing-join x) (omega arith)
+join-held zero false x = rw (nothing-join x) (omega arith)
+join-held (suc d) r x = go (not (isZero (weigh r (suc d) ⊕ x)))
+  where
+    go : (b : Bool) → cond b 1 0 ≤ suc d + cond (not (isZero x)) 1 0
+    go true = omega arith
+    go false = omega arith
+
+held-more : (a : Act) (rest : List Act) (k g : ℕ) → held (a ∷ rest) k g ≤ disclosures k g (needOf a) + held rest k g
+unfolding held disclosed total
+held-more a rest k g = join-held (disclosures k g (needOf a)) (a .repeated) (total (λ b. disclosures k g (needOf b)) rest)
+
+held-of-more : (a : Act) (rest : List Act) (k : ℕ) → heldOf (a ∷ rest) k ≤ groups k (needOf a) + heldOf rest k
+unfolding heldOf groups
+held-of-more a rest k = omega (
+  arith,
+  sum-most (held (a ∷ rest) k) (λ g. disclosures k g (needOf a) + held rest k g) (held-more a rest k) 0 64,
+  sum-plus (λ g. disclosures k g (needOf a)) (held rest k) 0 64,
+)
+
+held-few : (l : List Act) → sum (heldOf l) 0 16 ≤ length l
+held-few [] = omega (arith, sum-most (heldOf []) (λ k. 0) none 0 16, sum-nothing 0 16)
+  where
+    none : (k : ℕ) → heldOf [] k ≤ 0
+    none k = unfold heldOf in omega (
+      arith,
+      sum-most (held [] k) (λ g. 0) (λ g. unfold held disclosed total isZero in omega arith) 0 64,
+      sum-nothing 0 64,
+    )
+held-few (a ∷ rest) = omega (
+  arith,
+  sum-most (heldOf (a ∷ rest)) (λ k. groups k (needOf a) + heldOf rest k) (held-of-more a rest) 0 16,
+  sum-plus (λ k. groups k (needOf a)) (heldOf rest) 0 16,
+  discloses-once (needOf a),
+  held-few rest,
+)
+
+-- An entry, and the entries of a component.
+entry-size : (c : Owner) (l : List Act) (k : ℕ) → length (c .path) ≤ 8 → length (entryBytes (entryOf c l k)) ≤ 12 + 3 * heldOf l k
+unfolding entryOf disclosuresOf
+entry-size c l k h = omega (
+  arith,
+  entry-length (entryOf c l k),
+  list-most (disclosuresOf k l),
+  chosen,
+)
+  where
+    chosen : length (disclosuresOf k l) ≡ heldOf l k
+    chosen = unfold heldOf held in
+        chosen-count (λ d. not (isZero (d .count))) (λ g. record { group = g; count = disclosed k g l }) 0 64
+
+entries-size : (f : ℕ → Entry) (w : ℕ → ℕ) → ((k : ℕ) → length (entryBytes (f k)) ≤ w k) → (start n : ℕ)
+    → length (interfaceBytes (only holdsAny (map f (rising start n)))) ≤ sum w start n
+unfolding sum only rising interfaceBytes gather
+entries-size f w h start zero = omega arith
+entries-size f w h start (suc n) = go (holdsAny (f start)) (only holdsAny (map f (rising (suc start) n)))
+    (entries-size f w h (suc start) n)
+  where
+    go : (b : Bool) (es : List Entry) → length (gather entryBytes es) ≤ sum w (suc start) n
+        → length (gather entryBytes (cond b (f start ∷ es) es)) ≤ w start + sum w (suc start) n
+    go true es e = unfold gather in omega (arith, length-append (entryBytes (f start)) (gather entryBytes es), h start)
+    go false es e = omega arith
+
+component-size : (l : Located) → length (l .component .path) ≤ 8 → length (interfaceBytes (entriesOf l)) ≤ 192 + 3 * length (actsOf l)
+unfolding entriesOf
+component-size l h = omega (
+  arith,
+  entries-size (entryOf (l .component) (actsOf l)) (λ k. 12 + 3 * heldOf (actsOf l) k) (λ k. entry-size (l .component) (actsOf l) k h) 0 16,
+  sum-entries (heldOf (actsOf l)) 0 16,
+  held-few (actsOf l),
+)
+
+-- The acts of components together.
+actsIn : List Located → ℕ
+actsIn [] = 0
+actsIn (l ∷ rest) = length (actsOf l) + actsIn rest
+
+acts-append : (xs ys : List Located) → actsIn (xs ++ ys) ≡ actsIn xs + actsIn ys
+unfolding actsIn
+acts-append [] ys = omega arith
+acts-append (x ∷ xs) ys = omega (arith, acts-append xs ys)
+
+bytes-append : (xs ys : List Entry) → length (interfaceBytes (xs ++ ys)) ≡ length (interfaceBytes xs) + length (interfaceBytes ys)
+unfolding interfaceBytes gather
+bytes-append [] ys = omega arith
+bytes-append (x ∷ xs) ys = omega (
+  arith,
+  length-append (entryBytes x) (gather entryBytes (xs ++ ys)),
+  length-append (entryBytes x) (gather entryBytes xs),
+  bytes-append xs ys,
+)
+
+all-size : (n : ℕ) (ls : List Located) → AllStorable n ls → length (interfaceBytes (gather entriesOf ls)) ≤ 192 * length ls + 3 * actsIn ls
+unfolding gather actsIn
+all-size n [] store-none = unfold interfaceBytes gather in omega arith
+all-size n (l ∷ rest) (store-more ok more) = omega (
+  arith,
+  bytes-append (entriesOf l) (gather entriesOf rest),
+  component-size l (ok .fits .short),
+  all-size (suc n) rest more,
+)
+
+-- Each act takes at least one byte of the sheet.
+module _ (read : ℕ → List ℕ → ℕ → ℕ → Read System) (process : ℕ → Read Process)
+    (l : (ns : ℕ) (path : List ℕ) (posts m : ℕ) (scope : List ℕ) (p : System) (k : ℕ) → read ns path posts m ≡ got p k
+    → m + actsIn (locate posts path scope p) ≤ k)
+    (a : (m : ℕ) (p : Process) (k : ℕ) → process m ≡ got p k → m + actCount p ≤ k)
+    (at names : ℕ) (path : List ℕ) (posts : ℕ) (scope : List ℕ) where
+  located-from : (f : Form) (next : ℕ) → at < next → {p : System} {k : ℕ}
+      → systemFrom read process at names path posts f next ≡ got p k → at + actsIn (locate posts path scope p) ≤ k
+  unfolding systemFrom component locate actsIn actsOf
+  located-from Nil next h {p} {k} e = let z : nilₛ ≡ p = cc in let w : next ≡ k = cc in rw (← z) (omega arith)
+  located-from Par next h {p} {k} e =
+      let x = parts (read names path posts next) (λ u m. andThen (read names path (posts + components u) m) (λ v j. got (parₛ u v) j)) e in
+      let y = parts (read names path (posts + components (x .value)) (x .place)) (λ v j. got (parₛ (x .value) v) j) (x .rest) in
+      let z : parₛ (x .value) (y .value) ≡ p = cc in
+      let w : y .place ≡ k = cc in
+      rw (← z) (omega (
+        arith,
+        acts-append (locate posts path scope (x .value)) (locate (posts + components (x .value)) path scope (y .value)),
+        l names path posts next scope (x .value) (x .place) (x .first),
+        l names path (posts + components (x .value)) (x .place) scope (y .value) (y .place) (y .first),
+      ))
+  located-from (Group b) next h {p} {k} e =
+      let x = parts (read names (path ++ (b ∷ [])) posts next) (λ u j. got (groupₛ b u) j) e in
+      let z : groupₛ b (x .value) ≡ p = cc in
+      let w : x .place ≡ k = cc in
+      rw (← z) (omega (arith, l names (path ++ (b ∷ [])) posts next scope (x .value) (x .place) (x .first)))
+  located-from (New t) next h {p} {k} e =
+      let x = parts (read (names + 1) path posts next) (λ u j. got (newₛ t u) j) e in
+      let z : newₛ t (x .value) ≡ p = cc in
+      let w : x .place ≡ k = cc in
+      rw (← z) (omega (arith, l (names + 1) path posts next (scope ++ (t ∷ [])) (x .value) (x .place) (x .first)))
+  located-from (Component b) next h {p} {k} e =
+      let x = parts (process next) (λ u j. got (compₛ b u) j) e in
+      let z : compₛ b (x .value) ≡ p = cc in
+      let w : x .place ≡ k = cc in
+      rw (← z) (omega (
+        arith,
+        open-acts (record { number = posts; path = path ++ (b ∷ []) }) false scope (x .value),
+        a next (x .value) (x .place) (x .first),
+      ))
+  located-from (Input i) next h e = never e
+  located-from (Output i) next h e = never e
+  located-from Replicate next h e = never e
+
+located-acts : (nest : ℕ) (s : List ℕ) (names : ℕ) (path : List ℕ) (posts at : ℕ) (scope : List ℕ) (p : System) (k : ℕ)
+    → readSystem nest s names path posts at ≡ got p k → at + actsIn (locate posts path scope p) ≤ k
+unfolding readSystem
+located-acts zero s names path posts at scope p k e =
+    let x = parts (systemAt s at 0 names path posts) (λ f next. refused 5 at) e in never (x .rest)
+located-acts (suc n) s names path posts at scope p k e =
+    let x = parts (systemAt s at (suc n) names path posts)
+    (λ f next. systemFrom (λ ns q i m. readSystem n s ns q i m) (λ m. readProcess n s names m) at names path posts f next) e in
+    located-from (λ ns q i m. readSystem n s ns q i m) (λ m. readProcess n s names m)
+    (λ ns q i m sc r j f. located-acts n s ns q i m sc r j f) (λ m r j f. acts-read n s names m f) at names path posts scope
+    (x .value) (x .place)
+    (omega (arith, place-after (at + 1) (λ b. systemAt b at (suc n) names path posts) (system-local at (suc n) names path posts) s (x .first)))
+    (x .rest)
+
+-- The interface of a sheet that was read has at most 18,432 bytes.
+pub interface-short : (s charter : List ℕ) (sheet : Sheet) (k : ℕ) → SheetParts s charter sheet k → length (interfaceBytes (interface sheet)) ≤ 18432
+unfolding interface located
+interface-short s charter sheet k h = omega (
+  arith,
+  all-size 0 (locate 0 [] (sheet .free) (sheet .system)) (sheet-storable s charter sheet k h),
+  located-count 0 [] (sheet .free) (sheet .system),
+  sheet-components s charter sheet k h,
+  located-acts 64 s (length (sheet .free)) [] 0 (h .start) (sheet .free) (sheet .system) k (h .body),
+  h .end,
+  h .short,
+)
