@@ -107,7 +107,7 @@ unfolding groups
 no-groups n e = omega (
   arith,
   sum-most (λ k. sum (λ g. disclosures k g n) 0 64) (λ k. 0)
-  (λ k. omega (arith, sum-most (λ g. disclosures k g n) (λ g. 0) (λ g. omega (arith, e k g)) 0 64, sum-nothing 0 64)) 0 16,
+      (λ k. omega (arith, sum-most (λ g. disclosures k g n) (λ g. 0) (λ g. omega (arith, e k g)) 0 64, sum-nothing 0 64)) 0 16,
   sum-nothing 0 16,
 )
 

@@ -34,7 +34,7 @@ Small (failed q) = q < 63
 code-tells : (x : Asked ℕ) → Small x → Tells x (codeOf x)
 unfolding Small codeOf
 code-tells (passed n) h = rw (lt-ltb n 4294967296 h) accepts
-code-tells (failed q) h = rw (lt-ltb q 63 h) (refuses (omega arith))
+code-tells (failed q) h = rw (lt-ltb q 63 h) (refuses {q = q} (omega arith))
 
 small-check : (x : Asked ℕ) → InRange x → Small x
 unfolding Small InRange
@@ -53,6 +53,10 @@ unfolding asTwentyOne
 twenty-one (got a k) e = let z : _≡_ {A = ℕ} 0 1 = cc in absurd (omega arith)
 twenty-one (refused p k) {q} e = let z : _≡_ {A = ℕ} 21 q = cc in sym z
 
+script-question : (script : List ℕ) {q at : ℕ} → readScript script ≡ refused q at → q ≡ 21
+unfolding readScript
+script-question script e = twenty-one (movesFrom 1024 script 0) e
+
 module _ (script log : List ℕ) where
   small-log : (begin : State) (moves : List Move) → length moves ≤ 1024 → (b : Bool)
       → Small (outcomeOf log (ask 22 b (passed (record { begin = begin; moves = moves }))) .answer)
@@ -66,7 +70,7 @@ module _ (script log : List ℕ) where
   small-script begin (got moves k) e =
       small-log begin moves (script-few script (script-moves script e)) (leb (8 * length moves) (length log))
   small-script begin (refused q at) e =
-      unfold outcomeOf Small in omega (arith, unfold readScript in twenty-one (movesFrom 1024 script 0) e)
+      unfold outcomeOf Small in omega (arith, script-question script e)
 
   small-start : (a : Accepted) (b : Bool)
       → Small (outcomeOf log (logged log (ask 20 b (afterReading (readScript script) (λ moves. passed (record { begin = start (a .sheet); moves = moves }))))) .answer)
