@@ -39,7 +39,8 @@ abbrev pub extent : List ℕ → ℕ → ℕ → ℕ
 extent table n k = getD table (cellOf n k 67) 0
 
 -- counting leaves the extents
-count-extent : (table : List ℕ) (n kind column : ℕ) (repeated : Bool) (k : ℕ) → extent (chargeCell table n kind column repeated) n k ≡ extent table n k
+count-extent : (table : List ℕ) (n kind column : ℕ) (repeated : Bool) (k : ℕ)
+    → extent (chargeCell table n kind column repeated) n k ≡ extent table n k
 unfolding chargeCell chargeAt
 count-extent table n kind column repeated k = go (ltb kind 16) (ltb column 67) refl
   where
@@ -124,7 +125,8 @@ weighs-nothing false = refl
 
 -- Acts of one component: the extent grows, and what they leave is past each group that they disclose to.
 module _ {rows : ℕ} (n : ℕ) (small : n < rows) (k : ℕ) (kind : k < 16) where
-  charged-grows : (table : List ℕ) → length table ≡ rows * 1097 → {acts : List Act} → AllOf n acts → extent table n k ≤ extent (charged table acts) n k
+  charged-grows : (table : List ℕ) → length table ≡ rows * 1097 → {acts : List Act} → AllOf n acts
+      → extent table n k ≤ extent (charged table acts) n k
   unfolding charged
   charged-grows table long of-none = omega arith
   charged-grows table long (of-more {a = a} {rest = rest} e more) =

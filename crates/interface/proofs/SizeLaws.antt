@@ -81,7 +81,8 @@ sum-one t start (suc n) = go (ℕ-discrete t start) (sum-one t (suc start) n)
         off : one t start ≡ 0
         off = unfold one in rw (ne-eqb t start f) refl
 
-chosen-count : {A : Type 0} (q : A → Bool) (f : ℕ → A) (start n : ℕ) → length (only q (map f (rising start n))) ≡ sum (λ i. cond (q (f i)) 1 0) start n
+chosen-count : {A : Type 0} (q : A → Bool) (f : ℕ → A) (start n : ℕ)
+    → length (only q (map f (rising start n))) ≡ sum (λ i. cond (q (f i)) 1 0) start n
 unfolding sum only rising
 chosen-count q f start zero = refl
 chosen-count {A} q f start (suc n) = go (q (f start)) (only q (map f (rising (suc start) n))) (chosen-count q f (suc start) n)
@@ -289,7 +290,8 @@ located-acts (suc n) s names path posts at scope p k e =
     (x .rest)
 
 -- The interface of a sheet that was read has at most 18,432 bytes.
-pub interface-short : (s charter : List ℕ) (sheet : Sheet) (k : ℕ) → SheetParts s charter sheet k → length (interfaceBytes (interface sheet)) ≤ 18432
+pub interface-short : (s charter : List ℕ) (sheet : Sheet) (k : ℕ) → SheetParts s charter sheet k
+    → length (interfaceBytes (interface sheet)) ≤ 18432
 unfolding interface located
 interface-short s charter sheet k h = omega (
   arith,

@@ -29,7 +29,8 @@ pub check-in-range : (s c output : List ℕ) → InRange (checked s c output .an
 unfolding checked
 check-in-range s c output = go (judged s c) refl
   where
-    fits : (a : Accepted) (b : Bool) → judged s c ≡ passed a → InRange (written output (ask 19 b (passed (interfaceBytes (interface (a .sheet))))) .answer)
+    fits : (a : Accepted) (b : Bool) → judged s c ≡ passed a
+        → InRange (written output (ask 19 b (passed (interfaceBytes (interface (a .sheet))))) .answer)
     fits a true e = unfold written ask InRange in accepted-short s c a e
     fits a false e = unfold written ask InRange in omega arith
 

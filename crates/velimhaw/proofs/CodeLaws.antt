@@ -73,7 +73,8 @@ module _ (script log : List ℕ) where
       unfold outcomeOf Small in omega (arith, script-question script e)
 
   small-start : (a : Accepted) (b : Bool)
-      → Small (outcomeOf log (logged log (ask 20 b (afterReading (readScript script) (λ moves. passed (record { begin = start (a .sheet); moves = moves }))))) .answer)
+      → Small (outcomeOf log (logged log (ask 20 b
+      (afterReading (readScript script) (λ moves. passed (record { begin = start (a .sheet); moves = moves }))))) .answer)
   unfolding ask
   small-start a true = small-script (start (a .sheet)) (readScript script) refl
   small-start a false = unfold logged outcomeOf Small in omega arith

@@ -5,7 +5,7 @@ use Rattle.list.proofs.print_entries.Statement.{statement}
 use Rattle.list.proofs.print_entries.Tie as tie
 
 abbrev Inv-loop : tie.InvT-loop
-Inv-loop interface at₀ turns₀ at turns = turns ≤ 4096
+Inv-loop interface at₀ turns₀ at turns = turns ≤ 4608
 
 abbrev μ-loop : tie.MeasureT-loop
 μ-loop interface at₀ turns₀ at turns = turns
