@@ -86,7 +86,8 @@ fn counts_covered(
     givers: Givers,
 ) -> bool
     requires { ⌜ (component < 32) × (kind < 16) ⌝ }
-    ensures { λ r. ⌜ r ≡ countsCoverFrom 0 (extentAt (now (table .entry)) component kind) (now (c .entry)) (now (nodes .entry)) (givenRows givers)
+    ensures { λ r. ⌜ r ≡ countsCoverFrom 0 (extentAt (now (table .entry)) component kind) (now (c .entry)) (now (nodes .entry))
+        (givenRows givers)
         (now (table .entry)) component kind ⌝ }
 {
     let extent = extent_at(table, component, kind);

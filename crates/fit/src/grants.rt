@@ -45,7 +45,8 @@ pub fn tree_for(trees: Trees, kind: usize) -> usize
 // How deep a node may stand to be reached, after a node: below one that is reached, one deeper than that.
 fn limit_after(node: Node, limit: usize, path: Path) -> usize
     requires { ⌜ node .depth < 8 ⌝ }
-    ensures { λ r. ⌜ r ≡ cond (ltb limit (node .depth)) limit (cond (member (node .group) (pathOf path)) (node .depth + 1) (node .depth)) ⌝ }
+    ensures { λ r. ⌜ r ≡ cond (ltb limit (node .depth)) limit
+        (cond (member (node .group) (pathOf path)) (node .depth + 1) (node .depth)) ⌝ }
 {
     if limit < node.depth {
         return limit;
@@ -71,7 +72,8 @@ fn gives(node: Node, limit: usize, group: usize) -> bool
 // The row of the first node of a group that a path reaches in a tree, or 64.
 fn giver(nodes: &[usize], tree: Span, path: Path, group: usize) -> usize
     requires { ⌜ tree .to ≤ 64 ⌝ }
-    ensures { λ r. ⌜ ((c : List ℕ) → r ≡ giverIn (pathOf path) group 0 (tree .from) (flats c (now (nodes .entry)) (tree .from) (tree .to - tree .from))) ⌝ }
+    ensures { λ r. ⌜ ((c : List ℕ) → r ≡ giverIn (pathOf path) group 0 (tree .from)
+        (flats c (now (nodes .entry)) (tree .from) (tree .to - tree .from))) ⌝ }
 {
     let mut limit: usize = 0;
     let mut i = tree.from;
@@ -90,7 +92,8 @@ fn giver(nodes: &[usize], tree: Span, path: Path, group: usize) -> usize
 pub fn givers(nodes: &[usize], tree: Span, path: Path) -> Givers
     requires { ⌜ tree .to ≤ 64 ⌝ }
     ensures { λ r. ⌜ ((c : List ℕ) → givenRows r
-        ≡ map (λ g. giverIn (pathOf path) g 0 (tree .from) (flats c (now (nodes .entry)) (tree .from) (tree .to - tree .from))) (pathOf path)) ⌝ }
+        ≡ map (λ g. giverIn (pathOf path) g 0 (tree .from) (flats c (now (nodes .entry)) (tree .from) (tree .to - tree .from)))
+        (pathOf path)) ⌝ }
 {
     let groups = path.groups;
     let len = path.len;

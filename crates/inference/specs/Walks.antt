@@ -65,7 +65,8 @@ pub record Inferred (t : Grown Process) (walked : List Act) (names : ℕ) (scope
 -- The same, in a context: whose acts they are, and whether they stand under a repeat.
 abbrev pub InferredIn : Context → Grown Process → ℕ → List ℕ → List ℕ → List ℕ → List ℕ → Walk → Type 0
 InferredIn c t names scope scope′ table table′ r =
-    Inferred t (acts (record { number = c .component; path = pathOf (c .path) }) (c .repeated) (take names scope) (t .tree)) names scope scope′ table table′ r
+    Inferred t (acts (record { number = c .component; path = pathOf (c .path) }) (c .repeated) (take names scope) (t .tree))
+    names scope scope′ table table′ r
 
 -- Where a form binds a name, there is room for it.
 unfoldable pub binds : ℕ → Form → Bool
@@ -79,7 +80,8 @@ binds names (Output a) = true
 binds names Replicate = true
 
 -- A walk over a system: `ls` are its components, `before` the number of those before it.
-pub record InferredSystem (t : Grown System) (ls : List Located) (before names : ℕ) (scope scope′ table table′ : List ℕ) (r : SystemWalk) : Type 0 where
+pub record InferredSystem (t : Grown System) (ls : List Located) (before names : ℕ) (scope scope′ table table′ : List ℕ)
+    (r : SystemWalk) : Type 0 where
   pub place : r .next ≡ t .next
   pub first : r .fault ≡ worstAll ls
   pub number : r .components ≡ before + components (t .tree)

@@ -50,7 +50,8 @@ fn load_free(s: &[u8], scope: &mut [usize]) -> Number
 // The same, then the sheet's system; `scope` is room for the types of the names.
 fn infer_within(s: &[u8], scope: &mut [usize], table: &mut [u16]) -> SystemWalk
     requires { ⌜ length (now scope) ≡ 64 ⌝ }
-    ensures { λ r. ⌜ ((sheet : Sheet) (end : ℕ) → readSheet (now (s .entry)) ≡ got sheet end → InferredSheet sheet (now (table .entry)) (now (table .exit)) r) ⌝ }
+    ensures { λ r. ⌜ ((sheet : Sheet) (end : ℕ) → readSheet (now (s .entry)) ≡ got sheet end
+        → InferredSheet sheet (now (table .entry)) (now (table .exit)) r) ⌝ }
 {
     let path = paths::empty();
     let free = load_free(s, scope);
@@ -64,7 +65,8 @@ fn infer_within(s: &[u8], scope: &mut [usize], table: &mut [u16]) -> SystemWalk
 
 // Types and infers a sheet that passes questions 1 to 6; the table must be clear.
 pub fn infer(s: &[u8], table: &mut [u16]) -> SystemWalk
-    ensures { λ r. ⌜ ((sheet : Sheet) (end : ℕ) → readSheet (now (s .entry)) ≡ got sheet end → InferredSheet sheet (now (table .entry)) (now (table .exit)) r) ⌝ }
+    ensures { λ r. ⌜ ((sheet : Sheet) (end : ℕ) → readSheet (now (s .entry)) ≡ got sheet end
+        → InferredSheet sheet (now (table .entry)) (now (table .exit)) r) ⌝ }
 {
     let mut scope = [0usize; 64];
     infer_within(s, &mut scope, table)

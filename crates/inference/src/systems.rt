@@ -44,7 +44,8 @@ fn infer_component(
     table: &mut [u16],
 ) -> SystemWalk
     requires { ⌜ (length (now scope) ≡ 64) × (ltb (length (pathOf path)) 8 ≡ true) × (component < 32) ⌝ }
-    ensures { λ r. ⌜ InferredAt component (pathOf path) (under (compₛ group) (processTree (spot .nest) (now (s .entry)) (spot .names) (spot .at)))
+    ensures { λ r. ⌜ InferredAt component (pathOf path)
+        (under (compₛ group) (processTree (spot .nest) (now (s .entry)) (spot .names) (spot .at)))
         (spot .names) (now (scope .entry)) (now (scope .exit)) (now (table .entry)) (now (table .exit)) r ⌝ }
 {
     let own = paths::with(path, group);
@@ -152,7 +153,8 @@ fn infer_par(
     table: &mut [u16],
 ) -> SystemWalk
     requires { ⌜ length (now scope) ≡ 64 ⌝ }
-    ensures { λ r. ⌜ InferredAt components (pathOf path) (beside parₛ (systemTree (spot .nest) (now (s .entry)) (spot .names) (pathOf path) components (spot .at))
+    ensures { λ r. ⌜ InferredAt components (pathOf path)
+        (beside parₛ (systemTree (spot .nest) (now (s .entry)) (spot .names) (pathOf path) components (spot .at))
         (λ l m. systemTree (spot .nest) (now (s .entry)) (spot .names) (pathOf path) (components + count l) m))
         (spot .names) (now (scope .entry)) (now (scope .exit)) (now (table .entry)) (now (table .exit)) r ⌝ }
 {
@@ -177,7 +179,8 @@ fn infer_under(
     table: &mut [u16],
 ) -> SystemWalk
     requires { ⌜ (length (now scope) ≡ 64) × (spot .names < 64) ⌝ }
-    ensures { λ r. ⌜ InferredAt components (pathOf path) (under (newₛ t) (systemTree (spot .nest) (now (s .entry)) (spot .names + 1) (pathOf path) components (spot .at)))
+    ensures { λ r. ⌜ InferredAt components (pathOf path)
+        (under (newₛ t) (systemTree (spot .nest) (now (s .entry)) (spot .names + 1) (pathOf path) components (spot .at)))
         (spot .names) (now (scope .entry)) (now (scope .exit)) (now (table .entry)) (now (table .exit)) r ⌝ }
 {
     let inner = Spot {

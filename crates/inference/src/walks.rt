@@ -43,7 +43,8 @@ fn infer_act(
 ) -> usize
     requires { ⌜ context .component < 32 ⌝ }
     ensures { λ r. ⌜ r ≡ fault (known channel) (known object) (pathOf (context .path)) ⌝ }
-    ensures { λ r. ⌜ now (table .exit) ≡ charge (now (table .entry)) (context .component) (needOn sends (known channel)) (context .repeated) ⌝ }
+    ensures { λ r. ⌜ now (table .exit) ≡ charge (now (table .entry)) (context .component) (needOn sends (known channel))
+        (context .repeated) ⌝ }
 {
     charge_need(
         table,
@@ -64,7 +65,8 @@ fn input_fault(
 ) -> usize
     requires { ⌜ context .component < 32 ⌝ }
     ensures { λ r. ⌜ r ≡ fault (getElem? (take names (now (scope .entry))) (act .channel)) (some (act .object)) (pathOf (context .path)) ⌝ }
-    ensures { λ r. ⌜ now (table .exit) ≡ charge (now (table .entry)) (context .component) (needOn false (getElem? (take names (now (scope .entry))) (act .channel))) (context .repeated) ⌝ }
+    ensures { λ r. ⌜ now (table .exit) ≡ charge (now (table .entry)) (context .component)
+        (needOn false (getElem? (take names (now (scope .entry))) (act .channel))) (context .repeated) ⌝ }
 {
     let channel = type_of(scope, names, act.channel);
     infer_act(false, channel, Known::Type(act.object), context, table)
@@ -79,8 +81,10 @@ fn output_fault(
     table: &mut [u16],
 ) -> usize
     requires { ⌜ context .component < 32 ⌝ }
-    ensures { λ r. ⌜ r ≡ fault (getElem? (take names (now (scope .entry))) (act .channel)) (getElem? (take names (now (scope .entry))) (act .object)) (pathOf (context .path)) ⌝ }
-    ensures { λ r. ⌜ now (table .exit) ≡ charge (now (table .entry)) (context .component) (needOn true (getElem? (take names (now (scope .entry))) (act .channel))) (context .repeated) ⌝ }
+    ensures { λ r. ⌜ r ≡ fault (getElem? (take names (now (scope .entry))) (act .channel))
+        (getElem? (take names (now (scope .entry))) (act .object)) (pathOf (context .path)) ⌝ }
+    ensures { λ r. ⌜ now (table .exit) ≡ charge (now (table .entry)) (context .component)
+        (needOn true (getElem? (take names (now (scope .entry))) (act .channel))) (context .repeated) ⌝ }
 {
     let channel = type_of(scope, names, act.channel);
     let object = type_of(scope, names, act.object);
@@ -107,7 +111,8 @@ pub fn infer_process(
 ) -> Walk
     requires { ⌜ (context .component < 32) × (length (now scope) ≡ 64) ⌝ }
     ensures { λ r. ⌜ Inferred (processTree (spot .nest) (now (s .entry)) (spot .names) (spot .at))
-        (acts (record { number = context .component; path = pathOf (context .path) }) (context .repeated) (take (spot .names) (now (scope .entry)))
+        (acts (record { number = context .component; path = pathOf (context .path) }) (context .repeated)
+        (take (spot .names) (now (scope .entry)))
         (processTree (spot .nest) (now (s .entry)) (spot .names) (spot .at) .tree))
         (spot .names) (now (scope .entry)) (now (scope .exit)) (now (table .entry)) (now (table .exit)) r ⌝ }
 {
@@ -141,7 +146,8 @@ fn infer_form(
     table: &mut [u16],
 ) -> Walk
     requires { ⌜ (context .component < 32) × (length (now scope) ≡ 64) × (binds (inner .names) form ≡ true) ⌝ }
-    ensures { λ r. ⌜ InferredIn context (processGrown (λ ns m. processTree (inner .nest) (now (s .entry)) ns m) at (inner .names) form (inner .at))
+    ensures { λ r. ⌜ InferredIn context (processGrown (λ ns m. processTree (inner .nest) (now (s .entry)) ns m) at (inner .names) form
+        (inner .at))
         (inner .names) (now (scope .entry)) (now (scope .exit)) (now (table .entry)) (now (table .exit)) r ⌝ }
 {
     match form {
@@ -176,7 +182,8 @@ fn infer_form(
 // Two processes, one after the other.
 fn infer_par(s: &[u8], spot: Spot, context: Context, scope: &mut [usize], table: &mut [u16]) -> Walk
     requires { ⌜ (context .component < 32) × (length (now scope) ≡ 64) ⌝ }
-    ensures { λ r. ⌜ InferredIn context (beside par (processTree (spot .nest) (now (s .entry)) (spot .names) (spot .at)) (λ l m. processTree (spot .nest) (now (s .entry)) (spot .names) m))
+    ensures { λ r. ⌜ InferredIn context (beside par (processTree (spot .nest) (now (s .entry)) (spot .names) (spot .at))
+        (λ l m. processTree (spot .nest) (now (s .entry)) (spot .names) m))
         (spot .names) (now (scope .entry)) (now (scope .exit)) (now (table .entry)) (now (table .exit)) r ⌝ }
 {
     let left = infer_process(s, spot, context, scope, table);
@@ -221,7 +228,8 @@ fn infer_input(
     table: &mut [u16],
 ) -> Walk
     requires { ⌜ (context .component < 32) × (length (now scope) ≡ 64) × (spot .names < 64) ⌝ }
-    ensures { λ r. ⌜ InferredIn context (under (input (act .channel) (act .object)) (processTree (spot .nest) (now (s .entry)) (spot .names + 1) (spot .at)))
+    ensures { λ r. ⌜ InferredIn context (under (input (act .channel) (act .object))
+        (processTree (spot .nest) (now (s .entry)) (spot .names + 1) (spot .at)))
         (spot .names) (now (scope .entry)) (now (scope .exit)) (now (table .entry)) (now (table .exit)) r ⌝ }
 {
     let fault = input_fault(act, spot.names, context, scope, table);
@@ -239,7 +247,8 @@ fn infer_output(
     table: &mut [u16],
 ) -> Walk
     requires { ⌜ (context .component < 32) × (length (now scope) ≡ 64) ⌝ }
-    ensures { λ r. ⌜ InferredIn context (under (output (act .channel) (act .object)) (processTree (spot .nest) (now (s .entry)) (spot .names) (spot .at)))
+    ensures { λ r. ⌜ InferredIn context (under (output (act .channel) (act .object))
+        (processTree (spot .nest) (now (s .entry)) (spot .names) (spot .at)))
         (spot .names) (now (scope .entry)) (now (scope .exit)) (now (table .entry)) (now (table .exit)) r ⌝ }
 {
     let fault = output_fault(act, spot.names, context, scope, table);

@@ -161,7 +161,8 @@ fn put_groups(path: Path, out: &mut [u8], at: usize) -> usize
 // Writes a component's path: its length, then its groups.
 fn put_path(table: &[u16], component: usize, out: &mut [u8], at: usize) -> usize
     requires { ⌜ (component < 32) × (at < 4000000000) ⌝ }
-    ensures { λ r. ⌜ Stored (now (out .entry)) (now (out .exit)) at (length (pathAt (now (table .entry)) component) ∷ pathAt (now (table .entry)) component) r ⌝ }
+    ensures { λ r. ⌜ Stored (now (out .entry)) (now (out .exit)) at
+        (length (pathAt (now (table .entry)) component) ∷ pathAt (now (table .entry)) component) r ⌝ }
     ensures near { λ r. ⌜ r ≤ at + 9 ⌝ }
 {
     let path = path_of(table, component);
@@ -185,7 +186,8 @@ fn put_disclosure(count: usize, group: usize, out: &mut [u8], at: usize) -> usiz
 // Writes the groups that a component discloses data of a kind to, with their counts.
 fn put_disclosures(table: &[u16], component: usize, kind: usize, out: &mut [u8], at: usize) -> usize
     requires { ⌜ (component < 32) × (kind < 16) × (at < 4010000000) ⌝ }
-    ensures { λ r. ⌜ Stored (now (out .entry)) (now (out .exit)) at (gather disclosureBytes (disclosuresAt (now (table .entry)) component kind)) r ⌝ }
+    ensures { λ r. ⌜ Stored (now (out .entry)) (now (out .exit)) at
+        (gather disclosureBytes (disclosuresAt (now (table .entry)) component kind)) r ⌝ }
 {
     let extent = extent_at(table, component, kind);
     let mut next = at;

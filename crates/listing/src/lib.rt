@@ -4,7 +4,27 @@ ghost use mathlib.Core.List.{[], _∷_, _++_};
 ghost use Prim.Native.Nat.{_+_, _*_, _<_, _≤_, _%_};
 ghost use lib.ListN.{set, getD};
 ghost use Rattle.interface.specs.Writes.{Stored};
-ghost use Rattle.listing.specs.Text.{decimalOf, decimal, dots, pathText, bytesAt, hasBit, flagText, flagsText, countText, itemText, textOf, itemAt, itemsText, itemsAt, headText, itemsIn, endOf, lineAt, nextAt};
+ghost use Rattle.listing.specs.Text.{
+  decimalOf,
+  decimal,
+  dots,
+  pathText,
+  bytesAt,
+  hasBit,
+  flagText,
+  flagsText,
+  countText,
+  itemText,
+  textOf,
+  itemAt,
+  itemsText,
+  itemsAt,
+  headText,
+  itemsIn,
+  endOf,
+  lineAt,
+  nextAt,
+};
 
 // A line that was composed: how long it is, and the place of the next entry.
 pub struct Line {
@@ -209,7 +229,8 @@ fn after(map: usize, list: usize, items: usize) -> usize
 // The kind of an entry, a space, and its path.
 fn put_head(s: &[u8], at: usize, len: usize, out: &mut [u8]) -> usize
     requires { ⌜ (at < 1000000) × (len < 256) ⌝ }
-    ensures { λ r. ⌜ Stored (now (out .entry)) (now (out .exit)) 0 (headText (getD (now (s .entry)) at 0) (bytesAt len (now (s .entry)) (at + 2))) r ⌝ }
+    ensures { λ r. ⌜ Stored (now (out .entry)) (now (out .exit)) 0
+        (headText (getD (now (s .entry)) at 0) (bytesAt len (now (s .entry)) (at + 2))) r ⌝ }
     ensures near { λ r. ⌜ r ≤ 2000 ⌝ }
 {
     let kind = put_decimal(out, 0, byte(s, at));
@@ -220,7 +241,8 @@ fn put_head(s: &[u8], at: usize, len: usize, out: &mut [u8]) -> usize
 // The flags of an entry, its items, and a newline.
 fn put_tail(s: &[u8], map: usize, from: usize, items: usize, out: &mut [u8], at: usize) -> usize
     requires { ⌜ (from < 1000000000) × (items < 256) × (at < 50000) ⌝ }
-    ensures { λ r. ⌜ Stored (now (out .entry)) (now (out .exit)) at (flagsText (hasBit 1 map) (hasBit 2 map) (hasBit 4 map) ++ (itemsText (itemsAt items (now (s .entry)) from) ++ (10 ∷ []))) r ⌝ }
+    ensures { λ r. ⌜ Stored (now (out .entry)) (now (out .exit)) at
+        (flagsText (hasBit 1 map) (hasBit 2 map) (hasBit 4 map) ++ (itemsText (itemsAt items (now (s .entry)) from) ++ (10 ∷ []))) r ⌝ }
 {
     let flags = put_flags(map, out, at);
     let end = put_items(s, from, items, out, flags);

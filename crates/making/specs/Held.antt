@@ -19,7 +19,8 @@ pub record Runs (s cells : List ℕ) (top w : ℕ) (t : Thread) : Type 0 where
   pub text : t .text ≡ processTree (unpacked w .nest) s (unpacked w .names) (unpacked w .at) .tree
 
 -- The state that memory holds after at most `turns` receives. No name that is yet to come is known outside.
-pub record Holds (s : List ℕ) (z : Sizes) (turns : ℕ) (threadTable typeTable : List ℕ) (knownTable : List Bool) (cells : List ℕ) (state : State) : Type 0 where
+pub record Holds (s : List ℕ) (z : Sizes) (turns : ℕ) (threadTable typeTable : List ℕ) (knownTable : List Bool) (cells : List ℕ)
+    (state : State) : Type 0 where
   pub short : length s ≤ 4096
   pub few : z .threads ≤ 64
   pub given : z .names ≤ 1024

@@ -98,7 +98,8 @@ pub record Grows (z : Sizes) (more new : ℕ) (before after : List ℕ) (z′ : 
 
 -- The products of a process at a place: threads after those made so far, new names after those given so far. They count only
 -- where all fit.
-pub record Makes (s : List ℕ) (t : Place) (tree : Grown Process) (z : Sizes) (made made′ types types′ cells cells′ : List ℕ) (r : Made) : Type 0 where
+pub record Makes (s : List ℕ) (t : Place) (tree : Grown Process) (z : Sizes) (made made′ types types′ cells cells′ : List ℕ)
+    (r : Made) : Type 0 where
   pub place : r .next ≡ tree .next
   pub grows : Grows z (crowd (tree .tree)) (length (news (tree .tree))) cells cells′ (r .sizes)
   pub before : take (z .names) types′ ≡ take (z .names) types
@@ -109,7 +110,8 @@ pub record Makes (s : List ℕ) (t : Place) (tree : Grown Process) (z : Sizes) (
       (ts ++ threadsOf c (chain cells (t .names) (t .env)) (z .names) (tree .tree))
 
 -- The same of a system.
-pub record MakesSystem (s : List ℕ) (t : Place) (tree : Grown System) (z : Sizes) (made made′ types types′ cells cells′ : List ℕ) (r : MadeSystem) : Type 0 where
+pub record MakesSystem (s : List ℕ) (t : Place) (tree : Grown System) (z : Sizes) (made made′ types types′ cells cells′ : List ℕ)
+    (r : MadeSystem) : Type 0 where
   pub place : r .next ≡ tree .next
   pub posts : r .posts ≡ t .post + components (tree .tree)
   pub few-posts : r .posts ≤ 32

@@ -84,7 +84,8 @@ fn make_par(
 ) -> Made
     ensures { λ r. ⌜ (Ready (now (s .entry)) t sizes (now (made .entry)) (now (types .entry)) (now (cells .entry))
         → Makes (now (s .entry)) t
-        (beside par (processTree (t .nest) (now (s .entry)) (t .names) (t .at)) (λ l m. processTree (t .nest) (now (s .entry)) (t .names) m)) sizes
+        (beside par (processTree (t .nest) (now (s .entry)) (t .names) (t .at))
+        (λ l m. processTree (t .nest) (now (s .entry)) (t .names) m)) sizes
         (now (made .entry)) (now (made .exit)) (now (types .entry)) (now (types .exit)) (now (cells .entry)) (now (cells .exit)) r) ⌝ }
 {
     let left = make_process(s, t, sizes, made, types, cells);

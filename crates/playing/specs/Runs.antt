@@ -13,7 +13,8 @@ use Rattle.playing.specs.declared.Point.{Point}
 
 -- Memory holds a state, and the script's moves from a place on are left: what is logged, with what a run of these logs from that
 -- state on, is the log `run` of the whole. There are `count` moves in all.
-pub record Going (s script run : List ℕ) (count : ℕ) (p : Point) (log threads types : List ℕ) (known : List Bool) (cells : List ℕ) : Type 0 where
+pub record Going (s script run : List ℕ) (count : ℕ) (p : Point) (log threads types : List ℕ) (known : List Bool)
+    (cells : List ℕ) : Type 0 where
   pub state : State
   pub rest : List Move
   pub end : ℕ
@@ -25,7 +26,8 @@ pub record Going (s script run : List ℕ) (count : ℕ) (p : Point) (log thread
   pub room : count * 8 ≤ length log
 
 -- One move more is made, and nothing is written past the records of all.
-pub record Turned (s script run : List ℕ) (count : ℕ) (p : Point) (log log′ threads types : List ℕ) (known : List Bool) (cells : List ℕ) (r : Point) : Type 0 where
+pub record Turned (s script run : List ℕ) (count : ℕ) (p : Point) (log log′ threads types : List ℕ) (known : List Bool)
+    (cells : List ℕ) (r : Point) : Type 0 where
   pub going : Going s script run count r log′ threads types known cells
   pub done : r .done ≡ p .done + 1
   pub kept : drop (count * 8) log′ ≡ drop (count * 8) log

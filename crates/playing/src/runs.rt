@@ -26,7 +26,8 @@ fn turn(
     requires { ⌜ Going (now s) (now script) (runLog (startOf (now s)) (movesOf (now script))) count p (now log)
         (now threads) (now types) (now known) (now cells)
         × Lent (now threads) (now made) (now types) (now known) (now cells) × (p .done < count) ⌝ }
-    ensures { λ r. ⌜ Turned (now (s .entry)) (now (script .entry)) (runLog (startOf (now (s .entry))) (movesOf (now (script .entry)))) count p
+    ensures { λ r. ⌜ Turned (now (s .entry)) (now (script .entry))
+        (runLog (startOf (now (s .entry))) (movesOf (now (script .entry)))) count p
         (now (log .entry)) (now (log .exit)) (now (threads .exit)) (now (types .exit)) (now (known .exit)) (now (cells .exit)) r ⌝ }
 {
     let at = p.done * 8;

@@ -6,7 +6,24 @@ ghost use lib.ListN.{length, take};
 ghost use mathlib.Core.Bool.{false};
 ghost use Rattle.reading.specs.Told.{number, refusalOf};
 ghost use Rattle.policy.specs.Reading.{twoBytes, isCount, itemAt, readList, countedList, readPermissions, readNode, readPolicy};
-ghost use Rattle.policy.specs.Loads.{permissionsRead, permissionsFit, whyOf, whyNot, groupOnly, countOnly, openingRead, openingFits, readOpening, nodeRead, childrenRead, Loaded, withTree, noTrees, treesToEnd, LoadedPolicy};
+ghost use Rattle.policy.specs.Loads.{
+  permissionsRead,
+  permissionsFit,
+  whyOf,
+  whyNot,
+  groupOnly,
+  countOnly,
+  openingRead,
+  openingFits,
+  readOpening,
+  nodeRead,
+  childrenRead,
+  Loaded,
+  withTree,
+  noTrees,
+  treesToEnd,
+  LoadedPolicy,
+};
 use crate::Node;
 use crate::Opening;
 use crate::OpeningRead;
@@ -220,7 +237,8 @@ fn why_not(read: OpeningRead) -> Refusal
 // `level` more nodes may be nested.
 fn read_node(c: &[u8], at: usize, level: usize, used: usize, nodes: &mut [usize]) -> NumberRead
     requires { ⌜ (level ≤ 8) × (length (now nodes) ≡ 320) × (length (now c) ≤ 4096) ⌝ }
-    ensures { λ r. ⌜ Loaded (now (c .entry)) (nodeRead (readNode level (now (c .entry)) used at)) (8 - level) used (now (nodes .entry)) (now (nodes .exit)) r ⌝ }
+    ensures { λ r. ⌜ Loaded (now (c .entry)) (nodeRead (readNode level (now (c .entry)) used at)) (8 - level) used (now (nodes .entry))
+        (now (nodes .exit)) r ⌝ }
 {
     if level == 0 {
         return fault(at);
@@ -254,7 +272,8 @@ fn read_children(
     nodes: &mut [usize],
 ) -> NumberRead
     requires { ⌜ (level < 8) × (count < 256) × (length (now nodes) ≡ 320) × (length (now c) ≤ 4096) ⌝ }
-    ensures { λ r. ⌜ Loaded (now (c .entry)) (childrenRead level (now (c .entry)) count used at) (8 - level) used (now (nodes .entry)) (now (nodes .exit)) r ⌝ }
+    ensures { λ r. ⌜ Loaded (now (c .entry)) (childrenRead level (now (c .entry)) count used at) (8 - level) used (now (nodes .entry))
+        (now (nodes .exit)) r ⌝ }
 {
     if count == 0 {
         return NumberRead::Found(Number {

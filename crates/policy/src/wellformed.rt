@@ -9,7 +9,24 @@ ghost use Rattle.reading.specs.Forms.{member};
 ghost use Rattle.inference.specs.Lists.{every};
 ghost use Rattle.policy.specs.Syntax.{Tree, hasBit};
 ghost use Rattle.policy.specs.WellFormed.{distinct, sameList, samePermissions, agree, allAgree, disclosedTo};
-ghost use Rattle.policy.specs.Rows.{nodeAt, wordIn, itemsAt, permissionsOf, flatOf, flats, freshBelow, headsIn, belowIn, keptIn, allKept, isMarked, allMarked, listedGroups, fenceOf, passesIn};
+ghost use Rattle.policy.specs.Rows.{
+  nodeAt,
+  wordIn,
+  itemsAt,
+  permissionsOf,
+  flatOf,
+  flats,
+  freshBelow,
+  headsIn,
+  belowIn,
+  keptIn,
+  allKept,
+  isMarked,
+  allMarked,
+  listedGroups,
+  fenceOf,
+  passesIn,
+};
 ghost use Rattle.policy.specs.Loads.{startOf, Bounded, AllHeld, allPass, policyFault};
 use crate::Node;
 use crate::Permissions;
@@ -209,7 +226,8 @@ fn list_marked(c: &[u8], p: Permissions, marks: [usize; 64]) -> bool
 fn kept_below(c: &[u8], nodes: &[usize], row: usize, to: usize, marks: [usize; 64]) -> bool
     requires { ⌜ (row < to) × (to ≤ 64) ⌝ }
     ensures { λ r. ⌜ r ≡ allMarked marks
-        (disclosedTo (headsIn (belowIn (nodeAt (now (nodes .entry)) row .depth) (flats (now (c .entry)) (now (nodes .entry)) (row + 1) (to - (row + 1)))))) ⌝ }
+        (disclosedTo (headsIn (belowIn (nodeAt (now (nodes .entry)) row .depth)
+        (flats (now (c .entry)) (now (nodes .entry)) (row + 1) (to - (row + 1)))))) ⌝ }
 {
     let depth = node_at(nodes, row).depth;
     let mut i = row + 1;

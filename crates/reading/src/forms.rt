@@ -3,7 +3,17 @@ ghost use mathlib.Core.Path.{_≡_};
 ghost use mathlib.Core.Bool.{_&&_};
 ghost use lib.Dec.{ltb};
 ghost use Rattle.reading.specs.Read.{got, refused};
-ghost use Rattle.reading.specs.Forms.{limited, newForm, inputForm, outputForm, freshGroup, groupForm, componentForm, processAt, systemAt};
+ghost use Rattle.reading.specs.Forms.{
+  limited,
+  newForm,
+  inputForm,
+  outputForm,
+  freshGroup,
+  groupForm,
+  componentForm,
+  processAt,
+  systemAt,
+};
 ghost use Rattle.reading.specs.Told.{number, form as told, refusalOf, pathOf};
 use crate::Act;
 use crate::Form;

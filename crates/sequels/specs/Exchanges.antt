@@ -34,10 +34,12 @@ exchanged s x cells state c d =
     after state
     (set (set (singles (state .threads)) (x .sender)
     (threadsOf c (chain cells (x .mine .names) (x .mine .env)) (length (state .types)) (textAt s (x .mine)))) (x .receiver)
-    (threadsOf d (chain cells (x .theirs .names) (x .theirs .env) ++ (x .sent ∷ [])) (length (state .types) + length (news (textAt s (x .mine)))) (boundText s (x .theirs))))
+    (threadsOf d (chain cells (x .theirs .names) (x .theirs .env) ++ (x .sent ∷ []))
+    (length (state .types) + length (news (textAt s (x .mine)))) (boundText s (x .theirs))))
     (news (textAt s (x .mine)) ++ news (boundText s (x .theirs)))
 
-pub record Exchanges (s : List ℕ) (x : Exchange) (z : Sizes) (turns : ℕ) (threads′ types′ : List ℕ) (known : List Bool) (cells cells′ : List ℕ) (state : State) (c d : Component) (r : Placed) : Type 0 where
+pub record Exchanges (s : List ℕ) (x : Exchange) (z : Sizes) (turns : ℕ) (threads′ types′ : List ℕ) (known : List Bool)
+    (cells cells′ : List ℕ) (state : State) (c d : Component) (r : Placed) : Type 0 where
   pub fits : r .fits ≡ hasRoom (exchanged s x cells state c d)
   pub taken : r .fits ≡ true → Holds s (r .sizes) (turns + 1) threads′ types′ known cells′ (exchanged s x cells state c d)
   pub kept : r .fits ≡ false → (r .sizes ≡ z) × Holds s z turns threads′ types′ known cells′ state
@@ -86,5 +88,6 @@ pub record PutsBoth (z : Sizes) (x : Exchange) (b : BothMade) (made threads thre
   pub fits : r .fits ≡ roomFor (z .threads - 2) (b .sizes)
   pub sizes : r .fits ≡ true → r .sizes ≡ record { threads = z .threads - 2 + b .sizes .threads; names = b .sizes .names; cells = b .sizes .cells }
   pub placed : r .fits ≡ true → take (z .threads - 2 + b .sizes .threads) threads′
-      ≡ swapped (take (z .threads) threads) (x .sender) (x .receiver) (take (b .mine) made) (take (b .sizes .threads - b .mine) (drop (b .mine) made))
+      ≡ swapped (take (z .threads) threads) (x .sender) (x .receiver) (take (b .mine) made)
+      (take (b .sizes .threads - b .mine) (drop (b .mine) made))
   pub kept : r .fits ≡ false → (r .sizes ≡ z) × (threads′ ≡ threads)

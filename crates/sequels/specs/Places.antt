@@ -59,16 +59,20 @@ roomFor kept z = leb (kept + z .threads) 64 && leb (z .names) 1024
 -- What was made, put in place of the threads from `at` up to `from`.
 pub record Puts (z : Sizes) (at from : ℕ) (after : Sizes) (made threads threads′ : List ℕ) (r : Placed) : Type 0 where
   pub fits : r .fits ≡ roomFor (at + (z .threads - from)) after
-  pub sizes : r .fits ≡ true → r .sizes ≡ record { threads = at + (z .threads - from) + after .threads; names = after .names; cells = after .cells }
-  pub placed : r .fits ≡ true → take (at + (z .threads - from) + after .threads) threads′ ≡ replaced (take (z .threads) threads) at from (take (after .threads) made)
+  pub sizes : r .fits ≡ true
+      → r .sizes ≡ record { threads = at + (z .threads - from) + after .threads; names = after .names; cells = after .cells }
+  pub placed : r .fits ≡ true → take (at + (z .threads - from) + after .threads) threads′
+      ≡ replaced (take (z .threads) threads) at from (take (after .threads) made)
   pub kept : r .fits ≡ false → (r .sizes ≡ z) × (threads′ ≡ threads)
 
 -- The state with a text's products in place of the threads from `at` up to `from`; `cells` are those before.
 unfoldable pub put : List ℕ → Place → ℕ → ℕ → List ℕ → State → Component → State
 put s text at from cells state c =
-    changed state (replaced (state .threads) at from (threadsOf c (chain cells (text .names) (text .env)) (length (state .types)) (textAt s text))) (news (textAt s text))
+    changed state (replaced (state .threads) at from
+    (threadsOf c (chain cells (text .names) (text .env)) (length (state .types)) (textAt s text))) (news (textAt s text))
 
-pub record Replaces (s : List ℕ) (text : Place) (at from : ℕ) (z : Sizes) (turns : ℕ) (threads′ types′ : List ℕ) (known : List Bool) (cells cells′ : List ℕ) (state : State) (c : Component) (r : Placed) : Type 0 where
+pub record Replaces (s : List ℕ) (text : Place) (at from : ℕ) (z : Sizes) (turns : ℕ) (threads′ types′ : List ℕ) (known : List Bool)
+    (cells cells′ : List ℕ) (state : State) (c : Component) (r : Placed) : Type 0 where
   pub fits : r .fits ≡ hasRoom (put s text at from cells state c)
   pub taken : r .fits ≡ true → Holds s (r .sizes) turns threads′ types′ known cells′ (put s text at from cells state c)
   pub kept : r .fits ≡ false → (r .sizes ≡ z) × Holds s z turns threads′ types′ known cells′ state

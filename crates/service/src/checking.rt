@@ -16,7 +16,8 @@ use reading::system::read;
 // Question 19, and the interface.
 fn deliver(table: &[u16], components: usize, output: &mut [u8]) -> Answer
     requires { ⌜ components ≤ 32 ⌝ }
-    ensures { λ r. ⌜ Delivered (interfaceBytes (tableEntries (now (table .entry)) components)) (now (output .entry)) (now (output .exit)) r ⌝ }
+    ensures { λ r. ⌜ Delivered (interfaceBytes (tableEntries (now (table .entry)) components)) (now (output .entry))
+        (now (output .exit)) r ⌝ }
 {
     let len = interface_len(table, components);
     if output.len() < len {

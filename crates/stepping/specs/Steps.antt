@@ -22,7 +22,8 @@ use Rattle.sequels.specs.declared.Doing.{Doing}
 use Rattle.stepping.specs.declared.Moved.{Moved}
 use Rattle.sequels.specs.declared.Placed.{Placed}
 
-pub record Answers (s : List ℕ) (turns : ℕ) (threads types : List ℕ) (known : List Bool) (cells : List ℕ) (state : State) (result : Result) (r : Moved) : Type 0 where
+pub record Answers (s : List ℕ) (turns : ℕ) (threads types : List ℕ) (known : List Bool) (cells : List ℕ) (state : State)
+    (result : Result) (r : Moved) : Type 0 where
   pub holds : Holds s (r .sizes) turns threads types known cells (stateAfter state result)
   pub bytes : bytesOf (r .line) ≡ recordBytes result
 
@@ -53,7 +54,8 @@ pub record Acts (s cells : List ℕ) (top : ℕ) (p : Place) (u : Thread) : Type
 
 -- What a move promises: from every state that memory holds, at most 1,275 turns into a run, it answers `f` of that state. Memory
 -- is the tables of threads, types, known names and cells, first before the move and then after it.
-abbrev pub Stepped : List ℕ → Sizes → List ℕ → List ℕ → List Bool → List ℕ → List ℕ → List ℕ → List Bool → List ℕ → (State → Result) → Moved → Type 0
+abbrev pub Stepped : List ℕ → Sizes → List ℕ → List ℕ → List Bool → List ℕ → List ℕ → List ℕ → List Bool → List ℕ → (State → Result)
+    → Moved → Type 0
 Stepped s z threads types known cells threads′ types′ known′ cells′ f r =
     (state : State) (turns : ℕ) → turns ≤ 1275 → Holds s z turns threads types known cells state
     → Answers s (turns + 1) threads′ types′ known′ cells′ state (f state) r
@@ -65,19 +67,22 @@ SteppedAny s z threads types cells threads′ types′ cells′ f r =
     → Holds s z turns threads types known cells state → Answers s (turns + 1) threads′ types′ known cells′ state (f state) r
 
 -- The same two, where the thread `u` at index i stands at a place.
-abbrev pub Acted : List ℕ → Sizes → Place → ℕ → Thread → List ℕ → List ℕ → List Bool → List ℕ → List ℕ → List ℕ → List Bool → List ℕ → (State → Result) → Moved → Type 0
+abbrev pub Acted : List ℕ → Sizes → Place → ℕ → Thread → List ℕ → List ℕ → List Bool → List ℕ → List ℕ → List ℕ → List Bool → List ℕ
+    → (State → Result) → Moved → Type 0
 Acted s z t i u threads types known cells threads′ types′ known′ cells′ f r =
     (state : State) (turns : ℕ) → turns ≤ 1275 → Acts s cells (z .cells) t u → getElem? (state .threads) i ≡ some u
     → Holds s z turns threads types known cells state → Answers s (turns + 1) threads′ types′ known′ cells′ state (f state) r
 
-abbrev pub ActedAny : List ℕ → Sizes → Place → ℕ → Thread → List ℕ → List ℕ → List ℕ → List ℕ → List ℕ → List ℕ → (State → Result) → Moved → Type 0
+abbrev pub ActedAny : List ℕ → Sizes → Place → ℕ → Thread → List ℕ → List ℕ → List ℕ → List ℕ → List ℕ → List ℕ → (State → Result)
+    → Moved → Type 0
 ActedAny s z t i u threads types cells threads′ types′ cells′ f r =
     (state : State) (turns : ℕ) (known : List Bool) → turns ≤ 1275 → length known ≡ 1024
     → Acts s cells (z .cells) t u → getElem? (state .threads) i ≡ some u
     → Holds s z turns threads types known cells state → Answers s (turns + 1) threads′ types′ known cells′ state (f state) r
 
 -- 04, where the threads `v` and `w` at the indices of a meeting stand at places.
-abbrev pub Met : List ℕ → Sizes → Meeting → Place → Place → Thread → Thread → List ℕ → List ℕ → List ℕ → List ℕ → List ℕ → List ℕ → Moved → Type 0
+abbrev pub Met : List ℕ → Sizes → Meeting → Place → Place → Thread → Thread → List ℕ → List ℕ → List ℕ → List ℕ → List ℕ → List ℕ
+    → Moved → Type 0
 Met s z m t u v w threads types cells threads′ types′ cells′ r =
     (state : State) (turns : ℕ) (known : List Bool) → turns ≤ 1275 → length known ≡ 1024
     → Acts s cells (z .cells) t v → Acts s cells (z .cells) u w
@@ -90,6 +95,7 @@ unfoldable pub received : List ℕ → Place → Doing → Receipt → State →
 received s t act m state u =
     taken
     (after state
-    (set (singles (state .threads)) (m .thread) (made state 0 u (u .names ++ (m .name ∷ [])) (processTree (t .nest - 1) s (t .names + 1) (act .next) .tree)))
+    (set (singles (state .threads)) (m .thread)
+    (made state 0 u (u .names ++ (m .name ∷ [])) (processTree (t .nest - 1) s (t .names + 1) (act .next) .tree)))
     (news (processTree (t .nest - 1) s (t .names + 1) (act .next) .tree)))
     (recordOf 2 (act .channel) (m .name) (u .component .number) 255)
