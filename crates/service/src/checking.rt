@@ -40,7 +40,7 @@ fn check_read(sheet: &[u8], charter: &[u8], table: &mut [u16], output: &mut [u8]
 }
 
 // Checks a sheet against a charter. The answer and the output's final bytes are those of the definition `checked`, for any bytes
-// in all three slices. A sheet of at most four components, as most are, has a small table to clear.
+// in all three slices. A sheet of at most four components has a small table to clear.
 pub fn check(sheet: &[u8], charter: &[u8], output: &mut [u8]) -> Answer
     ensures { λ r. ⌜ Checked (now (sheet .entry)) (now (charter .entry)) (now (output .entry)) (now (output .exit)) r ⌝ }
 {
