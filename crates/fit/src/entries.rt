@@ -87,8 +87,7 @@ fn counts_covered(
 ) -> bool
     requires { ⌜ (component < 32) × (kind < 16) ⌝ }
     ensures { λ r. ⌜ r ≡ countsCoverFrom 0 (extentAt (now (table .entry)) component kind) (now (c .entry)) (now (nodes .entry))
-        (givenRows givers)
-        (now (table .entry)) component kind ⌝ }
+        (givenRows givers) (now (table .entry)) component kind ⌝ }
 {
     let extent = extent_at(table, component, kind);
     let mut group: usize = 0;

@@ -64,10 +64,14 @@ pub charge-out : (l : List ℕ) (i : ℕ) (b : Bool) → length l ≤ i → l �
 unfolding chargeAt
 charge-out l i b h = sym (set-out l i (bumped (getD l i 0) b) h)
 
+pub cell-place : (c k j : ℕ) → c * 1097 + (9 + (k * 68 + j)) ≡ cellOf c k j
+unfolding cellOf
+cell-place c k j = refl
+
 module _ (l : List ℕ) (c k j : ℕ) (b : Bool) where
-  pub charge-in-row : {y : List ℕ} → k < 16 → j < 67 → y ≡ chargeAt l (c * 1097 + (9 + (k * 68 + j))) b → y ≡ chargeCell l c k j b
-  unfolding chargeCell cellOf
-  charge-in-row h i e = rw (lt-ltb k 16 h, lt-ltb j 67 i) e
+  pub charge-in-row : {y : List ℕ} (at : ℕ) → k < 16 → j < 67 → at ≡ cellOf c k j → y ≡ chargeAt l at b → y ≡ chargeCell l c k j b
+  unfolding chargeCell
+  charge-in-row at h i e f = rw (lt-ltb k 16 h, lt-ltb j 67 i, ← e) f
 
   pub no-such-kind : 16 ≤ k → l ≡ chargeCell l c k j b
   unfolding chargeCell
@@ -88,9 +92,9 @@ module _ (l : List ℕ) (i e v : ℕ) (is : v ≡ getD l i 0) where
   wide-enough h = rw (← is, le-ltb v e h)
 
 module _ (l : List ℕ) (c k g : ℕ) where
-  pub widen-in-row : {y : List ℕ} → k < 16 → g < 64 → y ≡ widenedAt l (c * 1097 + (9 + (k * 68 + 67))) (g + 1) → y ≡ widened l c k g
-  unfolding widened cellOf
-  widen-in-row h i e = rw (lt-ltb k 16 h, lt-ltb g 64 i) e
+  pub widen-in-row : {y : List ℕ} (at : ℕ) → k < 16 → g < 64 → at ≡ cellOf c k 67 → y ≡ widenedAt l at (g + 1) → y ≡ widened l c k g
+  unfolding widened
+  widen-in-row at h i e f = rw (lt-ltb k 16 h, lt-ltb g 64 i, ← e) f
 
   pub no-kind-to-widen : 16 ≤ k → l ≡ widened l c k g
   unfolding widened
@@ -148,6 +152,7 @@ pub ruleset row-steps = (
   bump-full,
   charge-set,
   charge-out,
+  cell-place,
   charge-in-row,
   no-such-kind,
   no-such-column,

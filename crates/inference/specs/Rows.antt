@@ -1,4 +1,4 @@
--- The table of what components need: rows of 1,081 cells (src/rows.rt). Its cells are the counts that acts need together
+-- The table of what components need: rows of 1,097 cells (src/rows.rt). Its cells are the counts that acts need together
 -- (`charged-count` of the crate interface's proofs/CellLaws.antt).
 use Prim.Native.Nat.{ℕ, zero, suc, _+_, _*_, _%_, min}
 use mathlib.Core.List.{List, [], _∷_, map}

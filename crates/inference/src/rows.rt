@@ -7,6 +7,7 @@ ghost use Rattle.reading.specs.Told.{pathOf};
 ghost use lib.ListN.{length, getD, set};
 ghost use Rattle.inference.specs.Rows.{
   bumped,
+  cellOf,
   charge,
   chargeAt,
   chargeCell,
@@ -29,6 +30,14 @@ pub fn bump(count: u16, repeated: bool) -> u16
     }
 }
 
+// The place of the cell of a component, a kind and a column.
+pub fn cell_of(component: usize, kind: usize, column: usize) -> usize
+    requires { ⌜ (component < 32) × (kind < 16) × (column < 68) ⌝ }
+    ensures { λ r. ⌜ r ≡ cellOf component kind column ⌝ }
+{
+    component * 1097 + (9 + (kind * 68 + column))
+}
+
 fn charge_at(table: &mut [u16], at: usize, repeated: bool)
     ensures { λ r. ⌜ now (table .exit) ≡ chargeAt (now (table .entry)) at repeated ⌝ }
 {
@@ -44,11 +53,7 @@ fn charge_cell(table: &mut [u16], component: usize, kind: usize, column: usize, 
 {
     if kind < 16 {
         if column < 67 {
-            charge_at(
-                table,
-                component * 1097 + (9 + (kind * 68 + column)),
-                repeated,
-            );
+            charge_at(table, cell_of(component, kind, column), repeated);
         }
     }
 }
@@ -69,7 +74,7 @@ fn widen(table: &mut [u16], component: usize, kind: usize, group: usize)
 {
     if kind < 16 {
         if group < 64 {
-            widen_at(table, component * 1097 + (9 + (kind * 68 + 67)), group + 1);
+            widen_at(table, cell_of(component, kind, 67), group + 1);
         }
     }
 }

@@ -2,15 +2,15 @@
 -- component's row the count that they need together.
 use Prim.Native.Nat.{ℕ, zero, suc, _+_, _*_, _%_, _<_, _≤_}
 use mathlib.Core.Path.{_≡_, refl, sym, ap, _∙_}
-use mathlib.Core.List.{List, [], _∷_, _++_}
+use mathlib.Core.List.{List, [], _∷_}
 use mathlib.Core.Bool.{Bool, true, false, cond, _&&_}
 use mathlib.Core.Logic.{_⊎_, inl, inr, ⊎-elim}
 use native.Mathlib.Omega.{arith}
 use native.Mathlib.Decide.{ℕ-discrete}
 use lib.ListN.{length, getD, set, length-set}
-use lib.Seq.{getD-set-same, getD-set-other, set-out}
+use lib.Seq.{getD-set-same, getD-set-other}
 use lib.Dec.{ltb, eqb}
-use borrow.Author.Tests.{lt-ltb, le-ltb, eq-eqb, ne-eqb, ltb-true, ltb-false}
+use borrow.Author.Tests.{lt-ltb, eq-eqb, ne-eqb, ltb-true, ltb-false}
 use Rattle.inference.specs.declared.Need.{Need}
 use Rattle.inference.specs.declared.Need.the-variants.{Nothing, Read, Write, Access, Disclose}
 use Rattle.inference.specs.Counts.{Count, fin, unlimited, _⊕_, repeatedly, countNumber}
@@ -177,7 +177,7 @@ module _ (n : ℕ) (repeated : Bool) (i : ℕ) (out : Outside n i) (table : List
       charge-cell-kept n repeated i out (widened table n t g) t g
       ∙ widen-other table n t g i (λ p. outside-cell n t 67 i p (omega arith) out)
 
-pub length-charge-cell : (table : List ℕ) (n kind column : ℕ) (repeated : Bool) → length (chargeCell table n kind column repeated) ≡ length table
+length-charge-cell : (table : List ℕ) (n kind column : ℕ) (repeated : Bool) → length (chargeCell table n kind column repeated) ≡ length table
 unfolding chargeCell chargeAt
 length-charge-cell table n kind column repeated = go (ltb kind 16 && ltb column 67)
   where

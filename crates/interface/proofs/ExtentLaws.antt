@@ -1,23 +1,21 @@
 -- The extent of a component and a kind: after acts were charged, no act discloses data of the kind to a group at or past it.
-use Prim.Native.Nat.{ℕ, zero, suc, _+_, _*_, _%_, _<_, _≤_}
-use mathlib.Core.Path.{_≡_, refl, sym, ap, ap₂, _∙_}
-use mathlib.Core.List.{List, [], _∷_}
+use Prim.Native.Nat.{ℕ, _+_, _*_, _%_, _<_, _≤_}
+use mathlib.Core.Path.{_≡_, refl, sym, ap, _∙_}
+use mathlib.Core.List.{List}
 use mathlib.Core.Bool.{Bool, true, false, cond, _&&_}
-use mathlib.Core.Logic.{_⊎_, inl, inr, ⊎-elim}
 use native.Mathlib.Omega.{arith}
-use native.Mathlib.Decide.{ℕ-discrete, decLt}
+use native.Mathlib.Decide.{ℕ-discrete}
 use lib.ListN.{length, getD, set}
 use lib.Seq.{getD-set-same, getD-set-other}
-use lib.Dec.{ltb, eqb}
-use borrow.Author.Tests.{lt-ltb, le-ltb, ltb-true, ltb-false}
+use lib.Dec.{ltb}
+use borrow.Author.Tests.{lt-ltb, ltb-true, ltb-false}
 use Rattle.inference.specs.declared.Need.{Need}
 use Rattle.inference.specs.declared.Need.the-variants.{Nothing, Read, Write, Access, Disclose}
-use Rattle.inference.specs.Counts.{Count, fin, _⊕_, repeatedly}
+use Rattle.inference.specs.Counts.{fin, _⊕_, repeatedly}
 use Rattle.inference.specs.Acts.{Act}
 use Rattle.inference.specs.Needs.{needOf, weigh, total}
 use Rattle.inference.specs.Rows.{bumped, chargeAt, cellOf, chargeCell, widenedAt, widened, charge}
 use Rattle.inference.specs.Walks.{charged}
-use Rattle.inference.proofs.CountLaws.{nothing-join}
 use Rattle.interface.proofs.CellLaws.{
   landsIn,
   lands,
@@ -27,7 +25,6 @@ use Rattle.interface.proofs.CellLaws.{
   cell-inj-column,
   cell-below,
   length-charge,
-  length-charge-cell,
   widen-other,
   AllOf,
   of-none,

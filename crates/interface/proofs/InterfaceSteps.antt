@@ -57,9 +57,9 @@ use Rattle.interface.proofs.InterfaceLaws.{
   table-bytes-are,
 }
 
-pub cell-is : {r : ℕ} (t : List ℕ) (c k j : ℕ) → r ≡ getD t (c * 1097 + (9 + (k * 68 + j))) 0 → r ≡ cell t c k j
-unfolding cell cellOf
-cell-is t c k j e = e
+pub cell-is : {r : ℕ} (t : List ℕ) (c k j at : ℕ) → at ≡ cellOf c k j → r ≡ getD t at 0 → r ≡ cell t c k j
+unfolding cell
+cell-is t c k j at e f = rw (← e) f
 
 -- The extent of a component and a kind.
 module _ (t : List ℕ) (c k x : ℕ) (is : x ≡ cell t c k 67) where

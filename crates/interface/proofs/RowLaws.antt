@@ -1,16 +1,15 @@
 -- A component's row, after its path was stored and its acts were charged, holds the component's entries: each cell is the
 -- count of the acts that land in it, and the entry of a kind is read off the cells as the definition reads it off the acts.
-use Prim.Native.Nat.{ℕ, zero, suc, _+_, _-_, _*_, _%_, _<_, _≤_, min}
+use Prim.Native.Nat.{ℕ, zero, suc, _+_, _-_, _%_, _<_, _≤_, min}
 use mathlib.Core.Path.{_≡_, refl, sym, ap, ap₂, _∙_}
-use mathlib.Core.List.{List, [], _∷_, _++_, map}
+use mathlib.Core.List.{List, [], _∷_, map}
 use mathlib.Core.Bool.{Bool, true, false, cond, not, _&&_, _||_}
 use mathlib.Core.Option.{Option, some, none}
-use mathlib.Core.Logic.{_⊎_, inl, inr, ⊎-elim}
+use mathlib.Core.Logic.{_⊎_}
 use native.Mathlib.Omega.{arith}
-use lib.ListN.{length, getD, set, take, drop, length-set, length-take, length-drop}
-use lib.Seq.{getD-set-same, getD-set-other, getD-take, getD-drop, ext-getD}
+use lib.ListN.{length}
 use lib.Dec.{ltb, eqb}
-use borrow.Author.Tests.{lt-ltb, le-ltb, eq-eqb, ne-eqb, eqb-true, eqb-false}
+use borrow.Author.Tests.{eq-eqb, ne-eqb}
 use Rattle.reading.specs.Types.{shape}
 use Rattle.reading.specs.declared.Shape.{Shape}
 use Rattle.reading.specs.declared.Shape.the-variants.{Plain, Channel}
@@ -20,8 +19,8 @@ use Rattle.inference.specs.Lists.{any, only, rising}
 use Rattle.inference.specs.Counts.{Count, fin, unlimited, _⊕_, repeatedly, countNumber, isZero}
 use Rattle.inference.specs.Acts.{Act, Component}
 use Rattle.inference.specs.Needs.{linkNeed, carriedNeed, channelNeed, need, needOn, needOf, isRead, isWrite, isAccess, disclosures, weigh, total, disclosed}
-use Rattle.inference.specs.Interface.{Disclosure, Entry, disclosuresOf, entryOf, holdsAny}
-use Rattle.inference.specs.Rows.{cellOf, cell, countOf, isSet, extentAt, disclosuresAt, entryAt, pathAt, stored, withPath, rowEntries}
+use Rattle.inference.specs.Interface.{disclosuresOf, entryOf, holdsAny}
+use Rattle.inference.specs.Rows.{cell, countOf, isSet, extentAt, disclosuresAt, entryAt, pathAt, stored, rowEntries}
 use Rattle.inference.proofs.CountLaws.{join-comm}
 use Rattle.interface.proofs.CellLaws.{landsIn, lands, lands-off-column, lands-few, Few, few-weigh}
 

@@ -2,7 +2,7 @@
 -- act discloses to one group at most and takes at least one byte of the sheet, so that 32 components and 4,096 bytes make at most
 -- 18,432 bytes of interface.
 use Prim.Native.Nat.{ℕ, zero, suc, _+_, _*_, _<_, _≤_}
-use mathlib.Core.Path.{_≡_, refl, sym, ap, ap₂, _∙_}
+use mathlib.Core.Path.{_≡_, refl, ap, _∙_}
 use mathlib.Core.List.{List, [], _∷_, _++_, map}
 use mathlib.Core.Bool.{Bool, true, false, cond, not, _&&_}
 use native.Mathlib.Omega.{arith}
@@ -21,16 +21,16 @@ use Rattle.reading.proofs.ReadLaws.{system-local}
 use Rattle.reading.proofs.Local.{place-after}
 use Rattle.reading.proofs.TreeLaws.{SheetParts}
 use Rattle.inference.specs.Lists.{only, gather, rising}
-use Rattle.inference.specs.Counts.{Count, fin, unlimited, _⊕_, repeatedly, isZero}
+use Rattle.inference.specs.Counts.{Count, _⊕_, repeatedly, isZero}
 use Rattle.inference.specs.Acts.{Act, Component as Owner, Located, acts, actsOf, locate, located}
 use Rattle.inference.specs.Needs.{needOf, disclosures, weigh, total, disclosed}
 use Rattle.inference.specs.declared.Need.{Need}
 use Rattle.inference.specs.declared.Need.the-variants.{Nothing, Read as Reading, Write, Access, Disclose}
-use Rattle.inference.specs.Interface.{Disclosure, Entry, disclosuresOf, entryOf, holdsAny, entriesOf, interface, listBytes, entryBytes, interfaceBytes}
+use Rattle.inference.specs.Interface.{Entry, disclosuresOf, entryOf, holdsAny, entriesOf, interface, entryBytes, interfaceBytes}
 use Rattle.inference.proofs.CountLaws.{nothing-join}
 use Rattle.interface.proofs.TableLaws.{AllStorable, store-none, store-more}
 use Rattle.interface.proofs.StoreLaws.{actCount, open-acts, acts-read, located-count, sheet-storable, sheet-components}
-use Rattle.interface.proofs.InterfaceLaws.{entry-length, list-most}
+use Rattle.interface.proofs.InterfaceLaws.{gather-append, entry-length, list-most}
 
 -- The sum over the numbers from a start on.
 sum : (ℕ → ℕ) → ℕ → ℕ → ℕ
@@ -212,14 +212,8 @@ acts-append [] ys = omega arith
 acts-append (x ∷ xs) ys = omega (arith, acts-append xs ys)
 
 bytes-append : (xs ys : List Entry) → length (interfaceBytes (xs ++ ys)) ≡ length (interfaceBytes xs) + length (interfaceBytes ys)
-unfolding interfaceBytes gather
-bytes-append [] ys = omega arith
-bytes-append (x ∷ xs) ys = omega (
-  arith,
-  length-append (entryBytes x) (gather entryBytes (xs ++ ys)),
-  length-append (entryBytes x) (gather entryBytes xs),
-  bytes-append xs ys,
-)
+unfolding interfaceBytes
+bytes-append xs ys = ap length (gather-append entryBytes xs ys) ∙ length-append (gather entryBytes xs) (gather entryBytes ys)
 
 all-size : (n : ℕ) (ls : List Located) → AllStorable n ls → length (interfaceBytes (gather entriesOf ls)) ≤ 192 * length ls + 3 * actsIn ls
 unfolding gather actsIn

@@ -5,30 +5,29 @@ use mathlib.Core.Path.{_≡_, refl, sym, ap, ap₂, _∙_}
 use mathlib.Core.List.{List, [], _∷_, _++_}
 use mathlib.Core.Bool.{Bool, true, false}
 use native.Mathlib.Omega.{arith}
-use native.Mathlib.Numerals.{sub-one}
 use lib.ListN.{length, getD, replicate, length-append, length-replicate, getD-replicate, List·getD-append, List·getD-eq-default}
 use lib.Seq.{getD-append-seam}
-use lib.Dec.{ltb, eqb}
+use lib.Dec.{eqb}
 use Rattle.reading.specs.Read.{Read, got, refused, andThen, byteAt, below}
 use Rattle.reading.specs.Types.{typeAt}
 use Rattle.reading.specs.Syntax.{Process, nil, par, new, input, output, repl, System, nilₛ, parₛ, groupₛ, newₛ, compₛ, Sheet, components}
 use native.Mathlib.Decide.{ℕ-discrete, decLt}
-use Rattle.reading.specs.Forms.{member, limited, freshGroup, groupForm, componentForm, newForm, systemForm, systemAt, processAt}
-use Rattle.reading.specs.System.{processFrom, readProcess, component, systemFrom, readSystem, readSheet, sheetOf}
+use Rattle.reading.specs.Forms.{member, freshGroup, groupForm, componentForm, newForm, systemForm, systemAt, processAt}
+use Rattle.reading.specs.System.{processFrom, readProcess, component, systemFrom, readSystem}
 use Rattle.reading.specs.declared.Form.{Form}
 use Rattle.reading.specs.declared.Form.the-variants.{Nil, Par, Group, New, Component, Input, Output, Replicate}
-use Rattle.reading.proofs.Parts.{never, parts, passed, below-found, Every, of-found, every-then, every-cond, every-limited}
-use Rattle.reading.proofs.FormLaws.{FitsSystem, system-room, system-level, process-room, process-level}
+use Rattle.reading.proofs.Parts.{never, parts, below-found, Every, of-found, every-then, every-cond, every-limited}
+use Rattle.reading.proofs.FormLaws.{FitsSystem, system-room}
 use Rattle.reading.proofs.ReadLaws.{process-local, read-system-local}
 use Rattle.reading.proofs.Local.{place-after}
-use Rattle.reading.proofs.TreeLaws.{process-begins, system-begins, components-few, SheetParts}
+use Rattle.reading.proofs.TreeLaws.{components-few, SheetParts}
 use Rattle.inference.specs.Lists.{gather, rising}
 use Rattle.inference.specs.Acts.{Act, Component as Owner, Located, acts, actsOf, locate, located}
-use Rattle.inference.specs.Interface.{interface, entriesOf}
+use Rattle.inference.specs.Interface.{interface}
 use Rattle.inference.specs.Rows.{tableEntries, rowEntries}
 use Rattle.inference.specs.Walks.{chargedAll}
 use Rattle.interface.proofs.CellLaws.{AllOf, of-none, of-more}
-use Rattle.interface.proofs.TableLaws.{FitsRow, Clear, Storable, AllStorable, store-none, store-more, table-from}
+use Rattle.interface.proofs.TableLaws.{FitsRow, Clear, AllStorable, store-none, store-more, table-from}
 
 -- How many acts a process has.
 unfoldable pub actCount : Process → ℕ

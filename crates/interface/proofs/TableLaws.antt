@@ -2,24 +2,23 @@
 -- change its own row alone, and a row holds its component's entries (RowLaws).
 use Prim.Native.Nat.{ℕ, zero, suc, _+_, _-_, _*_, _%_, _<_, _≤_, min}
 use mathlib.Core.Path.{_≡_, refl, sym, ap, ap₂, _∙_}
-use mathlib.Core.List.{List, [], _∷_, _++_, map}
-use mathlib.Core.Bool.{Bool, true, false}
-use mathlib.Core.Logic.{_⊎_, inl, inr, ⊎-elim}
+use mathlib.Core.List.{List, [], _∷_, _++_}
+use mathlib.Core.Logic.{inl, inr}
 use native.Mathlib.Omega.{arith}
 use native.Mathlib.Nat.{mod-eq-of-lt}
-use lib.ListN.{length, getD, set, take, drop, replicate, length-set, length-take, length-drop, getD-replicate}
+use lib.ListN.{length, getD, set, take, drop, length-set, length-take, length-drop}
 use lib.Seq.{getD-set-same, getD-set-other, getD-take, getD-drop, ext-getD}
-use Rattle.inference.specs.Lists.{only, gather, rising}
-use Rattle.inference.specs.Counts.{fin, _⊕_, countNumber}
-use Rattle.inference.specs.Acts.{Act, Component, Located, actsOf}
+use Rattle.inference.specs.Lists.{gather, rising}
+use Rattle.inference.specs.Counts.{fin, countNumber}
+use Rattle.inference.specs.Acts.{Located, actsOf}
 use Rattle.inference.specs.Needs.{needOf, total}
-use Rattle.inference.specs.Interface.{Entry, entryOf, holdsAny, entriesOf}
-use Rattle.inference.specs.Rows.{cellOf, cell, pathAt, stored, withPath, rowEntries, tableEntries}
+use Rattle.inference.specs.Interface.{entriesOf}
+use Rattle.inference.specs.Rows.{cellOf, cell, pathAt, stored, withPath, rowEntries}
 use Rattle.inference.specs.Walks.{charged, chargedAll}
 use Rattle.inference.proofs.CountLaws.{nothing-join}
 use Rattle.interface.proofs.CellLaws.{lands, Few, Outside, AllOf, length-charged, charged-kept, charged-count}
 use Rattle.interface.proofs.ExtentLaws.{charged-extent}
-use Rattle.interface.proofs.RowLaws.{Counted, row-entries, map-rising}
+use Rattle.interface.proofs.RowLaws.{Counted, row-entries}
 
 length-stored : (table : List ℕ) (at : ℕ) (xs : List ℕ) → length (stored table at xs) ≡ length table
 unfolding stored

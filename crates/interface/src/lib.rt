@@ -9,6 +9,7 @@ ghost use Rattle.inference.specs.Interface.{bit as flag, mapOf, disclosureBytes
 ghost use Rattle.inference.specs.Lists.{gather};
 ghost use Rattle.interface.specs.Writes.{Stored, groupBytes, entryBytesAt};
 use inference::rows::cell_at;
+use inference::rows::cell_of;
 use inference::rows::path_len;
 use inference::rows::path_of;
 use reading::Path;
@@ -18,7 +19,7 @@ pub fn count_at(table: &[u16], component: usize, kind: usize, column: usize) -> 
     requires { ⌜ (component < 32) × (kind < 16) × (column < 68) ⌝ }
     ensures { λ r. ⌜ r ≡ cell (now (table .entry)) component kind column ⌝ }
 {
-    cell_at(table, component * 1097 + (9 + (kind * 68 + column)))
+    cell_at(table, cell_of(component, kind, column))
 }
 
 // The extent of a component and a kind: it discloses data of the kind to groups below it alone.

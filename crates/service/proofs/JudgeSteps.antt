@@ -34,7 +34,6 @@ use Rattle.fit.specs.Faults.{entriesFault}
 use Rattle.service.specs.Questions.{passed, failed, Accepted, judged}
 use Rattle.service.specs.Later.{policyThenEntries, afterPolicy, laterFault}
 use Rattle.service.specs.Told.{firstFailed, Reads, Ready, Judges}
-use Rattle.service.specs.declared.Judged.{Judged}
 use Rattle.service.proofs.JudgeLaws.{judged-refused, judged-typing, judged-later}
 use Rattle.service.proofs.FirstLaws.{passed-reads}
 
@@ -133,14 +132,13 @@ module _ (s c table table′ : List ℕ) (walk : SystemWalk) (ready : Ready s c 
 -- Questions 1 to 6.
 module _ (s c : List ℕ) (r : NumberRead) (told : number r ≡ countedIn (sheetOf s c)) where
   pub unread-failed : (q w : Refusal) → r ≡ number-read.Refused q → w ≡ refusalOf r → judged s c ≡ failed (w .question)
-  unread-failed q w f h = go (sheetOf s c) refl
+  unfolding countedIn
+  unread-failed q w f h = go (sheetOf s c) refl told
     where
-      go : (x : Read Sheet) → sheetOf s c ≡ x → judged s c ≡ failed (w .question)
-      go (got a k) i =
-          let u : refused (q .question) (q .at) ≡ got (components (a .system)) k = ap number (sym f) ∙ told ∙ (ap countedIn i ∙ unfold countedIn in refl) in
-          never u
-      go (refused p m) i =
-          let u : refused (q .question) (q .at) ≡ refused p m = ap number (sym f) ∙ told ∙ (ap countedIn i ∙ unfold countedIn in refl) in
+      go : (x : Read Sheet) → sheetOf s c ≡ x → number r ≡ countedIn x → judged s c ≡ failed (w .question)
+      go (got a k) i u = never (ap number (sym f) ∙ u)
+      go (refused p m) i u =
+          let e : refused (q .question) (q .at) ≡ refused p m = ap number (sym f) ∙ u in
           let v : q .question ≡ p = cc in
           judged-refused s c p m i ∙ ap failed (sym (ap (λ (x : Refusal). x .question) (h ∙ ap refusalOf f) ∙ v))
 
@@ -155,15 +153,14 @@ module _ (s c : List ℕ) (r : NumberRead) (told : number r ≡ countedIn (sheet
       number-is : n .value ≡ components (sheet .system)
 
     counts : Counts
-    counts = go (sheetOf s c) refl
+    unfolding countedIn
+    counts = go (sheetOf s c) refl told
       where
-        go : (x : Read Sheet) → sheetOf s c ≡ x → Counts
-        go (got a k) i =
-            let u : got (n .value) (n .next) ≡ got (components (a .system)) k = ap number (sym f) ∙ told ∙ (ap countedIn i ∙ unfold countedIn in refl) in
+        go : (x : Read Sheet) → sheetOf s c ≡ x → number r ≡ countedIn x → Counts
+        go (got a k) i u =
+            let e : got (n .value) (n .next) ≡ got (components (a .system)) k = ap number (sym f) ∙ u in
             record { sheet = a; end = k; reads = i; number-is = cc }
-        go (refused p m) i =
-            let u : got (n .value) (n .next) ≡ refused p m = ap number (sym f) ∙ told ∙ (ap countedIn i ∙ unfold countedIn in refl) in
-            never (sym u)
+        go (refused p m) i u = never (sym (ap number (sym f) ∙ u))
 
     -- a new table of enough rows
     ready : (rows : ℕ) → n .value ≤ rows → Ready s c (replicate (rows * 1097) 0)
@@ -181,8 +178,4 @@ module _ (s c : List ℕ) (r : NumberRead) (told : number r ≡ countedIn (sheet
     pub all-ready : Ready s c (replicate 35104 0)
     all-ready = ready 32 (omega (arith, counts .number-is, sheet-components s c (counts .sheet) (counts .end) (sheet-parts s c (counts .reads))))
 
--- The first question that fails, where the sheet reads.
-pub judges-first : (s c table : List ℕ) (r : Judged) → Judges s c table r → r .fault ≡ firstFailed (judged s c)
-judges-first s c table r j = j .first
-
-pub ruleset judging = (needs, short-charter, typing-fails, typing-passes, unread-fails, few-ready, all-ready, judges-first)
+pub ruleset judging = (needs, short-charter, typing-fails, typing-passes, unread-fails, few-ready, all-ready)

@@ -1,7 +1,7 @@
 -- How much room `check` can need: an interface has at most 18,432 bytes, so that an output of that length is never refused
 -- with 19; and the number of a question that fails is at most 19.
-use Prim.Native.Nat.{ℕ, _<_, _≤_}
-use mathlib.Core.Path.{_≡_, refl, sym, _∙_}
+use Prim.Native.Nat.{ℕ, _≤_}
+use mathlib.Core.Path.{_≡_, refl}
 use mathlib.Core.List.{List}
 use mathlib.Core.Bool.{Bool, true, false}
 use native.Mathlib.Omega.{arith}

@@ -1,7 +1,7 @@
 -- Each number that an exported service answers tells one answer: below 64 it is the number of the question that failed; from 64 on
 -- the call was accepted, and 64 less is the length written or the number of moves. The bounds in `codeOf` are never reached.
 use Prim.Native.Nat.{ℕ, _+_, _*_, _<_, _≤_}
-use mathlib.Core.Path.{_≡_, refl, sym, ap, _∙_}
+use mathlib.Core.Path.{_≡_, refl, sym}
 use mathlib.Core.List.{List}
 use mathlib.Core.Bool.{Bool, true, false}
 use native.Mathlib.Omega.{arith}
@@ -17,7 +17,7 @@ use Rattle.running.specs.State.{State}
 use Rattle.running.specs.Products.{start}
 use Rattle.running.specs.Moves.{Move, hasRoom}
 use Rattle.running.specs.Script.{movesFrom, asTwentyOne, readScript}
-use Rattle.running.specs.Play.{Opened, openedFrom, opened, logged, outcomeOf, played}
+use Rattle.running.specs.Play.{openedFrom, opened, logged, outcomeOf, played}
 use Rattle.script.proofs.ScriptLaws.{script-moves, script-few}
 use Rattle.velimhaw.specs.Codes.{codeOf, CheckedAs, PlayedAs}
 
