@@ -32,47 +32,47 @@ pub with-least : (k a b m n : ℕ) → m ≡ min a b
     → _≡_ {A = SystemWalk} (record { next = k; fault = m; components = n }) (record { next = k; fault = min a b; components = n })
 with-least k a b m n e = rw e
 
-nothing : (t : Grown System) (at posts : ℕ) (path : List ℕ) (names : ℕ) (scope table : List ℕ) → t ≡ record { tree = nilₛ; next = at }
-    → InferredAt posts path t names scope scope table table (record { next = at; fault = 11; components = posts })
+nothing : (t : Grown System) (at preceding : ℕ) (path : List ℕ) (names : ℕ) (scope table : List ℕ) → t ≡ record { tree = nilₛ; next = at }
+    → InferredAt preceding path t names scope scope table table (record { next = at; fault = 11; components = preceding })
 unfolding locate worstAll chargedAll components
-nothing t at posts path names scope table e = rw e (record { place = refl; first = refl; number = omega arith; counted = refl; kept = refl })
+nothing t at preceding path names scope table e = rw e (record { place = refl; first = refl; number = omega arith; counted = refl; kept = refl })
 
 -- The form at a place.
-module _ (n : ℕ) (s : List ℕ) (names : ℕ) (path : List ℕ) (posts at : ℕ) (r : FormRead) (e : form r ≡ systemAt s at n names path posts) where
-  found : (p : Place) → r ≡ form-read.Found p → systemAt s at n names path posts ≡ got (p .form) (p .next)
+module _ (n : ℕ) (s : List ℕ) (names : ℕ) (path : List ℕ) (preceding at : ℕ) (r : FormRead) (e : form r ≡ systemAt s at n names path preceding) where
+  found : (p : Place) → r ≡ form-read.Found p → systemAt s at n names path preceding ≡ got (p .form) (p .next)
   found p h = sym (rw h at e)
 
   pub nest-left : (p : Place) → r ≡ form-read.Found p → 1 ≤ n
-  nest-left p h = system-nest s at n names path posts (found p h)
+  nest-left p h = system-nest s at n names path preceding (found p h)
 
-  pub room-to-open : (p : Place) → r ≡ form-read.Found p → opens names path posts (p .form) ≡ true
+  pub room-to-open : (p : Place) → r ≡ form-read.Found p → opens names path preceding (p .form) ≡ true
   unfolding opens
   room-to-open p h = go (p .form) (found p h)
     where
-      go : (f : Form) → systemAt s at n names path posts ≡ got f (p .next) → opens names path posts f ≡ true
+      go : (f : Form) → systemAt s at n names path preceding ≡ got f (p .next) → opens names path preceding f ≡ true
       go Nil q = refl
       go Par q = refl
-      go (Group g) q = group-room s at n names path posts q
-      go (New t) q = lt-ltb names 64 (system-names s at n names path posts q)
-      go (Head g) q = rw (component-room s at n names path posts q) (lt-ltb posts 32 (component-number s at n names path posts q))
+      go (Group g) q = group-room s at n names path preceding q
+      go (New t) q = lt-ltb names 64 (system-names s at n names path preceding q)
+      go (Head g) q = rw (component-room s at n names path preceding q) (lt-ltb preceding 32 (component-number s at n names path preceding q))
       go (Input a) q = refl
       go (Output a) q = refl
       go Replicate q = refl
 
   module _ (scope scope′ table table′ : List ℕ) where
     pub no-form : (q : Refusal) → r ≡ form-read.Refused q
-        → InferredAt posts path (systemTree n s names path posts at) names scope scope table table (record { next = at; fault = 11; components = posts })
-    no-form q h = nothing (systemTree n s names path posts at) at posts path names scope table
-        (system-stop n s names path posts at (q .question) (q .at) (sym (rw h at e)))
+        → InferredAt preceding path (systemTree n s names path preceding at) names scope scope table table (record { next = at; fault = 11; components = preceding })
+    no-form q h = nothing (systemTree n s names path preceding at) at preceding path names scope table
+        (system-stop n s names path preceding at (q .question) (q .at) (sym (rw h at e)))
 
     pub by-form : (p : Place) (w : SystemWalk) → r ≡ form-read.Found p
-        → InferredAt posts path (systemGrown (λ ns l j m. systemTree (n - 1) s ns l j m) (λ m. processTree (n - 1) s names m) at names path posts (p .form) (p .next))
+        → InferredAt preceding path (systemGrown (λ ns l j m. systemTree (n - 1) s ns l j m) (λ m. processTree (n - 1) s names m) at names path preceding (p .form) (p .next))
         names scope scope′ table table′ w
-        → InferredAt posts path (systemTree n s names path posts at) names scope scope′ table table′ w
-    by-form p w h i = rw (system-step n s names path posts at (p .form) (p .next) (found p h)) i
+        → InferredAt preceding path (systemTree n s names path preceding at) names scope scope′ table table′ w
+    by-form p w h i = rw (system-step n s names path preceding at (p .form) (p .next) (found p h)) i
 
 -- The arms of the match on a form.
-module _ (names : ℕ) (path : List ℕ) (posts : ℕ) (f : Form) (h : opens names path posts f ≡ true) where
+module _ (names : ℕ) (path : List ℕ) (preceding : ℕ) (f : Form) (h : opens names path preceding f ≡ true) where
   pub new-opens : (t : ℕ) → f ≡ New t → names < 64
   unfolding opens
   new-opens t e = ltb-true names 64 (rw e at h)
@@ -83,56 +83,56 @@ module _ (names : ℕ) (path : List ℕ) (posts : ℕ) (f : Form) (h : opens nam
 
   pub head-opens : (g : ℕ) → f ≡ Head g → ltb (length path) 8 ≡ true
   unfolding opens
-  head-opens g e = both-left (ltb (length path) 8) (ltb posts 32) (rw e at h)
+  head-opens g e = both-left (ltb (length path) 8) (ltb preceding 32) (rw e at h)
 
-  pub head-number : (g : ℕ) → f ≡ Head g → posts < 32
+  pub head-number : (g : ℕ) → f ≡ Head g → preceding < 32
   unfolding opens
-  head-number g e = ltb-true posts 32 (both-right (ltb (length path) 8) (ltb posts 32) (rw e at h))
+  head-number g e = ltb-true preceding 32 (both-right (ltb (length path) 8) (ltb preceding 32) (rw e at h))
 
-module _ (grow : ℕ → List ℕ → ℕ → ℕ → Grown System) (process : ℕ → Grown Process) (at names : ℕ) (path : List ℕ) (posts : ℕ) (f : Form) (next : ℕ)
+module _ (grow : ℕ → List ℕ → ℕ → ℕ → Grown System) (process : ℕ → Grown Process) (at names : ℕ) (path : List ℕ) (preceding : ℕ) (f : Form) (next : ℕ)
     (scope scope′ table table′ : List ℕ) where
   abbrev grown : Grown System
-  grown = systemGrown grow process at names path posts f next
+  grown = systemGrown grow process at names path preceding f next
 
-  pub form-nil : f ≡ Nil → InferredAt posts path grown names scope scope table table
-      (record { next = next; fault = 11; components = posts })
+  pub form-nil : f ≡ Nil → InferredAt preceding path grown names scope scope table table
+      (record { next = next; fault = 11; components = preceding })
   unfolding systemGrown
-  form-nil e = nothing grown next posts path names scope table (rw e)
+  form-nil e = nothing grown next preceding path names scope table (rw e)
 
-  pub form-input : (a : Fields) → f ≡ Input a → InferredAt posts path grown names scope scope table table
-      (record { next = at; fault = 11; components = posts })
+  pub form-input : (a : Fields) → f ≡ Input a → InferredAt preceding path grown names scope scope table table
+      (record { next = at; fault = 11; components = preceding })
   unfolding systemGrown
-  form-input a e = nothing grown at posts path names scope table (rw e)
+  form-input a e = nothing grown at preceding path names scope table (rw e)
 
-  pub form-output : (a : Fields) → f ≡ Output a → InferredAt posts path grown names scope scope table table
-      (record { next = at; fault = 11; components = posts })
+  pub form-output : (a : Fields) → f ≡ Output a → InferredAt preceding path grown names scope scope table table
+      (record { next = at; fault = 11; components = preceding })
   unfolding systemGrown
-  form-output a e = nothing grown at posts path names scope table (rw e)
+  form-output a e = nothing grown at preceding path names scope table (rw e)
 
-  pub form-repl : f ≡ Replicate → InferredAt posts path grown names scope scope table table
-      (record { next = at; fault = 11; components = posts })
+  pub form-repl : f ≡ Replicate → InferredAt preceding path grown names scope scope table table
+      (record { next = at; fault = 11; components = preceding })
   unfolding systemGrown
-  form-repl e = nothing grown at posts path names scope table (rw e)
+  form-repl e = nothing grown at preceding path names scope table (rw e)
 
   module _ (w : SystemWalk) where
     pub form-par : f ≡ Par
-        → InferredAt posts path (beside parₛ (grow names path posts next) (λ l m. grow names path (posts + components l) m)) names scope scope′ table table′ w → InferredAt posts path grown names scope scope′ table table′ w
+        → InferredAt preceding path (beside parₛ (grow names path preceding next) (λ l m. grow names path (preceding + components l) m)) names scope scope′ table table′ w → InferredAt preceding path grown names scope scope′ table table′ w
     unfolding systemGrown
     form-par e h = rw e h
 
-    pub form-new : (t : ℕ) → f ≡ New t → InferredAt posts path (under (newₛ t) (grow (names + 1) path posts next)) names scope scope′ table table′ w → InferredAt posts path grown names scope scope′ table table′ w
+    pub form-new : (t : ℕ) → f ≡ New t → InferredAt preceding path (under (newₛ t) (grow (names + 1) path preceding next)) names scope scope′ table table′ w → InferredAt preceding path grown names scope scope′ table table′ w
     unfolding systemGrown
     form-new t e h = rw e h
 
-    pub form-head : (g : ℕ) → f ≡ Head g → InferredAt posts path (under (compₛ g) (process next)) names scope scope′ table table′ w → InferredAt posts path grown names scope scope′ table table′ w
+    pub form-head : (g : ℕ) → f ≡ Head g → InferredAt preceding path (under (compₛ g) (process next)) names scope scope′ table table′ w → InferredAt preceding path grown names scope scope′ table table′ w
     unfolding systemGrown
     form-head g e h = rw e h
 
-    pub form-group : (g : ℕ) (deeper : List ℕ) → f ≡ Group g → opens names path posts f ≡ true
+    pub form-group : (g : ℕ) (deeper : List ℕ) → f ≡ Group g → opens names path preceding f ≡ true
         → (ltb (length path) 8 ≡ true → deeper ≡ path ++ (g ∷ []))
-        → InferredAt posts deeper (grow names deeper posts next) names scope scope′ table table′ w → InferredAt posts path grown names scope scope′ table table′ w
+        → InferredAt preceding deeper (grow names deeper preceding next) names scope scope′ table table′ w → InferredAt preceding path grown names scope scope′ table table′ w
     unfolding systemGrown under locate components
-    form-group g deeper e o d h = let q = d (group-opens names path posts f o g e) in
+    form-group g deeper e o d h = let q = d (group-opens names path preceding f o g e) in
         rw e (record {
           place = rw q at (h .place);
           first = rw q at (h .first);
@@ -142,9 +142,9 @@ module _ (grow : ℕ → List ℕ → ℕ → ℕ → Grown System) (process : �
         })
 
 -- Under one name more.
-module _ (t : Grown System) (names u posts : ℕ) (path scope scope₁ scope′ table table′ : List ℕ) (w : SystemWalk) where
-  pub under-new : scope₁ ≡ set scope names u → length scope ≡ 64 → names < 64 → InferredAt posts path t (names + 1) scope₁ scope′ table table′ w
-      → InferredAt posts path (under (newₛ u) t) names scope scope′ table table′ w
+module _ (t : Grown System) (names u preceding : ℕ) (path scope scope₁ scope′ table table′ : List ℕ) (w : SystemWalk) where
+  pub under-new : scope₁ ≡ set scope names u → length scope ≡ 64 → names < 64 → InferredAt preceding path t (names + 1) scope₁ scope′ table table′ w
+      → InferredAt preceding path (under (newₛ u) t) names scope scope′ table table′ w
   unfolding under locate components
   under-new e l k h =
       let widened = bound-in scope scope₁ names u e (omega arith) in
@@ -157,10 +157,10 @@ module _ (t : Grown System) (names u posts : ℕ) (path scope scope₁ scope′ 
       }
 
 -- A component.
-module _ (t : Grown Process) (names g posts : ℕ) (path own scope scope′ table table₁ table′ : List ℕ) (w : Walk) where
-  pub component-found : ltb (length path) 8 ≡ true → (ltb (length path) 8 ≡ true → own ≡ path ++ (g ∷ [])) → table₁ ≡ withPath table posts own
-      → Inferred t (acts (record { number = posts; path = own }) false (take names scope) (t .tree)) names scope scope′ table₁ table′ w
-      → InferredAt posts path (under (compₛ g) t) names scope scope′ table table′ (record { next = w .next; fault = w .fault; components = posts + 1 })
+module _ (t : Grown Process) (names g preceding : ℕ) (path own scope scope′ table table₁ table′ : List ℕ) (w : Walk) where
+  pub component-found : ltb (length path) 8 ≡ true → (ltb (length path) 8 ≡ true → own ≡ path ++ (g ∷ [])) → table₁ ≡ withPath table preceding own
+      → Inferred t (acts (record { number = preceding; path = own }) false (take names scope) (t .tree)) names scope scope′ table₁ table′ w
+      → InferredAt preceding path (under (compₛ g) t) names scope scope′ table table′ (record { next = w .next; fault = w .fault; components = preceding + 1 })
   unfolding under locate components worstAll chargedAll actsOf
   component-found o d q h = record {
     place = h .place;
@@ -174,11 +174,11 @@ module _ (t : Grown Process) (names g posts : ℕ) (path own scope scope′ tabl
       once i j = omega arith
 
 -- One system after another.
-module _ (n : ℕ) (s : List ℕ) (names : ℕ) (path : List ℕ) (posts at : ℕ) (scope scope₁ scope′ table table₁ table′ : List ℕ) (l r w : SystemWalk) where
-  pub after-left : InferredAt posts path (systemTree n s names path posts at) names scope scope₁ table table₁ l
+module _ (n : ℕ) (s : List ℕ) (names : ℕ) (path : List ℕ) (preceding at : ℕ) (scope scope₁ scope′ table table₁ table′ : List ℕ) (l r w : SystemWalk) where
+  pub after-left : InferredAt preceding path (systemTree n s names path preceding at) names scope scope₁ table table₁ l
       → InferredAt (l .components) path (systemTree n s names path (l .components) (l .next)) names scope₁ scope′ table₁ table′ r
       → w ≡ record { next = r .next; fault = min (l .fault) (r .fault); components = r .components }
-      → InferredAt posts path (beside parₛ (systemTree n s names path posts at) (λ p m. systemTree n s names path (posts + components p) m))
+      → InferredAt preceding path (beside parₛ (systemTree n s names path preceding at) (λ p m. systemTree n s names path (preceding + components p) m))
       names scope scope′ table table′ w
   unfolding beside under locate components
   after-left h i e = rw (e, ← h .place, ← h .number) (record {

@@ -41,7 +41,7 @@ pub record Act : Type 0 where
   pub channel : Option ℕ
   pub object : Option ℕ
 
--- The acts of a process. A receive's bound name is in scope in its sequel alone.
+-- The acts of a process. A receive's bound name is in scope in its continuation alone.
 unfoldable pub acts : Component → Bool → List ℕ → Process → List Act
 acts c repeated scope nil = []
 acts c repeated scope (par p q) = acts c repeated scope p ++ acts c repeated scope q

@@ -95,14 +95,14 @@ InferredAt before path t names scope scope′ table table′ r =
 
 -- Where a form of a system binds a name, opens a group or is a component, there is room for it.
 unfoldable pub opens : ℕ → List ℕ → ℕ → Form → Bool
-opens names path posts Nil = true
-opens names path posts Par = true
-opens names path posts (Group g) = ltb (length path) 8
-opens names path posts (New t) = ltb names 64
-opens names path posts (Head g) = ltb (length path) 8 && ltb posts 32
-opens names path posts (Input a) = true
-opens names path posts (Output a) = true
-opens names path posts Replicate = true
+opens names path preceding Nil = true
+opens names path preceding Par = true
+opens names path preceding (Group g) = ltb (length path) 8
+opens names path preceding (New t) = ltb names 64
+opens names path preceding (Head g) = ltb (length path) 8 && ltb preceding 32
+opens names path preceding (Input a) = true
+opens names path preceding (Output a) = true
+opens names path preceding Replicate = true
 
 -- What a whole sheet's walk finds and writes.
 pub record InferredSheet (sheet : Sheet) (table table′ : List ℕ) (r : SystemWalk) : Type 0 where

@@ -32,7 +32,7 @@ pub struct Spot {
     pub names: usize,
 }
 
-// Whose text a walk goes over: the component's number and path, and whether it stands under a repeat.
+// Whose process a walk goes over: the component's number and path, and whether it stands under a repeat.
 pub struct Context {
     pub component: usize,
     pub path: Path,

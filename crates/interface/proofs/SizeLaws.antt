@@ -227,60 +227,60 @@ all-size n (l ∷ rest) (store-more ok more) = omega (
 
 -- Each act takes at least one byte of the sheet.
 module _ (read : ℕ → List ℕ → ℕ → ℕ → Read System) (process : ℕ → Read Process)
-    (l : (ns : ℕ) (path : List ℕ) (posts m : ℕ) (scope : List ℕ) (p : System) (k : ℕ) → read ns path posts m ≡ got p k
-    → m + actsIn (locate posts path scope p) ≤ k)
+    (l : (ns : ℕ) (path : List ℕ) (preceding m : ℕ) (scope : List ℕ) (p : System) (k : ℕ) → read ns path preceding m ≡ got p k
+    → m + actsIn (locate preceding path scope p) ≤ k)
     (a : (m : ℕ) (p : Process) (k : ℕ) → process m ≡ got p k → m + actCount p ≤ k)
-    (at names : ℕ) (path : List ℕ) (posts : ℕ) (scope : List ℕ) where
+    (at names : ℕ) (path : List ℕ) (preceding : ℕ) (scope : List ℕ) where
   located-from : (f : Form) (next : ℕ) → at < next → {p : System} {k : ℕ}
-      → systemFrom read process at names path posts f next ≡ got p k → at + actsIn (locate posts path scope p) ≤ k
+      → systemFrom read process at names path preceding f next ≡ got p k → at + actsIn (locate preceding path scope p) ≤ k
   unfolding systemFrom component locate actsIn actsOf
   located-from Nil next h {p} {k} e = let z : nilₛ ≡ p = cc in let w : next ≡ k = cc in rw (← z) (omega arith)
   located-from Par next h {p} {k} e =
-      let x = parts (read names path posts next) (λ u m. andThen (read names path (posts + components u) m) (λ v j. got (parₛ u v) j)) e in
-      let y = parts (read names path (posts + components (x .value)) (x .place)) (λ v j. got (parₛ (x .value) v) j) (x .rest) in
+      let x = parts (read names path preceding next) (λ u m. andThen (read names path (preceding + components u) m) (λ v j. got (parₛ u v) j)) e in
+      let y = parts (read names path (preceding + components (x .value)) (x .place)) (λ v j. got (parₛ (x .value) v) j) (x .rest) in
       let z : parₛ (x .value) (y .value) ≡ p = cc in
       let w : y .place ≡ k = cc in
       rw (← z) (omega (
         arith,
-        acts-append (locate posts path scope (x .value)) (locate (posts + components (x .value)) path scope (y .value)),
-        l names path posts next scope (x .value) (x .place) (x .first),
-        l names path (posts + components (x .value)) (x .place) scope (y .value) (y .place) (y .first),
+        acts-append (locate preceding path scope (x .value)) (locate (preceding + components (x .value)) path scope (y .value)),
+        l names path preceding next scope (x .value) (x .place) (x .first),
+        l names path (preceding + components (x .value)) (x .place) scope (y .value) (y .place) (y .first),
       ))
   located-from (Group b) next h {p} {k} e =
-      let x = parts (read names (path ++ (b ∷ [])) posts next) (λ u j. got (groupₛ b u) j) e in
+      let x = parts (read names (path ++ (b ∷ [])) preceding next) (λ u j. got (groupₛ b u) j) e in
       let z : groupₛ b (x .value) ≡ p = cc in
       let w : x .place ≡ k = cc in
-      rw (← z) (omega (arith, l names (path ++ (b ∷ [])) posts next scope (x .value) (x .place) (x .first)))
+      rw (← z) (omega (arith, l names (path ++ (b ∷ [])) preceding next scope (x .value) (x .place) (x .first)))
   located-from (New t) next h {p} {k} e =
-      let x = parts (read (names + 1) path posts next) (λ u j. got (newₛ t u) j) e in
+      let x = parts (read (names + 1) path preceding next) (λ u j. got (newₛ t u) j) e in
       let z : newₛ t (x .value) ≡ p = cc in
       let w : x .place ≡ k = cc in
-      rw (← z) (omega (arith, l (names + 1) path posts next (scope ++ (t ∷ [])) (x .value) (x .place) (x .first)))
+      rw (← z) (omega (arith, l (names + 1) path preceding next (scope ++ (t ∷ [])) (x .value) (x .place) (x .first)))
   located-from (Component b) next h {p} {k} e =
       let x = parts (process next) (λ u j. got (compₛ b u) j) e in
       let z : compₛ b (x .value) ≡ p = cc in
       let w : x .place ≡ k = cc in
       rw (← z) (omega (
         arith,
-        open-acts (record { number = posts; path = path ++ (b ∷ []) }) false scope (x .value),
+        open-acts (record { number = preceding; path = path ++ (b ∷ []) }) false scope (x .value),
         a next (x .value) (x .place) (x .first),
       ))
   located-from (Input i) next h e = never e
   located-from (Output i) next h e = never e
   located-from Replicate next h e = never e
 
-located-acts : (nest : ℕ) (s : List ℕ) (names : ℕ) (path : List ℕ) (posts at : ℕ) (scope : List ℕ) (p : System) (k : ℕ)
-    → readSystem nest s names path posts at ≡ got p k → at + actsIn (locate posts path scope p) ≤ k
+located-acts : (nest : ℕ) (s : List ℕ) (names : ℕ) (path : List ℕ) (preceding at : ℕ) (scope : List ℕ) (p : System) (k : ℕ)
+    → readSystem nest s names path preceding at ≡ got p k → at + actsIn (locate preceding path scope p) ≤ k
 unfolding readSystem
-located-acts zero s names path posts at scope p k e =
-    let x = parts (systemAt s at 0 names path posts) (λ f next. refused 5 at) e in never (x .rest)
-located-acts (suc n) s names path posts at scope p k e =
-    let x = parts (systemAt s at (suc n) names path posts)
-    (λ f next. systemFrom (λ ns q i m. readSystem n s ns q i m) (λ m. readProcess n s names m) at names path posts f next) e in
+located-acts zero s names path preceding at scope p k e =
+    let x = parts (systemAt s at 0 names path preceding) (λ f next. refused 5 at) e in never (x .rest)
+located-acts (suc n) s names path preceding at scope p k e =
+    let x = parts (systemAt s at (suc n) names path preceding)
+    (λ f next. systemFrom (λ ns q i m. readSystem n s ns q i m) (λ m. readProcess n s names m) at names path preceding f next) e in
     located-from (λ ns q i m. readSystem n s ns q i m) (λ m. readProcess n s names m)
-    (λ ns q i m sc r j f. located-acts n s ns q i m sc r j f) (λ m r j f. acts-read n s names m f) at names path posts scope
+    (λ ns q i m sc r j f. located-acts n s ns q i m sc r j f) (λ m r j f. acts-read n s names m f) at names path preceding scope
     (x .value) (x .place)
-    (omega (arith, place-after (at + 1) (λ b. systemAt b at (suc n) names path posts) (system-local at (suc n) names path posts) s (x .first)))
+    (omega (arith, place-after (at + 1) (λ b. systemAt b at (suc n) names path preceding) (system-local at (suc n) names path preceding) s (x .first)))
     (x .rest)
 
 -- The interface of a sheet that was read has at most 18,432 bytes.

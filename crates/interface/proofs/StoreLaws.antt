@@ -123,9 +123,9 @@ fresh-below : (s : List ℕ) (at : ℕ) (path : List ℕ) → Every (λ g. g < 6
 unfolding Every freshGroup
 fresh-below s at path = every-then _ (below 64 s at) _ (λ g next e. every-cond _ (member g path) _ _ tt (below-found 64 s at e))
 
-form-group : (s : List ℕ) (at nest names : ℕ) (path : List ℕ) (posts : ℕ) → Every GroupBelow (systemAt s at nest names path posts)
+form-group : (s : List ℕ) (at nest names : ℕ) (path : List ℕ) (preceding : ℕ) → Every GroupBelow (systemAt s at nest names path preceding)
 unfolding Every GroupBelow systemAt systemForm groupForm componentForm newForm
-form-group s at nest names path posts = every-then P (byteAt s at) _ (λ code next _.
+form-group s at nest names path preceding = every-then P (byteAt s at) _ (λ code next _.
     every-cond P (eqb code 0) _ _ (every-limited P _ at _ (λ e. tt))
     (every-cond P (eqb code 1) _ _ (every-limited P _ at _ (λ e. tt))
     (every-cond P (eqb code 2) _ _ (every-limited P _ at _ (λ e. every-then P (freshGroup s next path) _ (λ g m h. of-found _ (freshGroup s next path) (fresh-below s next path) h)))
@@ -167,40 +167,40 @@ located-count number path scope (newₛ t p) = located-count number path (scope 
 located-count number path scope (compₛ g p) = refl
 
 module _ (read : ℕ → List ℕ → ℕ → ℕ → Read System) (process : ℕ → Read Process)
-    (later : (ns : ℕ) (path : List ℕ) (posts m : ℕ) (p : System) (k : ℕ) → read ns path posts m ≡ got p k → m ≤ k)
-    (l : (ns : ℕ) (path : List ℕ) (posts m : ℕ) (scope : List ℕ) (p : System) (k : ℕ) → read ns path posts m ≡ got p k → FitsRow path → k ≤ 65000
-    → AllStorable posts (locate posts path scope p))
+    (later : (ns : ℕ) (path : List ℕ) (preceding m : ℕ) (p : System) (k : ℕ) → read ns path preceding m ≡ got p k → m ≤ k)
+    (l : (ns : ℕ) (path : List ℕ) (preceding m : ℕ) (scope : List ℕ) (p : System) (k : ℕ) → read ns path preceding m ≡ got p k → FitsRow path → k ≤ 65000
+    → AllStorable preceding (locate preceding path scope p))
     (a : (m : ℕ) (p : Process) (k : ℕ) → process m ≡ got p k → m + actCount p ≤ k)
-    (at names : ℕ) (path : List ℕ) (posts : ℕ) (scope : List ℕ) (fits : FitsRow path) where
-  store-from : (f : Form) (next : ℕ) → FitsSystem 64 0 (length path) posts f → GroupBelow f → {p : System} {k : ℕ}
-      → systemFrom read process at names path posts f next ≡ got p k → k ≤ 65000 → AllStorable posts (locate posts path scope p)
+    (at names : ℕ) (path : List ℕ) (preceding : ℕ) (scope : List ℕ) (fits : FitsRow path) where
+  store-from : (f : Form) (next : ℕ) → FitsSystem 64 0 (length path) preceding f → GroupBelow f → {p : System} {k : ℕ}
+      → systemFrom read process at names path preceding f next ≡ got p k → k ≤ 65000 → AllStorable preceding (locate preceding path scope p)
   unfolding systemFrom component FitsSystem GroupBelow locate actsOf
   store-from Nil next h g {p} e few = let z : nilₛ ≡ p = cc in rw (← z) store-none
   store-from Par next h g {p} {k} e few =
-      let x = parts (read names path posts next) (λ u m. andThen (read names path (posts + components u) m) (λ v j. got (parₛ u v) j)) e in
-      let y = parts (read names path (posts + components (x .value)) (x .place)) (λ v j. got (parₛ (x .value) v) j) (x .rest) in
+      let x = parts (read names path preceding next) (λ u m. andThen (read names path (preceding + components u) m) (λ v j. got (parₛ u v) j)) e in
+      let y = parts (read names path (preceding + components (x .value)) (x .place)) (λ v j. got (parₛ (x .value) v) j) (x .rest) in
       let z : parₛ (x .value) (y .value) ≡ p = cc in
       let w : y .place ≡ k = cc in
-      let mono = later names path (posts + components (x .value)) (x .place) (y .value) (y .place) (y .first) in
-      rw (← z) (store-append posts (posts + components (x .value))
-      (l names path posts next scope (x .value) (x .place) (x .first) fits (omega arith))
-      (ap (λ (n : ℕ). posts + n) (sym (located-count posts path scope (x .value))))
-      (l names path (posts + components (x .value)) (x .place) scope (y .value) (y .place) (y .first) fits (omega arith)))
+      let mono = later names path (preceding + components (x .value)) (x .place) (y .value) (y .place) (y .first) in
+      rw (← z) (store-append preceding (preceding + components (x .value))
+      (l names path preceding next scope (x .value) (x .place) (x .first) fits (omega arith))
+      (ap (λ (n : ℕ). preceding + n) (sym (located-count preceding path scope (x .value))))
+      (l names path (preceding + components (x .value)) (x .place) scope (y .value) (y .place) (y .first) fits (omega arith)))
   store-from (Group b) next h g {p} {k} e few =
-      let x = parts (read names (path ++ (b ∷ [])) posts next) (λ u j. got (groupₛ b u) j) e in
+      let x = parts (read names (path ++ (b ∷ [])) preceding next) (λ u j. got (groupₛ b u) j) e in
       let z : groupₛ b (x .value) ≡ p = cc in
       let w : x .place ≡ k = cc in
-      rw (← z) (l names (path ++ (b ∷ [])) posts next scope (x .value) (x .place) (x .first) (fits-more path b fits (h .1) g) (omega arith))
+      rw (← z) (l names (path ++ (b ∷ [])) preceding next scope (x .value) (x .place) (x .first) (fits-more path b fits (h .1) g) (omega arith))
   store-from (New t) next h g {p} {k} e few =
-      let x = parts (read (names + 1) path posts next) (λ u j. got (newₛ t u) j) e in
+      let x = parts (read (names + 1) path preceding next) (λ u j. got (newₛ t u) j) e in
       let z : newₛ t (x .value) ≡ p = cc in
       let w : x .place ≡ k = cc in
-      rw (← z) (l (names + 1) path posts next (scope ++ (t ∷ [])) (x .value) (x .place) (x .first) fits (omega arith))
+      rw (← z) (l (names + 1) path preceding next (scope ++ (t ∷ [])) (x .value) (x .place) (x .first) fits (omega arith))
   store-from (Component b) next h g {p} {k} e few =
       let x = parts (process next) (λ u j. got (compₛ b u) j) e in
       let z : compₛ b (x .value) ≡ p = cc in
       let w : x .place ≡ k = cc in
-      let c : Owner = record { number = posts; path = path ++ (b ∷ []) } in
+      let c : Owner = record { number = preceding; path = path ++ (b ∷ []) } in
       rw (← z) (store-more (record {
         number = refl;
         fits = fits-more path b fits (h .1) g;
@@ -213,31 +213,31 @@ module _ (read : ℕ → List ℕ → ℕ → ℕ → Read System) (process : �
   store-from Replicate next h g e few = never e
 
 -- what FitsSystem says of the path and of the components does not depend on the nesting and the names
-fits-any : (nest names long posts : ℕ) (f : Form) → FitsSystem nest names long posts f → FitsSystem 64 0 long posts f
+fits-any : (nest names long preceding : ℕ) (f : Form) → FitsSystem nest names long preceding f → FitsSystem 64 0 long preceding f
 unfolding FitsSystem
-fits-any nest names long posts Nil h = omega arith
-fits-any nest names long posts Par h = omega arith
-fits-any nest names long posts (Group g) h = (omega arith, h .1)
-fits-any nest names long posts (New t) h = (omega arith, omega arith)
-fits-any nest names long posts (Component g) h = (omega arith, h .1, h .2)
-fits-any nest names long posts (Input a) h = h
-fits-any nest names long posts (Output a) h = h
-fits-any nest names long posts Replicate h = h
+fits-any nest names long preceding Nil h = omega arith
+fits-any nest names long preceding Par h = omega arith
+fits-any nest names long preceding (Group g) h = (omega arith, h .1)
+fits-any nest names long preceding (New t) h = (omega arith, omega arith)
+fits-any nest names long preceding (Component g) h = (omega arith, h .1, h .2)
+fits-any nest names long preceding (Input a) h = h
+fits-any nest names long preceding (Output a) h = h
+fits-any nest names long preceding Replicate h = h
 
-store-read : (nest : ℕ) (s : List ℕ) (names : ℕ) (path : List ℕ) (posts at : ℕ) (scope : List ℕ) (p : System) (k : ℕ)
-    → readSystem nest s names path posts at ≡ got p k → FitsRow path → k ≤ 65000 → AllStorable posts (locate posts path scope p)
+store-read : (nest : ℕ) (s : List ℕ) (names : ℕ) (path : List ℕ) (preceding at : ℕ) (scope : List ℕ) (p : System) (k : ℕ)
+    → readSystem nest s names path preceding at ≡ got p k → FitsRow path → k ≤ 65000 → AllStorable preceding (locate preceding path scope p)
 unfolding readSystem
-store-read zero s names path posts at scope p k e fits few =
-    let a = parts (systemAt s at 0 names path posts) (λ f next. refused 5 at) e in never (a .rest)
-store-read (suc n) s names path posts at scope p k e fits few =
-    let a = parts (systemAt s at (suc n) names path posts)
-    (λ f next. systemFrom (λ ns q i m. readSystem n s ns q i m) (λ m. readProcess n s names m) at names path posts f next) e in
+store-read zero s names path preceding at scope p k e fits few =
+    let a = parts (systemAt s at 0 names path preceding) (λ f next. refused 5 at) e in never (a .rest)
+store-read (suc n) s names path preceding at scope p k e fits few =
+    let a = parts (systemAt s at (suc n) names path preceding)
+    (λ f next. systemFrom (λ ns q i m. readSystem n s ns q i m) (λ m. readProcess n s names m) at names path preceding f next) e in
     store-from (λ ns q i m. readSystem n s ns q i m) (λ m. readProcess n s names m)
     (λ ns q i m r j f. omega (arith, place-after (m + 1) (λ b. readSystem n b ns q i m) (read-system-local n ns q i m) s f))
     (λ ns q i m sc r j f fi fe. store-read n s ns q i m sc r j f fi fe)
-    (λ m r j f. acts-read n s names m f) at names path posts scope fits (a .value) (a .place)
-    (fits-any (suc n) names (length path) posts (a .value) (system-room s at (suc n) names path posts (a .first)))
-    (of-found _ (systemAt s at (suc n) names path posts) (form-group s at (suc n) names path posts) (a .first)) (a .rest) few
+    (λ m r j f. acts-read n s names m f) at names path preceding scope fits (a .value) (a .place)
+    (fits-any (suc n) names (length path) preceding (a .value) (system-room s at (suc n) names path preceding (a .first)))
+    (of-found _ (systemAt s at (suc n) names path preceding) (form-group s at (suc n) names path preceding) (a .first)) (a .rest) few
 
 -- The components of a sheet that was read can be stored, and there are at most 32.
 pub sheet-storable : (s charter : List ℕ) (sheet : Sheet) (k : ℕ) → SheetParts s charter sheet k → AllStorable 0 (located sheet)

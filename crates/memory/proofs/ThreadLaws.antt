@@ -18,10 +18,10 @@ digit-last a d m h = rw (mul-add-mod-self-right a m d, mod-eq-of-lt h)
 pub digits-before : (a d m : ℕ) → d < m → (a * m + d) / m ≡ a
 digits-before a d m h = let pos : 0 < m = omega arith in rw (mul-add-div-right pos a d, div-eq-of-lt h, add-zero a)
 
-pub unpack-pack : (t : Thread) → t .post < 256 → t .env < 65536 → t .names < 128 → t .nest < 128 → t .at < 8192 → unpacked (packed t) ≡ t
+pub unpack-pack : (t : Thread) → t .component < 256 → t .env < 65536 → t .names < 128 → t .nest < 128 → t .at < 8192 → unpacked (packed t) ≡ t
 unfolding packed unpacked
 unpack-pack t p e n k a =
-    let who = t .env * 256 + t .post in
+    let who = t .env * 256 + t .component in
     let scope = who * 128 + t .names in
     let nested = scope * 128 + t .nest in
     rw (
@@ -36,13 +36,13 @@ unpack-pack t p e n k a =
       digit-last scope (t .nest) 128 k,
       digits-before who (t .names) 128 n,
       digit-last who (t .names) 128 n,
-      digits-before (t .env) (t .post) 256 p,
-      digit-last (t .env) (t .post) 256 p,
+      digits-before (t .env) (t .component) 256 p,
+      digit-last (t .env) (t .component) 256 p,
     )
 
-pub post-small : (w : ℕ) → unpacked w .post < 256
+pub component-small : (w : ℕ) → unpacked w .component < 256
 unfolding unpacked
-post-small w = mod-lt (w / 8192 / 128 / 128) (lit< tt)
+component-small w = mod-lt (w / 8192 / 128 / 128) (lit< tt)
 
 pub replaced-length : {A : Type 0} (l : List A) (at from : ℕ) (others : List A) → at ≤ length l → from ≤ length l
     → length (replaced l at from others) ≡ at + length others + (length l - from)

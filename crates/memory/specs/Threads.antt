@@ -6,11 +6,11 @@ use Rattle.memory.specs.declared.Thread.{Thread}
 
 -- each field in digits of its own
 unfoldable pub packed : Thread → ℕ
-packed t = (((t .env % 65536 * 256 + t .post % 256) * 128 + t .names % 128) * 128 + t .nest % 128) * 8192 + t .at % 8192
+packed t = (((t .env % 65536 * 256 + t .component % 256) * 128 + t .names % 128) * 128 + t .nest % 128) * 8192 + t .at % 8192
 
 unfoldable pub unpacked : ℕ → Thread
 unpacked w = record {
-  post = w / 8192 / 128 / 128 % 256;
+  component = w / 8192 / 128 / 128 % 256;
   env = w / 8192 / 128 / 128 / 256;
   names = w / 8192 / 128 % 128;
   nest = w / 8192 % 128;

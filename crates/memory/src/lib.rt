@@ -1,13 +1,13 @@
 // What a run keeps in lent memory: threads as numbers in a list, the run names of the binders passed as chains of cells, and
-// which names are known outside.
+// which names are known to the environment.
 pub mod chains;
 pub mod names;
 pub mod threads;
 
-// A thread: its post, the cell of its innermost run name, the number of names in scope, the permitted nesting that is left,
-// and the place of its remaining text.
+// A thread: its component, the cell of its innermost run name, the number of names in scope, the permitted nesting that is left,
+// and the place of its remaining process.
 pub struct Thread {
-    pub post: usize,
+    pub component: usize,
     pub env: usize,
     pub names: usize,
     pub nest: usize,

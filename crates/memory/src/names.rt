@@ -1,9 +1,9 @@
-// The names given so far: which are known outside, and their types.
+// The names given so far: which are known to the environment, and their types.
 ghost use mathlib.Core.Path.{_≡_};
 ghost use mathlib.Core.Bool.{true, false};
 ghost use lib.ListN.{getD, take, set};
 
-// Is a name known outside?
+// Is a name known to the environment?
 pub fn is_known(known: &[bool], names: usize, name: usize) -> bool
     ensures { λ r. ⌜ r ≡ getD (take names (now (known .entry))) name false ⌝ }
 {
@@ -15,7 +15,7 @@ pub fn is_known(known: &[bool], names: usize, name: usize) -> bool
     false
 }
 
-// A name becomes known outside.
+// A name becomes known to the environment.
 pub fn know(known: &mut [bool], name: usize)
     ensures { λ r. ⌜ now (known .exit) ≡ set (now (known .entry)) name true ⌝ }
 {

@@ -10,7 +10,7 @@ use crate::Thread;
 pub fn pack(t: Thread) -> usize
     ensures { λ r. ⌜ r ≡ packed t ⌝ }
 {
-    let who = t.env % 65536 * 256 + t.post % 256;
+    let who = t.env % 65536 * 256 + t.component % 256;
     let scope = who * 128 + t.names % 128;
     (scope * 128 + t.nest % 128) * 8192 + t.at % 8192
 }
@@ -23,7 +23,7 @@ pub fn unpack(w: usize) -> Thread
     let scope = nested / 128;
     let who = scope / 128;
     Thread {
-        post: who % 256,
+        component: who % 256,
         env: who / 256,
         names: scope % 128,
         nest: nested % 128,

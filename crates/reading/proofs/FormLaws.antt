@@ -29,16 +29,16 @@ FitsProcess nest names (Input a) = (0 < nest) × (names < 64)
 FitsProcess nest names (Output a) = 0 < nest
 FitsProcess nest names Replicate = 0 < nest
 
--- In a system, with `long` groups in the path and `posts` components before.
+-- In a system, with `long` groups in the path and `preceding` components before.
 unfoldable pub FitsSystem : ℕ → ℕ → ℕ → ℕ → Form → Type 0
-FitsSystem nest names long posts Nil = 0 < nest
-FitsSystem nest names long posts Par = 0 < nest
-FitsSystem nest names long posts (Group g) = (0 < nest) × (long < 8)
-FitsSystem nest names long posts (New t) = (0 < nest) × (names < 64)
-FitsSystem nest names long posts (Component g) = (0 < nest) × (long < 8) × (posts < 32)
-FitsSystem nest names long posts (Input a) = ⊥
-FitsSystem nest names long posts (Output a) = ⊥
-FitsSystem nest names long posts Replicate = ⊥
+FitsSystem nest names long preceding Nil = 0 < nest
+FitsSystem nest names long preceding Par = 0 < nest
+FitsSystem nest names long preceding (Group g) = (0 < nest) × (long < 8)
+FitsSystem nest names long preceding (New t) = (0 < nest) × (names < 64)
+FitsSystem nest names long preceding (Component g) = (0 < nest) × (long < 8) × (preceding < 32)
+FitsSystem nest names long preceding (Input a) = ⊥
+FitsSystem nest names long preceding (Output a) = ⊥
+FitsSystem nest names long preceding Replicate = ⊥
 
 both-below : (a b c d : ℕ) → (ltb a b && ltb c d) ≡ true → (a < b) × (c < d)
 both-below a b c d e = let h = both-true (ltb a b) (ltb c d) e in (ltb-true a b (h .0), ltb-true c d (h .1))
@@ -61,15 +61,15 @@ module _ (s : List ℕ) (at nest names : ℕ) where
   pub process-room : {f : Form} {next : ℕ} → processAt s at nest names ≡ got f next → FitsProcess nest names f
   process-room e = of-found (FitsProcess nest names) (processAt s at nest names) process-every e
 
-module _ (s : List ℕ) (at nest names : ℕ) (path : List ℕ) (posts : ℕ) where
+module _ (s : List ℕ) (at nest names : ℕ) (path : List ℕ) (preceding : ℕ) where
   fits : Form → Type 0
-  fits = FitsSystem nest names (length path) posts
+  fits = FitsSystem nest names (length path) preceding
 
   group-every : (next : ℕ) → (0 < nest) × (length path < 8) → Every fits (groupForm s next path)
   unfolding fits Every FitsSystem groupForm
   group-every next h = every-then fits (freshGroup s next path) _ (λ g m _. h)
 
-  component-every : (next : ℕ) → (0 < nest) × (length path < 8) × (posts < 32) → Every fits (componentForm s next path)
+  component-every : (next : ℕ) → (0 < nest) × (length path < 8) × (preceding < 32) → Every fits (componentForm s next path)
   unfolding fits Every FitsSystem componentForm
   component-every next h = every-then fits (freshGroup s next path) _ (λ g m _. h)
 
@@ -77,13 +77,13 @@ module _ (s : List ℕ) (at nest names : ℕ) (path : List ℕ) (posts : ℕ) wh
   unfolding fits Every FitsSystem newForm
   new-every next h = every-then fits (typeAt s next) _ (λ t m _. h)
 
-  all-three : ((ltb 0 nest && ltb (length path) 8) && ltb posts 32) ≡ true → (0 < nest) × (length path < 8) × (posts < 32)
+  all-three : ((ltb 0 nest && ltb (length path) 8) && ltb preceding 32) ≡ true → (0 < nest) × (length path < 8) × (preceding < 32)
   all-three e =
-      let h = both-true (ltb 0 nest && ltb (length path) 8) (ltb posts 32) e in
+      let h = both-true (ltb 0 nest && ltb (length path) 8) (ltb preceding 32) e in
       let g = both-below 0 nest (length path) 8 (h .0) in
-      (g .0, g .1, ltb-true posts 32 (h .1))
+      (g .0, g .1, ltb-true preceding 32 (h .1))
 
-  system-every : Every fits (systemAt s at nest names path posts)
+  system-every : Every fits (systemAt s at nest names path preceding)
   unfolding fits Every FitsSystem systemAt systemForm
   system-every = every-then fits (byteAt s at) _ (λ code next _.
       every-cond fits (eqb code 0) _ _ (every-limited fits _ at _ (λ e. ltb-true 0 nest e))
@@ -92,10 +92,10 @@ module _ (s : List ℕ) (at nest names : ℕ) (path : List ℕ) (posts : ℕ) wh
       (every-cond fits (eqb code 3) _ _ (every-limited fits _ at _ (λ e. new-every next (both-below 0 nest names 64 e)))
       (every-cond fits (eqb code 4) _ _ (every-limited fits _ at _ (λ e. component-every next (all-three e))) tt)))))
 
-  pub system-room : {f : Form} {next : ℕ} → systemAt s at nest names path posts ≡ got f next
-      → FitsSystem nest names (length path) posts f
+  pub system-room : {f : Form} {next : ℕ} → systemAt s at nest names path preceding ≡ got f next
+      → FitsSystem nest names (length path) preceding f
   unfolding fits
-  system-room e = of-found fits (systemAt s at nest names path posts) system-every e
+  system-room e = of-found fits (systemAt s at nest names path preceding) system-every e
 
 pub process-level : (nest names : ℕ) (f : Form) → FitsProcess nest names f → 0 < nest
 unfolding FitsProcess
@@ -108,13 +108,13 @@ process-level nest names (Input a) h = h .0
 process-level nest names (Output a) h = h
 process-level nest names Replicate h = h
 
-pub system-level : (nest names long posts : ℕ) (f : Form) → FitsSystem nest names long posts f → 0 < nest
+pub system-level : (nest names long preceding : ℕ) (f : Form) → FitsSystem nest names long preceding f → 0 < nest
 unfolding FitsSystem
-system-level nest names long posts Nil h = h
-system-level nest names long posts Par h = h
-system-level nest names long posts (Group g) h = h .0
-system-level nest names long posts (New t) h = h .0
-system-level nest names long posts (Component g) h = h .0
-system-level nest names long posts (Input a) h = absurd h
-system-level nest names long posts (Output a) h = absurd h
-system-level nest names long posts Replicate h = absurd h
+system-level nest names long preceding Nil h = h
+system-level nest names long preceding Par h = h
+system-level nest names long preceding (Group g) h = h .0
+system-level nest names long preceding (New t) h = h .0
+system-level nest names long preceding (Component g) h = h .0
+system-level nest names long preceding (Input a) h = absurd h
+system-level nest names long preceding (Output a) h = absurd h
+system-level nest names long preceding Replicate h = absurd h

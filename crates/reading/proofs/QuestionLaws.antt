@@ -110,9 +110,9 @@ asks-system-form s at next path level binder deeper another code =
     (asks-cond (eqb code 4) (asks-limited another at (asks-map (λ g. Component g) (asks-fresh s next path)))
     (asks-early 4 at (omega arith) (omega arith))))))
 
-asks-system-at : (s : List ℕ) (at nest names : ℕ) (path : List ℕ) (posts : ℕ) → Asks (systemAt s at nest names path posts)
+asks-system-at : (s : List ℕ) (at nest names : ℕ) (path : List ℕ) (preceding : ℕ) → Asks (systemAt s at nest names path preceding)
 unfolding systemAt
-asks-system-at s at nest names path posts = asks-then _ (asks-byte s at) (λ code next. asks-system-form s at next path _ _ _ _ code)
+asks-system-at s at nest names path preceding = asks-then _ (asks-byte s at) (λ code next. asks-system-form s at next path _ _ _ _ code)
 
 -- Processes.
 asks-process-from : (read : ℕ → ℕ → Read Process) → ((names at : ℕ) → Asks (read names at)) → (at names : ℕ) (f : Form) (next : ℕ)
@@ -135,28 +135,28 @@ asks-process (suc n) s names at =
     asks-process-from (λ ns m. readProcess n s ns m) (λ ns m. asks-process n s ns m) at names f next)
 
 -- Systems.
-asks-system-from : (read : ℕ → List ℕ → ℕ → ℕ → Read System) → ((names : ℕ) (path : List ℕ) (posts at : ℕ) → Asks (read names path posts at))
-    → (process : ℕ → Read Process) → ((at : ℕ) → Asks (process at)) → (at names : ℕ) (path : List ℕ) (posts : ℕ) (f : Form) (next : ℕ)
-    → Asks (systemFrom read process at names path posts f next)
+asks-system-from : (read : ℕ → List ℕ → ℕ → ℕ → Read System) → ((names : ℕ) (path : List ℕ) (preceding at : ℕ) → Asks (read names path preceding at))
+    → (process : ℕ → Read Process) → ((at : ℕ) → Asks (process at)) → (at names : ℕ) (path : List ℕ) (preceding : ℕ) (f : Form) (next : ℕ)
+    → Asks (systemFrom read process at names path preceding f next)
 unfolding systemFrom component
-asks-system-from read h process i at names path posts Nil next = asks-got
-asks-system-from read h process i at names path posts Par next =
-    asks-then _ (h names path posts next) (λ l m. asks-map _ (h names path (posts + components l) m))
-asks-system-from read h process i at names path posts (Group g) next = asks-map _ (h names (path ++ (g ∷ [])) posts next)
-asks-system-from read h process i at names path posts (New t) next = asks-map _ (h (names + 1) path posts next)
-asks-system-from read h process i at names path posts (Component g) next = asks-map _ (i next)
-asks-system-from read h process i at names path posts (Input a) next = asks-early 4 at (omega arith) (omega arith)
-asks-system-from read h process i at names path posts (Output a) next = asks-early 4 at (omega arith) (omega arith)
-asks-system-from read h process i at names path posts Replicate next = asks-early 4 at (omega arith) (omega arith)
+asks-system-from read h process i at names path preceding Nil next = asks-got
+asks-system-from read h process i at names path preceding Par next =
+    asks-then _ (h names path preceding next) (λ l m. asks-map _ (h names path (preceding + components l) m))
+asks-system-from read h process i at names path preceding (Group g) next = asks-map _ (h names (path ++ (g ∷ [])) preceding next)
+asks-system-from read h process i at names path preceding (New t) next = asks-map _ (h (names + 1) path preceding next)
+asks-system-from read h process i at names path preceding (Component g) next = asks-map _ (i next)
+asks-system-from read h process i at names path preceding (Input a) next = asks-early 4 at (omega arith) (omega arith)
+asks-system-from read h process i at names path preceding (Output a) next = asks-early 4 at (omega arith) (omega arith)
+asks-system-from read h process i at names path preceding Replicate next = asks-early 4 at (omega arith) (omega arith)
 
-asks-system : (nest : ℕ) (s : List ℕ) (names : ℕ) (path : List ℕ) (posts at : ℕ) → Asks (readSystem nest s names path posts at)
+asks-system : (nest : ℕ) (s : List ℕ) (names : ℕ) (path : List ℕ) (preceding at : ℕ) → Asks (readSystem nest s names path preceding at)
 unfolding readSystem
-asks-system zero s names path posts at =
-    asks-then _ (asks-system-at s at 0 names path posts) (λ f k. asks-early 5 at (omega arith) (omega arith))
-asks-system (suc n) s names path posts at =
-    asks-then _ (asks-system-at s at (suc n) names path posts) (λ f next.
+asks-system zero s names path preceding at =
+    asks-then _ (asks-system-at s at 0 names path preceding) (λ f k. asks-early 5 at (omega arith) (omega arith))
+asks-system (suc n) s names path preceding at =
+    asks-then _ (asks-system-at s at (suc n) names path preceding) (λ f next.
     asks-system-from (λ ns p k m. readSystem n s ns p k m) (λ ns p k m. asks-system n s ns p k m)
-    (λ m. readProcess n s names m) (λ m. asks-process n s names m) at names path posts f next)
+    (λ m. readProcess n s names m) (λ m. asks-process n s names m) at names path preceding f next)
 
 -- Sheets.
 asks-types : (n : ℕ) (s : List ℕ) (at : ℕ) → Asks (freeTypes n s at)

@@ -118,10 +118,10 @@ process-local at nest names = then-local _ _ (byte-local at) (λ s code next e.
     (cond-local (eqb code 6) _ _ (limited-local _ at _ k (from-earlier (omega arith) (output-local next)))
     (cond-local (eqb code 7) _ _ (limited-local _ at _ k (got-local Replicate next (omega arith))) (refused-local 4 at k)))))))
 
-pub system-local : (at nest names : ℕ) (path : List ℕ) (posts : ℕ)
-    → Local (at + 1) (λ s. systemAt s at nest names path posts)
+pub system-local : (at nest names : ℕ) (path : List ℕ) (preceding : ℕ)
+    → Local (at + 1) (λ s. systemAt s at nest names path preceding)
 unfolding systemAt systemForm
-system-local at nest names path posts = then-local _ _ (byte-local at) (λ s code next e.
+system-local at nest names path preceding = then-local _ _ (byte-local at) (λ s code next e.
     let h = byte-place s at e in
     let k : next ≤ at + 1 = omega arith in
     cond-local (eqb code 0) _ _ (limited-local _ at _ k (got-local Nil next (omega arith)))
@@ -157,29 +157,29 @@ read-process-local (suc n) names at = then-local _ _ (process-local at (suc n) n
     (process-room s at (suc n) names e))
 
 -- Systems.
-module _ (read : List ℕ → ℕ → List ℕ → ℕ → ℕ → Read System) (l : (names : ℕ) (path : List ℕ) (posts at : ℕ) → Local at (λ s. read s names path posts at))
-    (process : List ℕ → ℕ → Read Process) (m : (at : ℕ) → Local at (λ s. process s at)) (nest at names : ℕ) (path : List ℕ) (posts : ℕ) where
-  system-from-local : (f : Form) (next : ℕ) → FitsSystem nest names (length path) posts f
-      → Local next (λ s. systemFrom (λ ns p k i. read s ns p k i) (λ i. process s i) at names path posts f next)
+module _ (read : List ℕ → ℕ → List ℕ → ℕ → ℕ → Read System) (l : (names : ℕ) (path : List ℕ) (preceding at : ℕ) → Local at (λ s. read s names path preceding at))
+    (process : List ℕ → ℕ → Read Process) (m : (at : ℕ) → Local at (λ s. process s at)) (nest at names : ℕ) (path : List ℕ) (preceding : ℕ) where
+  system-from-local : (f : Form) (next : ℕ) → FitsSystem nest names (length path) preceding f
+      → Local next (λ s. systemFrom (λ ns p k i. read s ns p k i) (λ i. process s i) at names path preceding f next)
   unfolding systemFrom component FitsSystem
   system-from-local Nil next h = got-local nilₛ next (omega arith)
-  system-from-local Par next h = then-local _ _ (l names path posts next) (λ s p k e. map-local _ (λ q. parₛ p q) (l names path (posts + components p) k))
-  system-from-local (Group g) next h = map-local _ (λ p. groupₛ g p) (l names (path ++ (g ∷ [])) posts next)
-  system-from-local (New t) next h = map-local _ (λ p. newₛ t p) (l (names + 1) path posts next)
+  system-from-local Par next h = then-local _ _ (l names path preceding next) (λ s p k e. map-local _ (λ q. parₛ p q) (l names path (preceding + components p) k))
+  system-from-local (Group g) next h = map-local _ (λ p. groupₛ g p) (l names (path ++ (g ∷ [])) preceding next)
+  system-from-local (New t) next h = map-local _ (λ p. newₛ t p) (l (names + 1) path preceding next)
   system-from-local (Component g) next h = map-local _ (λ p. compₛ g p) (m next)
   system-from-local (Input a) next h = absurd h
   system-from-local (Output a) next h = absurd h
   system-from-local Replicate next h = absurd h
 
-pub read-system-local : (nest names : ℕ) (path : List ℕ) (posts at : ℕ)
-    → Local (at + 1) (λ s. readSystem nest s names path posts at)
+pub read-system-local : (nest names : ℕ) (path : List ℕ) (preceding at : ℕ)
+    → Local (at + 1) (λ s. readSystem nest s names path preceding at)
 unfolding readSystem
-read-system-local zero names path posts at = then-local _ _ (system-local at 0 names path posts) (λ s f next e.
-    absurd (omega (arith, system-level 0 names (length path) posts f (system-room s at 0 names path posts e))))
-read-system-local (suc n) names path posts at = then-local _ _ (system-local at (suc n) names path posts) (λ s f next e.
+read-system-local zero names path preceding at = then-local _ _ (system-local at 0 names path preceding) (λ s f next e.
+    absurd (omega (arith, system-level 0 names (length path) preceding f (system-room s at 0 names path preceding e))))
+read-system-local (suc n) names path preceding at = then-local _ _ (system-local at (suc n) names path preceding) (λ s f next e.
     system-from-local (λ s. readSystem n s) (λ ns p k i. from-earlier (omega arith) (read-system-local n ns p k i))
-    (λ s i. readProcess n s names i) (λ i. from-earlier (omega arith) (read-process-local n names i)) (suc n) at names path posts f next
-    (system-room s at (suc n) names path posts e))
+    (λ s i. readProcess n s names i) (λ i. from-earlier (omega arith) (read-process-local n names i)) (suc n) at names path preceding f next
+    (system-room s at (suc n) names path preceding e))
 
 -- The free names' types, and their count.
 pub types-local : (n at : ℕ) → Local at (λ s. freeTypes n s at)

@@ -34,51 +34,51 @@ use Rattle.reading.specs.declared.Place.{Place}
 use Rattle.reading.specs.declared.Refusal.{Refusal}
 
 -- A form round a system adds no component.
-counted-map : (posts : ℕ) (x : Read System) (f : System → System) → ((p : System) → components (f p) ≡ components p)
-    → counted posts (andThen x (λ p k. got (f p) k)) ≡ counted posts x
+counted-map : (preceding : ℕ) (x : Read System) (f : System → System) → ((p : System) → components (f p) ≡ components p)
+    → counted preceding (andThen x (λ p k. got (f p) k)) ≡ counted preceding x
 unfolding counted andThen
-counted-map posts (got p k) f h = rw (h p)
-counted-map posts (refused q p) f h = refl
+counted-map preceding (got p k) f h = rw (h p)
+counted-map preceding (refused q p) f h = refl
 
 -- Each form, where `read` and `process` read one level deeper.
-module _ (read : ℕ → List ℕ → ℕ → ℕ → Read System) (process : ℕ → Read Process) (at names : ℕ) (path : List ℕ) (posts : ℕ) (f : Form) (next : ℕ) where
+module _ (read : ℕ → List ℕ → ℕ → ℕ → Read System) (process : ℕ → Read Process) (at names : ℕ) (path : List ℕ) (preceding : ℕ) (f : Form) (next : ℕ) where
   abbrev pub told : Read ℕ
-  told = counted posts (systemFrom read process at names path posts f next)
+  told = counted preceding (systemFrom read process at names path preceding f next)
 
   module _ {y : Read ℕ} where
-    pub at-nil : f ≡ Nil → y ≡ got posts next → y ≡ told
+    pub at-nil : f ≡ Nil → y ≡ got preceding next → y ≡ told
     unfolding systemFrom counted components
     at-nil e h = rw (e, add-zero) h
 
     pub at-par : (l : NumberRead) (n : Number) → f ≡ Par → l ≡ number-read.Found n
-        → number l ≡ counted posts (read names path posts next)
+        → number l ≡ counted preceding (read names path preceding next)
         → y ≡ counted (n .value) (read names path (n .value) (n .next)) → y ≡ told
     unfolding systemFrom counted andThen components
-    at-par l n e i h k = rw e (go (read names path posts next) (rw i at h))
+    at-par l n e i h k = rw e (go (read names path preceding next) (rw i at h))
       where
         join : (p : System) (x : Read System)
-            → counted (posts + components p) x ≡ counted posts (andThen x (λ r k. got (parₛ p r) k))
+            → counted (preceding + components p) x ≡ counted preceding (andThen x (λ r k. got (parₛ p r) k))
         join p (got r k) = rw add-assoc
         join p (refused a b) = refl
 
-        go : (x : Read System) → got (n .value) (n .next) ≡ counted posts x
-            → y ≡ counted posts (andThen x (λ l m. andThen (read names path (posts + components l) m) (λ r k. got (parₛ l r) k)))
+        go : (x : Read System) → got (n .value) (n .next) ≡ counted preceding x
+            → y ≡ counted preceding (andThen x (λ l m. andThen (read names path (preceding + components l) m) (λ r k. got (parₛ l r) k)))
         go (got p m) h =
-            let v : n .value ≡ posts + components p = cc in
+            let v : n .value ≡ preceding + components p = cc in
             let w : n .next ≡ m = cc in
-            rw (v, w) at k ∙ join p (read names path (posts + components p) m)
+            rw (v, w) at k ∙ join p (read names path (preceding + components p) m)
         go (refused a b) h = never (sym h)
 
-    pub at-new : (t : ℕ) → f ≡ New t → y ≡ counted posts (read (names + 1) path posts next) → y ≡ told
+    pub at-new : (t : ℕ) → f ≡ New t → y ≡ counted preceding (read (names + 1) path preceding next) → y ≡ told
     unfolding systemFrom components
-    at-new t e h = rw (e, counted-map posts (read (names + 1) path posts next) (λ p. newₛ t p) (λ p. refl)) h
+    at-new t e h = rw (e, counted-map preceding (read (names + 1) path preceding next) (λ p. newₛ t p) (λ p. refl)) h
 
-    pub at-group : (g : ℕ) (q : List ℕ) → f ≡ Group g → q ≡ path ++ (g ∷ []) → y ≡ counted posts (read names q posts next)
+    pub at-group : (g : ℕ) (q : List ℕ) → f ≡ Group g → q ≡ path ++ (g ∷ []) → y ≡ counted preceding (read names q preceding next)
         → y ≡ told
     unfolding systemFrom components
-    at-group g q e i h = rw (e, ← i, counted-map posts (read names q posts next) (λ p. groupₛ g p) (λ p. refl)) h
+    at-group g q e i h = rw (e, ← i, counted-map preceding (read names q preceding next) (λ p. groupₛ g p) (λ p. refl)) h
 
-    pub at-component : (g : ℕ) → f ≡ Component g → ((h : ℕ) → y ≡ counted posts (component h (process next))) → y ≡ told
+    pub at-component : (g : ℕ) → f ≡ Component g → ((h : ℕ) → y ≡ counted preceding (component h (process next))) → y ≡ told
     unfolding systemFrom
     at-component g e h = rw e (h g)
 
@@ -96,27 +96,27 @@ module _ (read : ℕ → List ℕ → ℕ → ℕ → Read System) (process : �
 
   -- A parallel form whose left part is refused.
   pub at-par-left : (l : NumberRead) (q : Refusal) → f ≡ Par → l ≡ number-read.Refused q
-      → number l ≡ counted posts (read names path posts next) → number l ≡ told
+      → number l ≡ counted preceding (read names path preceding next) → number l ≡ told
   unfolding systemFrom counted andThen
-  at-par-left l q e i h = rw (e, i) (go (read names path posts next) (rw i at h))
+  at-par-left l q e i h = rw (e, i) (go (read names path preceding next) (rw i at h))
     where
-      go : (x : Read System) → refused (q .question) (q .at) ≡ counted posts x
-          → refused (q .question) (q .at) ≡ counted posts (andThen x (λ l m. andThen (read names path (posts + components l) m) (λ r k. got (parₛ l r) k)))
+      go : (x : Read System) → refused (q .question) (q .at) ≡ counted preceding x
+          → refused (q .question) (q .at) ≡ counted preceding (andThen x (λ l m. andThen (read names path (preceding + components l) m) (λ r k. got (parₛ l r) k)))
       go (got p n) h = never h
       go (refused a b) h = h
 
 -- A component's process, read or not.
-pub component-ends : (posts g : ℕ) (x : Read Process) (e : End) (m : ℕ) → e ≡ end.At m → ending e ≡ ended x
-    → got (posts + 1) m ≡ counted posts (component g x)
+pub component-ends : (preceding g : ℕ) (x : Read Process) (e : End) (m : ℕ) → e ≡ end.At m → ending e ≡ ended x
+    → got (preceding + 1) m ≡ counted preceding (component g x)
 unfolding component counted andThen ended components
-component-ends posts g (got p k) e m i h = let z : m ≡ k = cc in rw z
-component-ends posts g (refused a b) e m i h = never (sym (rw i at h))
+component-ends preceding g (got p k) e m i h = let z : m ≡ k = cc in rw z
+component-ends preceding g (refused a b) e m i h = never (sym (rw i at h))
 
-pub component-stops : (posts g : ℕ) (x : Read Process) (e : End) (q : Refusal) → e ≡ end.Refused q → ending e ≡ ended x
-    → refused (q .question) (q .at) ≡ counted posts (component g x)
+pub component-stops : (preceding g : ℕ) (x : Read Process) (e : End) (q : Refusal) → e ≡ end.Refused q → ending e ≡ ended x
+    → refused (q .question) (q .at) ≡ counted preceding (component g x)
 unfolding component counted andThen ended
-component-stops posts g (got p k) e q i h = never (rw i at h)
-component-stops posts g (refused a b) e q i h =
+component-stops preceding g (got p k) e q i h = never (rw i at h)
+component-stops preceding g (refused a b) e q i h =
     let k = rw i at h in
     let v : q .question ≡ a = cc in
     let w : q .at ≡ b = cc in
@@ -125,40 +125,40 @@ component-stops posts g (refused a b) e q i h =
 pub ruleset component-steps = (needs, component-ends, component-stops)
 
 -- What the code knows of the form at a place.
-module _ (nest : ℕ) (s : List ℕ) (names : ℕ) (path : List ℕ) (posts at : ℕ) (r : FormRead) where
-  pub system-refused : (q w : Refusal) → r ≡ form-read.Refused q → form r ≡ systemAt s at nest names path posts
+module _ (nest : ℕ) (s : List ℕ) (names : ℕ) (path : List ℕ) (preceding at : ℕ) (r : FormRead) where
+  pub system-refused : (q w : Refusal) → r ≡ form-read.Refused q → form r ≡ systemAt s at nest names path preceding
       → w ≡ whyOf r
-      → refused (w .question) (w .at) ≡ counted posts (readSystem nest s names path posts at)
+      → refused (w .question) (w .at) ≡ counted preceding (readSystem nest s names path preceding at)
   unfolding counted
-  system-refused q w f e h = rw (system-stop nest s names path posts at {q = q .question} {p = q .at} (rw f at (sym e)), h, f)
+  system-refused q w f e h = rw (system-stop nest s names path preceding at {q = q .question} {p = q .at} (rw f at (sym e)), h, f)
 
-  module _ (p : Place) (f : r ≡ form-read.Found p) (e : form r ≡ systemAt s at nest names path posts) where
-    found : systemAt s at nest names path posts ≡ got (p .form) (p .next)
+  module _ (p : Place) (f : r ≡ form-read.Found p) (e : form r ≡ systemAt s at nest names path preceding) where
+    found : systemAt s at nest names path preceding ≡ got (p .form) (p .next)
     found = rw f at (sym e)
 
     pub system-found : {y : Read ℕ}
-        → y ≡ told (λ ns p k m. readSystem (nest - 1) s ns p k m) (λ m. readProcess (nest - 1) s names m) at names path posts (p .form) (p .next)
-        → y ≡ counted posts (readSystem nest s names path posts at)
-    system-found h = rw (system-step nest s names path posts at found) h
+        → y ≡ told (λ ns p k m. readSystem (nest - 1) s ns p k m) (λ m. readProcess (nest - 1) s names m) at names path preceding (p .form) (p .next)
+        → y ≡ counted preceding (readSystem nest s names path preceding at)
+    system-found h = rw (system-step nest s names path preceding at found) h
 
     pub system-deeper : 1 ≤ nest
-    system-deeper = system-level nest names (length path) posts (p .form) (system-room s at nest names path posts found)
+    system-deeper = system-level nest names (length path) preceding (p .form) (system-room s at nest names path preceding found)
 
     pub system-falls : (t : ℕ) → nest ≡ t → nest - 1 < t
     system-falls t h = omega (arith, system-deeper)
 
     pub new-fits : (t : ℕ) → p .form ≡ New t → Fits w64 (names + 1)
     unfolding FitsSystem
-    new-fits t h = let k = rw h at (system-room s at nest names path posts found) in record { fits = omega arith }
+    new-fits t h = let k = rw h at (system-room s at nest names path preceding found) in record { fits = omega arith }
 
     pub group-entered : (g : ℕ) (q : List ℕ) → p .form ≡ Group g → (ltb (length path) 8 ≡ true → q ≡ path ++ (g ∷ []))
         → q ≡ path ++ (g ∷ [])
     unfolding FitsSystem
-    group-entered g q h i = let k = rw h at (system-room s at nest names path posts found) in i (lt-ltb (length path) 8 (k .1))
+    group-entered g q h i = let k = rw h at (system-room s at nest names path preceding found) in i (lt-ltb (length path) 8 (k .1))
 
-    pub another : (g : ℕ) → p .form ≡ Component g → posts < 32
+    pub another : (g : ℕ) → p .form ≡ Component g → preceding < 32
     unfolding FitsSystem
-    another g h = let k = rw h at (system-room s at nest names path posts found) in k .2
+    another g h = let k = rw h at (system-room s at nest names path preceding found) in k .2
 
 pub ruleset system-steps = (
   needs,

@@ -38,25 +38,25 @@ module _ (s : List ℕ) (at n names : ℕ) where
   unfolding FitsProcess
   input-names e = process-room s at n names e .1
 
-module _ (s : List ℕ) (at n names : ℕ) (path : List ℕ) (posts : ℕ) where
-  pub system-nest : {f : Form} {k : ℕ} → systemAt s at n names path posts ≡ got f k → 0 < n
-  system-nest {f} e = system-level n names (length path) posts f (system-room s at n names path posts e)
+module _ (s : List ℕ) (at n names : ℕ) (path : List ℕ) (preceding : ℕ) where
+  pub system-nest : {f : Form} {k : ℕ} → systemAt s at n names path preceding ≡ got f k → 0 < n
+  system-nest {f} e = system-level n names (length path) preceding f (system-room s at n names path preceding e)
 
-  pub system-names : {t k : ℕ} → systemAt s at n names path posts ≡ got (New t) k → names < 64
+  pub system-names : {t k : ℕ} → systemAt s at n names path preceding ≡ got (New t) k → names < 64
   unfolding FitsSystem
-  system-names e = system-room s at n names path posts e .1
+  system-names e = system-room s at n names path preceding e .1
 
-  pub group-room : {g k : ℕ} → systemAt s at n names path posts ≡ got (Group g) k → ltb (length path) 8 ≡ true
+  pub group-room : {g k : ℕ} → systemAt s at n names path preceding ≡ got (Group g) k → ltb (length path) 8 ≡ true
   unfolding FitsSystem
-  group-room e = lt-ltb (length path) 8 (system-room s at n names path posts e .1)
+  group-room e = lt-ltb (length path) 8 (system-room s at n names path preceding e .1)
 
-  pub component-room : {g k : ℕ} → systemAt s at n names path posts ≡ got (Component g) k → ltb (length path) 8 ≡ true
+  pub component-room : {g k : ℕ} → systemAt s at n names path preceding ≡ got (Component g) k → ltb (length path) 8 ≡ true
   unfolding FitsSystem
-  component-room e = lt-ltb (length path) 8 (system-room s at n names path posts e .1)
+  component-room e = lt-ltb (length path) 8 (system-room s at n names path preceding e .1)
 
-  pub component-number : {g k : ℕ} → systemAt s at n names path posts ≡ got (Component g) k → posts < 32
+  pub component-number : {g k : ℕ} → systemAt s at n names path preceding ≡ got (Component g) k → preceding < 32
   unfolding FitsSystem
-  component-number e = system-room s at n names path posts e .2
+  component-number e = system-room s at n names path preceding e .2
 
 -- One step down the tree.
 pub process-step : (n : ℕ) (s : List ℕ) (names at : ℕ) (f : Form) (k : ℕ) → processAt s at n names ≡ got f k
@@ -71,18 +71,18 @@ unfolding processTree orNothing
 process-stop zero s names at q p e = refl
 process-stop (suc n) s names at q p e = rw e
 
-pub system-step : (n : ℕ) (s : List ℕ) (names : ℕ) (path : List ℕ) (posts at : ℕ) (f : Form) (k : ℕ)
-    → systemAt s at n names path posts ≡ got f k → systemTree n s names path posts at
-    ≡ systemGrown (λ ns p j m. systemTree (n - 1) s ns p j m) (λ m. processTree (n - 1) s names m) at names path posts f k
+pub system-step : (n : ℕ) (s : List ℕ) (names : ℕ) (path : List ℕ) (preceding at : ℕ) (f : Form) (k : ℕ)
+    → systemAt s at n names path preceding ≡ got f k → systemTree n s names path preceding at
+    ≡ systemGrown (λ ns p j m. systemTree (n - 1) s ns p j m) (λ m. processTree (n - 1) s names m) at names path preceding f k
 unfolding systemTree orNothing
-system-step zero s names path posts at f k e = absurd (omega (arith, system-nest s at 0 names path posts e))
-system-step (suc n) s names path posts at f k e = rw (e, sub-one (suc n))
+system-step zero s names path preceding at f k e = absurd (omega (arith, system-nest s at 0 names path preceding e))
+system-step (suc n) s names path preceding at f k e = rw (e, sub-one (suc n))
 
-pub system-stop : (n : ℕ) (s : List ℕ) (names : ℕ) (path : List ℕ) (posts at q p : ℕ) → systemAt s at n names path posts ≡ refused q p
-    → systemTree n s names path posts at ≡ record { tree = nilₛ; next = at }
+pub system-stop : (n : ℕ) (s : List ℕ) (names : ℕ) (path : List ℕ) (preceding at q p : ℕ) → systemAt s at n names path preceding ≡ refused q p
+    → systemTree n s names path preceding at ≡ record { tree = nilₛ; next = at }
 unfolding systemTree orNothing
-system-stop zero s names path posts at q p e = refl
-system-stop (suc n) s names path posts at q p e = rw e
+system-stop zero s names path preceding at q p e = refl
+system-stop (suc n) s names path preceding at q p e = rw e
 
 -- Where the reader reads a tree, it is the tree at that place: by induction on the nesting, then by cases over the form.
 abbrev Same : {A : Type 0} → Read A → Grown A → Type 0
@@ -131,30 +131,30 @@ process-total (suc n) s names at p k e =
     (process-same (λ ns m. readProcess n s ns m) (λ ns m. processTree n s ns m) at names (h .value) (h .place) (λ ns m. process-total n s ns m) p k (h .rest))
 
 system-same : (read : ℕ → List ℕ → ℕ → ℕ → Read System) (grow : ℕ → List ℕ → ℕ → ℕ → Grown System)
-    (process : ℕ → Read Process) (grown : ℕ → Grown Process) (at names : ℕ) (path : List ℕ) (posts : ℕ) (f : Form) (next : ℕ)
+    (process : ℕ → Read Process) (grown : ℕ → Grown Process) (at names : ℕ) (path : List ℕ) (preceding : ℕ) (f : Form) (next : ℕ)
     → ((ns : ℕ) (p : List ℕ) (j m : ℕ) → Same (read ns p j m) (grow ns p j m)) → ((m : ℕ) → Same (process m) (grown m))
-    → Same (systemFrom read process at names path posts f next) (systemGrown grow grown at names path posts f next)
+    → Same (systemFrom read process at names path preceding f next) (systemGrown grow grown at names path preceding f next)
 unfolding systemFrom component systemGrown
-system-same read grow process grown at names path posts Nil next h i = λ p k e. let u : nilₛ ≡ p = cc in let v : next ≡ k = cc in rw (u, v)
-system-same read grow process grown at names path posts Par next h i =
-    beside-same parₛ (read names path posts next) (grow names path posts next) (λ l m. read names path (posts + components l) m)
-    (λ l m. grow names path (posts + components l) m) (h names path posts next) (λ l m. h names path (posts + components l) m)
-system-same read grow process grown at names path posts (Group g) next h i =
-    under-same (groupₛ g) (read names (path ++ (g ∷ [])) posts next) (grow names (path ++ (g ∷ [])) posts next) (h names (path ++ (g ∷ [])) posts next)
-system-same read grow process grown at names path posts (New t) next h i =
-    under-same (newₛ t) (read (names + 1) path posts next) (grow (names + 1) path posts next) (h (names + 1) path posts next)
-system-same read grow process grown at names path posts (Component g) next h i = under-same (compₛ g) (process next) (grown next) (i next)
-system-same read grow process grown at names path posts (Input a) next h i = λ p k e. never e
-system-same read grow process grown at names path posts (Output a) next h i = λ p k e. never e
-system-same read grow process grown at names path posts Replicate next h i = λ p k e. never e
+system-same read grow process grown at names path preceding Nil next h i = λ p k e. let u : nilₛ ≡ p = cc in let v : next ≡ k = cc in rw (u, v)
+system-same read grow process grown at names path preceding Par next h i =
+    beside-same parₛ (read names path preceding next) (grow names path preceding next) (λ l m. read names path (preceding + components l) m)
+    (λ l m. grow names path (preceding + components l) m) (h names path preceding next) (λ l m. h names path (preceding + components l) m)
+system-same read grow process grown at names path preceding (Group g) next h i =
+    under-same (groupₛ g) (read names (path ++ (g ∷ [])) preceding next) (grow names (path ++ (g ∷ [])) preceding next) (h names (path ++ (g ∷ [])) preceding next)
+system-same read grow process grown at names path preceding (New t) next h i =
+    under-same (newₛ t) (read (names + 1) path preceding next) (grow (names + 1) path preceding next) (h (names + 1) path preceding next)
+system-same read grow process grown at names path preceding (Component g) next h i = under-same (compₛ g) (process next) (grown next) (i next)
+system-same read grow process grown at names path preceding (Input a) next h i = λ p k e. never e
+system-same read grow process grown at names path preceding (Output a) next h i = λ p k e. never e
+system-same read grow process grown at names path preceding Replicate next h i = λ p k e. never e
 
-pub system-total : (n : ℕ) (s : List ℕ) (names : ℕ) (path : List ℕ) (posts at : ℕ) (p : System) (k : ℕ)
-    → readSystem n s names path posts at ≡ got p k → systemTree n s names path posts at ≡ record { tree = p; next = k }
+pub system-total : (n : ℕ) (s : List ℕ) (names : ℕ) (path : List ℕ) (preceding at : ℕ) (p : System) (k : ℕ)
+    → readSystem n s names path preceding at ≡ got p k → systemTree n s names path preceding at ≡ record { tree = p; next = k }
 unfolding readSystem systemTree orNothing
-system-total zero s names path posts at p k e = never (parts (systemAt s at 0 names path posts) (λ form next. refused 5 at) e .rest)
-system-total (suc n) s names path posts at p k e =
-    let h = parts (systemAt s at (suc n) names path posts) (λ form next.
-    systemFrom (λ ns p j m. readSystem n s ns p j m) (λ m. readProcess n s names m) at names path posts form next) e in
+system-total zero s names path preceding at p k e = never (parts (systemAt s at 0 names path preceding) (λ form next. refused 5 at) e .rest)
+system-total (suc n) s names path preceding at p k e =
+    let h = parts (systemAt s at (suc n) names path preceding) (λ form next.
+    systemFrom (λ ns p j m. readSystem n s ns p j m) (λ m. readProcess n s names m) at names path preceding form next) e in
     rw (h .first)
     (system-same (λ ns p j m. readSystem n s ns p j m) (λ ns p j m. systemTree n s ns p j m) (λ m. readProcess n s names m) (λ m. processTree n s names m)
-    at names path posts (h .value) (h .place) (λ ns p j m. system-total n s ns p j m) (λ m. process-total n s names m) p k (h .rest))
+    at names path preceding (h .value) (h .place) (λ ns p j m. system-total n s ns p j m) (λ m. process-total n s names m) p k (h .rest))

@@ -49,68 +49,68 @@ process-begins nest s names at {p} {k} e = go (processAt s at nest names) refl
     go (refused a b) h = never (sym (process-stop nest s names at h) ∙ e)
 
 -- A system that is read begins with a form, and goes on one level deeper.
-pub system-step : (nest : ℕ) (s : List ℕ) (names : ℕ) (path : List ℕ) (posts at : ℕ) {f : Form} {next : ℕ}
-    → systemAt s at nest names path posts ≡ got f next
-    → readSystem nest s names path posts at ≡ systemFrom (λ ns p k m. readSystem (nest - 1) s ns p k m) (λ m. readProcess (nest - 1) s names m) at names path posts f next
+pub system-step : (nest : ℕ) (s : List ℕ) (names : ℕ) (path : List ℕ) (preceding at : ℕ) {f : Form} {next : ℕ}
+    → systemAt s at nest names path preceding ≡ got f next
+    → readSystem nest s names path preceding at ≡ systemFrom (λ ns p k m. readSystem (nest - 1) s ns p k m) (λ m. readProcess (nest - 1) s names m) at names path preceding f next
 unfolding readSystem andThen
-system-step zero s names path posts at {f} e = absurd (omega (arith, system-level 0 names (length path) posts f (system-room s at 0 names path posts e)))
-system-step (suc n) s names path posts at e = rw (e, sub-one (suc n))
+system-step zero s names path preceding at {f} e = absurd (omega (arith, system-level 0 names (length path) preceding f (system-room s at 0 names path preceding e)))
+system-step (suc n) s names path preceding at e = rw (e, sub-one (suc n))
 
 -- One that is not ends with the form's refusal.
-pub system-stop : (nest : ℕ) (s : List ℕ) (names : ℕ) (path : List ℕ) (posts at : ℕ) {q p : ℕ}
-    → systemAt s at nest names path posts ≡ refused q p → readSystem nest s names path posts at ≡ refused q p
+pub system-stop : (nest : ℕ) (s : List ℕ) (names : ℕ) (path : List ℕ) (preceding at : ℕ) {q p : ℕ}
+    → systemAt s at nest names path preceding ≡ refused q p → readSystem nest s names path preceding at ≡ refused q p
 unfolding readSystem andThen
-system-stop zero s names path posts at e = rw e
-system-stop (suc n) s names path posts at e = rw e
+system-stop zero s names path preceding at e = rw e
+system-stop (suc n) s names path preceding at e = rw e
 
 -- The form with which a system that was read begins.
-pub record SystemBegins (nest : ℕ) (s : List ℕ) (names : ℕ) (path : List ℕ) (posts at : ℕ) (p : System) (k : ℕ) : Type 0 where
+pub record SystemBegins (nest : ℕ) (s : List ℕ) (names : ℕ) (path : List ℕ) (preceding at : ℕ) (p : System) (k : ℕ) : Type 0 where
   pub form : Form
   pub next : ℕ
-  pub stands : systemAt s at nest names path posts ≡ got form next
-  pub after : systemFrom (λ ns q i m. readSystem (nest - 1) s ns q i m) (λ m. readProcess (nest - 1) s names m) at names path posts form next ≡ got p k
+  pub stands : systemAt s at nest names path preceding ≡ got form next
+  pub after : systemFrom (λ ns q i m. readSystem (nest - 1) s ns q i m) (λ m. readProcess (nest - 1) s names m) at names path preceding form next ≡ got p k
 
-pub system-begins : (nest : ℕ) (s : List ℕ) (names : ℕ) (path : List ℕ) (posts at : ℕ) {p : System} {k : ℕ}
-    → readSystem nest s names path posts at ≡ got p k → SystemBegins nest s names path posts at p k
-system-begins nest s names path posts at {p} {k} e = go (systemAt s at nest names path posts) refl
+pub system-begins : (nest : ℕ) (s : List ℕ) (names : ℕ) (path : List ℕ) (preceding at : ℕ) {p : System} {k : ℕ}
+    → readSystem nest s names path preceding at ≡ got p k → SystemBegins nest s names path preceding at p k
+system-begins nest s names path preceding at {p} {k} e = go (systemAt s at nest names path preceding) refl
   where
-    go : (x : Read Form) → systemAt s at nest names path posts ≡ x → SystemBegins nest s names path posts at p k
-    go (got f n) h = record { form = f; next = n; stands = h; after = sym (system-step nest s names path posts at h) ∙ e }
-    go (refused a b) h = never (sym (system-stop nest s names path posts at h) ∙ e)
+    go : (x : Read Form) → systemAt s at nest names path preceding ≡ x → SystemBegins nest s names path preceding at p k
+    go (got f n) h = record { form = f; next = n; stands = h; after = sym (system-step nest s names path preceding at h) ∙ e }
+    go (refused a b) h = never (sym (system-stop nest s names path preceding at h) ∙ e)
 
 -- "32 posts": a system has at most as many components as there is room for.
 module _ (read : ℕ → List ℕ → ℕ → ℕ → Read System)
-    (l : (names : ℕ) (path : List ℕ) (posts at : ℕ) → posts ≤ 32 → Every (λ p. posts + components p ≤ 32) (read names path posts at))
-    (process : ℕ → Read Process) (nest at names : ℕ) (path : List ℕ) (posts : ℕ) (few : posts ≤ 32) where
-  few-from : (f : Form) (next : ℕ) → FitsSystem nest names (length path) posts f
-      → Every (λ p. posts + components p ≤ 32) (systemFrom read process at names path posts f next)
+    (l : (names : ℕ) (path : List ℕ) (preceding at : ℕ) → preceding ≤ 32 → Every (λ p. preceding + components p ≤ 32) (read names path preceding at))
+    (process : ℕ → Read Process) (nest at names : ℕ) (path : List ℕ) (preceding : ℕ) (few : preceding ≤ 32) where
+  few-from : (f : Form) (next : ℕ) → FitsSystem nest names (length path) preceding f
+      → Every (λ p. preceding + components p ≤ 32) (systemFrom read process at names path preceding f next)
   unfolding Every systemFrom component components FitsSystem
   few-from Nil next h = omega arith
-  few-from Par next h = every-then _ (read names path posts next) _ (λ p m e.
-      let i = of-found _ (read names path posts next) (l names path posts next few) e in
-      every-then _ (read names path (posts + components p) m) _ (λ q k f.
-      let j = of-found _ (read names path (posts + components p) m) (l names path (posts + components p) m i) f in
+  few-from Par next h = every-then _ (read names path preceding next) _ (λ p m e.
+      let i = of-found _ (read names path preceding next) (l names path preceding next few) e in
+      every-then _ (read names path (preceding + components p) m) _ (λ q k f.
+      let j = of-found _ (read names path (preceding + components p) m) (l names path (preceding + components p) m i) f in
       omega arith))
-  few-from (Group g) next h = every-then _ (read names (path ++ (g ∷ [])) posts next) _ (λ p k e.
-      of-found _ (read names (path ++ (g ∷ [])) posts next) (l names (path ++ (g ∷ [])) posts next few) e)
-  few-from (New t) next h = every-then _ (read (names + 1) path posts next) _ (λ p k e.
-      of-found _ (read (names + 1) path posts next) (l (names + 1) path posts next few) e)
+  few-from (Group g) next h = every-then _ (read names (path ++ (g ∷ [])) preceding next) _ (λ p k e.
+      of-found _ (read names (path ++ (g ∷ [])) preceding next) (l names (path ++ (g ∷ [])) preceding next few) e)
+  few-from (New t) next h = every-then _ (read (names + 1) path preceding next) _ (λ p k e.
+      of-found _ (read (names + 1) path preceding next) (l (names + 1) path preceding next few) e)
   few-from (Component g) next h = every-then _ (process next) _ (λ p k e. omega arith)
   few-from (Input a) next h = absurd h
   few-from (Output a) next h = absurd h
   few-from Replicate next h = absurd h
 
-few-components : (nest : ℕ) (s : List ℕ) (names : ℕ) (path : List ℕ) (posts at : ℕ) → posts ≤ 32
-    → Every (λ p. posts + components p ≤ 32) (readSystem nest s names path posts at)
+few-components : (nest : ℕ) (s : List ℕ) (names : ℕ) (path : List ℕ) (preceding at : ℕ) → preceding ≤ 32
+    → Every (λ p. preceding + components p ≤ 32) (readSystem nest s names path preceding at)
 unfolding readSystem Every
-few-components zero s names path posts at h = every-then _ (systemAt s at 0 names path posts) _ (λ f next e. tt)
-few-components (suc n) s names path posts at h = every-then _ (systemAt s at (suc n) names path posts) _ (λ f next e.
-    few-from (λ ns p k m. readSystem n s ns p k m) (few-components n s) (λ m. readProcess n s names m) (suc n) at names path posts h f next
-    (system-room s at (suc n) names path posts e))
+few-components zero s names path preceding at h = every-then _ (systemAt s at 0 names path preceding) _ (λ f next e. tt)
+few-components (suc n) s names path preceding at h = every-then _ (systemAt s at (suc n) names path preceding) _ (λ f next e.
+    few-from (λ ns p k m. readSystem n s ns p k m) (few-components n s) (λ m. readProcess n s names m) (suc n) at names path preceding h f next
+    (system-room s at (suc n) names path preceding e))
 
-pub components-few : (nest : ℕ) (s : List ℕ) (names : ℕ) (path : List ℕ) (posts at : ℕ) {p : System} {k : ℕ} → posts ≤ 32
-    → readSystem nest s names path posts at ≡ got p k → posts + components p ≤ 32
-components-few nest s names path posts at h e = of-found _ (readSystem nest s names path posts at) (few-components nest s names path posts at h) e
+pub components-few : (nest : ℕ) (s : List ℕ) (names : ℕ) (path : List ℕ) (preceding at : ℕ) {p : System} {k : ℕ} → preceding ≤ 32
+    → readSystem nest s names path preceding at ≡ got p k → preceding + components p ≤ 32
+components-few nest s names path preceding at h e = of-found _ (readSystem nest s names path preceding at) (few-components nest s names path preceding at h) e
 
 -- As many types are read as were asked for.
 pub free-count : (n : ℕ) (s : List ℕ) (at : ℕ) {ts : List ℕ} {m : ℕ} → freeTypes n s at ≡ got ts m → length ts ≡ n

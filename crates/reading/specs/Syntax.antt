@@ -10,7 +10,7 @@ pub data Process : Type 0 where
   new : ℕ → Process → Process
   -- input: the channel, the type of the bound name, and its scope
   input : ℕ → ℕ → Process → Process
-  -- output: the channel, the name sent, and the sequel
+  -- output: the channel, the name sent, and the continuation
   output : ℕ → ℕ → Process → Process
   -- replication
   repl : Process → Process

@@ -35,22 +35,22 @@ component g process = andThen process (λ p k. got (compₛ g p) k)
 
 -- The system that begins with a form. The right part of a parallel form counts on from the components of the left.
 unfoldable pub systemFrom : (ℕ → List ℕ → ℕ → ℕ → Read System) → (ℕ → Read Process) → ℕ → ℕ → List ℕ → ℕ → Form → ℕ → Read System
-systemFrom read process at names path posts Nil next = got nilₛ next
-systemFrom read process at names path posts Par next =
-    andThen (read names path posts next) (λ l m. andThen (read names path (posts + components l) m) (λ r k. got (parₛ l r) k))
-systemFrom read process at names path posts (Group g) next = andThen (read names (path ++ (g ∷ [])) posts next) (λ p k. got (groupₛ g p) k)
-systemFrom read process at names path posts (New t) next = andThen (read (names + 1) path posts next) (λ p k. got (newₛ t p) k)
-systemFrom read process at names path posts (Component g) next = component g (process next)
-systemFrom read process at names path posts (Input a) next = refused 4 at
-systemFrom read process at names path posts (Output a) next = refused 4 at
-systemFrom read process at names path posts Replicate next = refused 4 at
+systemFrom read process at names path preceding Nil next = got nilₛ next
+systemFrom read process at names path preceding Par next =
+    andThen (read names path preceding next) (λ l m. andThen (read names path (preceding + components l) m) (λ r k. got (parₛ l r) k))
+systemFrom read process at names path preceding (Group g) next = andThen (read names (path ++ (g ∷ [])) preceding next) (λ p k. got (groupₛ g p) k)
+systemFrom read process at names path preceding (New t) next = andThen (read (names + 1) path preceding next) (λ p k. got (newₛ t p) k)
+systemFrom read process at names path preceding (Component g) next = component g (process next)
+systemFrom read process at names path preceding (Input a) next = refused 4 at
+systemFrom read process at names path preceding (Output a) next = refused 4 at
+systemFrom read process at names path preceding Replicate next = refused 4 at
 
 -- The system at a place, with the path so far and the number of components so far.
 unfoldable pub readSystem : ℕ → List ℕ → ℕ → List ℕ → ℕ → ℕ → Read System
-readSystem zero s names path posts at = andThen (systemAt s at 0 names path posts) (λ form next. refused 5 at)
-readSystem (suc n) s names path posts at =
-    andThen (systemAt s at (suc n) names path posts) (λ form next.
-    systemFrom (λ ns p k m. readSystem n s ns p k m) (λ m. readProcess n s names m) at names path posts form next)
+readSystem zero s names path preceding at = andThen (systemAt s at 0 names path preceding) (λ form next. refused 5 at)
+readSystem (suc n) s names path preceding at =
+    andThen (systemAt s at (suc n) names path preceding) (λ form next.
+    systemFrom (λ ns p k m. readSystem n s ns p k m) (λ m. readProcess n s names m) at names path preceding form next)
 
 -- `count` stored types, one after another.
 unfoldable pub freeTypes : ℕ → List ℕ → ℕ → Read (List ℕ)

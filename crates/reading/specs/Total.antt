@@ -44,20 +44,20 @@ processTree (suc n) s names at =
     (λ form next. processGrown (λ ns m. processTree n s ns m) at names form next)
 
 unfoldable pub systemGrown : (ℕ → List ℕ → ℕ → ℕ → Grown System) → (ℕ → Grown Process) → ℕ → ℕ → List ℕ → ℕ → Form → ℕ → Grown System
-systemGrown grow process at names path posts Nil next = record { tree = nilₛ; next = next }
-systemGrown grow process at names path posts Par next =
-    beside parₛ (grow names path posts next) (λ l m. grow names path (posts + components l) m)
-systemGrown grow process at names path posts (Group g) next = under (groupₛ g) (grow names (path ++ (g ∷ [])) posts next)
-systemGrown grow process at names path posts (New t) next = under (newₛ t) (grow (names + 1) path posts next)
-systemGrown grow process at names path posts (Component g) next = under (compₛ g) (process next)
-systemGrown grow process at names path posts (Input a) next = record { tree = nilₛ; next = at }
-systemGrown grow process at names path posts (Output a) next = record { tree = nilₛ; next = at }
-systemGrown grow process at names path posts Replicate next = record { tree = nilₛ; next = at }
+systemGrown grow process at names path preceding Nil next = record { tree = nilₛ; next = next }
+systemGrown grow process at names path preceding Par next =
+    beside parₛ (grow names path preceding next) (λ l m. grow names path (preceding + components l) m)
+systemGrown grow process at names path preceding (Group g) next = under (groupₛ g) (grow names (path ++ (g ∷ [])) preceding next)
+systemGrown grow process at names path preceding (New t) next = under (newₛ t) (grow (names + 1) path preceding next)
+systemGrown grow process at names path preceding (Component g) next = under (compₛ g) (process next)
+systemGrown grow process at names path preceding (Input a) next = record { tree = nilₛ; next = at }
+systemGrown grow process at names path preceding (Output a) next = record { tree = nilₛ; next = at }
+systemGrown grow process at names path preceding Replicate next = record { tree = nilₛ; next = at }
 
 -- The system at a place, with the path so far and the number of components so far.
 unfoldable pub systemTree : ℕ → List ℕ → ℕ → List ℕ → ℕ → ℕ → Grown System
-systemTree zero s names path posts at = record { tree = nilₛ; next = at }
-systemTree (suc n) s names path posts at =
-    orNothing (record { tree = nilₛ; next = at }) (systemAt s at (suc n) names path posts)
+systemTree zero s names path preceding at = record { tree = nilₛ; next = at }
+systemTree (suc n) s names path preceding at =
+    orNothing (record { tree = nilₛ; next = at }) (systemAt s at (suc n) names path preceding)
     (λ form next.
-    systemGrown (λ ns p k m. systemTree n s ns p k m) (λ m. processTree n s names m) at names path posts form next)
+    systemGrown (λ ns p k m. systemTree n s ns p k m) (λ m. processTree n s names m) at names path preceding form next)

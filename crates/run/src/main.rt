@@ -5,7 +5,7 @@ use files::first;
 use files::load;
 use files::print_refused;
 use libc::STDOUT_FILENO;
-use playing::play;
+use execution::play;
 use service::Answer;
 
 fn main() {

@@ -1,5 +1,5 @@
 -- What questions 1 to 18 answered "passed" say of a sheet and its policy: every act passes questions 7 to 10, every permission
--- that an act needs is granted to its path, and what a post's text discloses is at most what its path is granted.
+-- that an act needs is granted to its path, and what a component's process discloses is at most what its path is granted.
 use Prim.Native.Nat.{ℕ, zero, suc, _+_, _-_, _/_, _%_, _<_, _≤_}
 use native.Mathlib.Omega.{arith}
 use mathlib.Core.Bool.{Bool, true, false, cond, not, _||_}
@@ -26,9 +26,9 @@ use Rattle.policy.specs.WellFormed.{kindsDistinct, noneAbove, sameHeads, fenced
 use Rattle.policy.specs.Grants.{flagGranted, countGranted}
 use Rattle.policy.specs.Satisfies.{hasTree, pathReached, grantsOne, covered}
 use Rattle.service.specs.Questions.{Asked, passed, ask, afterReading, typed, wellFormed, satisfied, Accepted, judged}
-use Rattle.running.specs.Guarantees.{passes, grantsNeed, isFine, ofPost}
+use Rattle.running.specs.Guarantees.{passes, grantsNeed, isFine, ofComponent}
 use Rattle.running.proofs.Alls.{All, done, also, all-both, all-right, all-head, all-each, all-gather, all-member, all-from, all-every}
-use Rattle.running.proofs.Posts.{acts-component, post-acts}
+use Rattle.running.proofs.Components.{acts-component, component-acts}
 
 -- A "yes" leaves the question answered and the questions after it.
 ask-yes : {A : Type 0} (n : ℕ) (b : Bool) (rest : Asked A) (a : A) → ask n b rest ≡ passed a → b ≡ true
@@ -290,7 +290,7 @@ weight-member w a (List·Memᴰ·tail {x = x} {xs = xs} m) =
     at-most-trans (fin (w a)) (total w xs) (weigh (x .repeated) (w x) ⊕ total w xs) (weight-member w a m)
     (rw (join-comm (weigh (x .repeated) (w x)) (total w xs)) (at-most-joined (total w xs) (weigh (x .repeated) (w x))))
 
--- What an act of a covered text needs is granted to its path.
+-- What an act of a covered process needs is granted to its path.
 module _ (policy : List Tree) (l : Located) (cover : All (λ e. covered policy e ≡ true) (entriesOf l)) where
   needed : (a : Act) → List·Memᴰ a (actsOf l) → (n : Need) → needOf a ≡ n → NeedRange n → grantsNeed policy (l .component .path) n ≡ true
   unfolding grantsNeed isRead isWrite isAccess disclosures disclosed
@@ -325,10 +325,10 @@ accepted-fine s c a h =
     = all-gather actsOf (all-from (located (a .sheet)) (λ l m. all-from (actsOf l) (λ x n. need-granted (a .policy) l (covers s c a h l m) x n))) in
     all-both (λ x k n. fine (a .policy) x k n) (accepted-typed s c a h) g
 
--- What a post of an accepted sheet discloses is at most what its path is granted.
+-- What a component of an accepted sheet discloses is at most what its path is granted.
 pub accepted-count : (s c : List ℕ) (a : Accepted) → judged s c ≡ passed a → (l : Located) → List·Memᴰ l (located (a .sheet)) → (k h : ℕ) → k < 16 → h < 64
-    → atMost (disclosed k h (ofPost (l .component .number) (sheetActs (a .sheet)))) (countGranted h (a .policy) k (l .component .path)) ≡ true
-accepted-count s c a e l m k h i j = rw (post-acts (a .sheet) l m) (count-granted (a .policy) l (covers s c a e l m) k h i j)
+    → atMost (disclosed k h (ofComponent (l .component .number) (sheetActs (a .sheet)))) (countGranted h (a .policy) k (l .component .path)) ≡ true
+accepted-count s c a e l m k h i j = rw (component-acts (a .sheet) l m) (count-granted (a .policy) l (covers s c a e l m) k h i j)
 
 -- Every act of a list makes true of the list what is true of it.
 pub any-self : (f : Act → Act) (xs : List Act) → All (λ x. (t : Act → Bool) → t (f x) ≡ true → any (λ b. t (f b)) xs ≡ true) xs

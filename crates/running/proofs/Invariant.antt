@@ -1,6 +1,6 @@
 -- What every run keeps, whatever its moves, refused ones included: every run name has a type, every act still ahead has a given
 -- property (one that implies questions 7 to 10 and does not look at repeats), and, for every weight of acts at once, what has
--- been sent so far and what is still owed are together at most what was owed at the start. In a meeting both acts stand on one
+-- been sent so far and what is still owed are together at most what was owed at the start. In a communication both acts stand on one
 -- channel, so that the name sent has the type that the receiver's bound name has.
 use Prim.Native.Nat.{ℕ, zero, suc, _+_, _<_}
 use native.Mathlib.Omega.{arith}
@@ -21,11 +21,11 @@ use Rattle.inference.specs.Typing.{isKnown, ofShape, ofChannel, isType, inScope
 use Rattle.inference.proofs.CountLaws.{nothing-join, at-most-self}
 use Rattle.running.specs.State.{Thread, State}
 use Rattle.running.specs.Products.{news, threadsOf}
-use Rattle.running.specs.Moves.{Move, copy, sendOut, receiveIn, meet, outside, Result, refuses, takes, guard, given, Sending, Receiving, runName, asSending, asReceiving, asRepeat, isKnownOutside, made, singles, join, after, nowKnown, hasRoom, taken, copyStep, sendStep, receiveStep, meetStep, outsideStep, step, stateAfter, runStates}
+use Rattle.running.specs.Moves.{Move, unfoldRepl, sendOut, receiveIn, communicate, environmentName, Result, refuses, takes, guard, given, Sending, Receiving, runName, asSending, asReceiving, asRepeat, environmentKnows, made, singles, join, after, nowKnown, hasRoom, taken, unfoldStep, sendStep, receiveStep, communicateStep, environmentStep, step, stateAfter, runStates}
 use Rattle.running.specs.Guarantees.{scopeOf, threadActs, passes, nextOf, nextAct, actAt, sendOf, isTaken}
 use Rattle.running.proofs.Alls.{All, done, also, all-append, all-map, all-head, all-at, all-set}
 use Rattle.running.proofs.ProductLaws.{Bound, scope-later, bound-later, scope-snoc, Made, products}
-use Rattle.running.proofs.Owed.{bare, weightOf, weight-append, copy-free, all-copied, owed, owed-append, owed-later, owed-one, owed-made, good-made, acts-later, Good, good-later, Fits, fits-set, fits-then, fits-act, fits-free, all-singles, join-singles, single-at, set-other, spent-then}
+use Rattle.running.proofs.Owed.{bare, weightOf, weight-append, unfold-free, all-unfolded, owed, owed-append, owed-later, owed-one, owed-made, good-made, acts-later, Good, good-later, Fits, fits-set, fits-then, fits-act, fits-free, all-singles, join-singles, single-at, set-other, spent-then}
 
 -- A name in scope is a run name with that type.
 record Found (τ names : List ℕ) (x : ℕ) : Type 0 where
@@ -67,7 +67,7 @@ unfolding taken
 on-taken R s bytes nay go = on-guard R 35 (hasRoom s) (takes s bytes) nay (λ h. go)
 
 on-sending : (R : Result → Type 0) (n : ℕ) (t : Thread) (p : Process) (f : Sending → Result) → ((k : ℕ) → R (refuses k))
-    → ((x y : ℕ) (q : Process) → p ≡ output x y q → R (f (record { channel = runName t x; sent = runName t y; sequel = q })))
+    → ((x y : ℕ) (q : Process) → p ≡ output x y q → R (f (record { channel = runName t x; sent = runName t y; continuation = q })))
     → R (given n (asSending t p) f)
 unfolding given asSending
 on-sending R n t nil f nay go = nay n
@@ -78,7 +78,7 @@ on-sending R n t (output x y p) f nay go = go x y p refl
 on-sending R n t (repl p) f nay go = nay n
 
 on-receiving : (R : Result → Type 0) (n : ℕ) (t : Thread) (p : Process) (f : Receiving → Result) → ((k : ℕ) → R (refuses k))
-    → ((x u : ℕ) (q : Process) → p ≡ input x u q → R (f (record { channel = runName t x; bound = u; sequel = q })))
+    → ((x u : ℕ) (q : Process) → p ≡ input x u q → R (f (record { channel = runName t x; bound = u; continuation = q })))
     → R (given n (asReceiving t p) f)
 unfolding given asReceiving
 on-receiving R n t nil f nay go = nay n
@@ -109,25 +109,25 @@ sendAct τ t x y = record { component = t .component; repeated = false; sends = 
 unfoldable pub receiveAct : List ℕ → Thread → ℕ → ℕ → Act
 receiveAct τ t x u = record { component = t .component; repeated = false; sends = false; channel = getElem? (scopeOf τ (t .names)) x; object = some u }
 
-acts-send : (τ : List ℕ) (t : Thread) (x y : ℕ) (p : Process) → t .text ≡ output x y p
+acts-send : (τ : List ℕ) (t : Thread) (x y : ℕ) (p : Process) → t .process ≡ output x y p
     → threadActs τ t ≡ bare (sendAct τ t x y) ∷ acts (t .component) false (scopeOf τ (t .names)) p
 unfolding threadActs acts bare sendAct
 acts-send τ t x y p e = rw e
 
-acts-receive : (τ : List ℕ) (t : Thread) (x u : ℕ) (p : Process) → t .text ≡ input x u p
+acts-receive : (τ : List ℕ) (t : Thread) (x u : ℕ) (p : Process) → t .process ≡ input x u p
     → threadActs τ t ≡ bare (receiveAct τ t x u) ∷ acts (t .component) false (scopeOf τ (t .names) ++ (u ∷ [])) p
 unfolding threadActs acts bare receiveAct
 acts-receive τ t x u p e = rw e
 
-acts-repeat : (τ : List ℕ) (t : Thread) (p : Process) → t .text ≡ repl p
+acts-repeat : (τ : List ℕ) (t : Thread) (p : Process) → t .process ≡ repl p
     → threadActs τ t ≡ acts (t .component) true (scopeOf τ (t .names)) p
 unfolding threadActs acts
 acts-repeat τ t p e = rw e
 
--- Products of a thread's sequel, under the names so far and those that it makes; `ρ` are new names that come before them.
-fits-copy : (P : Act → Type 0) (τ : List ℕ) (t : Thread) (p : Process) → t .text ≡ repl p → Good P τ t
+-- Products of a thread's continuation, under the names so far and those that it makes; `ρ` are new names that come before them.
+fits-unfold : (P : Act → Type 0) (τ : List ℕ) (t : Thread) (p : Process) → t .process ≡ repl p → Good P τ t
     → Fits P (τ ++ news p) (λ w. 0) (threadsOf (t .component) (t .names) (length τ + 0) p ++ (t ∷ [])) (t ∷ [])
-fits-copy P τ t p e g =
+fits-unfold P τ t p e g =
     let n : length τ ≡ length τ + 0 = omega arith in
     let m₁ : Made (τ ++ (news p ++ [])) (threadsOf (t .component) (t .names) (length τ + 0) p) (acts (t .component) false (scopeOf τ (t .names)) p)
     = products (t .component) τ [] (t .names) (length τ + 0) p n (g .bound) in
@@ -137,17 +137,17 @@ fits-copy P τ t p e g =
     let gl : Good P (τ ++ news p) t = good-later τ (news p) t g in
     let al : threadActs (τ ++ news p) t ≡ acts (t .component) true (scopeOf τ (t .names)) p = acts-later τ (news p) t (g .bound) ∙ acts-repeat τ t p e in
     record {
-      good = all-append (good-made P m (all-copied P (t .component) false (scopeOf τ (t .names)) p h)) (also gl done);
+      good = all-append (good-made P m (all-unfolded P (t .component) false (scopeOf τ (t .names)) p h)) (also gl done);
       cost = λ w.
           let k : owed w (τ ++ news p) (t ∷ []) ≡ weightOf w (acts (t .component) true (scopeOf τ (t .names)) p) = owed-one w (τ ++ news p) t ∙ ap (weightOf w) al in
           let j : owed w (τ ++ news p) (threadsOf (t .component) (t .names) (length τ + 0) p ++ (t ∷ [])) ≡ owed w (τ ++ news p) (t ∷ [])
           = owed-append w (τ ++ news p) (threadsOf (t .component) (t .names) (length τ + 0) p) (t ∷ []) ∙ ap₂ _⊕_ (owed-made w m) k
           ∙ sym (weight-append w (acts (t .component) false (scopeOf τ (t .names)) p) (acts (t .component) true (scopeOf τ (t .names)) p))
-          ∙ copy-free w (t .component) (scopeOf τ (t .names)) p ∙ sym k in
+          ∙ unfold-free w (t .component) (scopeOf τ (t .names)) p ∙ sym k in
           rw (nothing-join (owed w (τ ++ news p) (threadsOf (t .component) (t .names) (length τ + 0) p ++ (t ∷ []))), j) (at-most-self (owed w (τ ++ news p) (t ∷ [])));
     }
 
-fits-send : (P : Act → Type 0) (τ σ : List ℕ) (t : Thread) (x y : ℕ) (p : Process) → t .text ≡ output x y p → Good P τ t
+fits-send : (P : Act → Type 0) (τ σ : List ℕ) (t : Thread) (x y : ℕ) (p : Process) → t .process ≡ output x y p → Good P τ t
     → Fits P (τ ++ (news p ++ σ)) (λ w. w (bare (sendAct τ t x y))) (threadsOf (t .component) (t .names) (length τ + 0) p) (t ∷ [])
 fits-send P τ σ t x y p e g =
     let n : length τ ≡ length τ + 0 = omega arith in
@@ -156,7 +156,7 @@ fits-send P τ σ t x y p e g =
     fits-act P (τ ++ (news p ++ σ)) t (sendAct τ t x y) (acts (t .component) false (scopeOf τ (t .names)) p) (threadsOf (t .component) (t .names) (length τ + 0) p)
     (good-later τ (news p ++ σ) t g) (acts-later τ (news p ++ σ) t (g .bound) ∙ acts-send τ t x y p e) m
 
-fits-receive : (P : Act → Type 0) (τ ρ : List ℕ) (t : Thread) (x u v : ℕ) (p : Process) → t .text ≡ input x u p → Good P τ t
+fits-receive : (P : Act → Type 0) (τ ρ : List ℕ) (t : Thread) (x u v : ℕ) (p : Process) → t .process ≡ input x u p → Good P τ t
     → v < length τ → getD τ v 0 ≡ u
     → Fits P (τ ++ (ρ ++ news p)) (λ w. 0) (threadsOf (t .component) (t .names ++ (v ∷ [])) (length τ + length ρ) p) (t ∷ [])
 fits-receive P τ ρ t x u v p e g h k =
@@ -173,7 +173,7 @@ fits-receive P τ ρ t x u v p e g h k =
     (fits-act P (τ ++ (ρ ++ news p)) t (receiveAct τ t x u) (acts (t .component) false (scopeOf τ (t .names) ++ (u ∷ [])) p) (threadsOf (t .component) (t .names ++ (v ∷ [])) (length τ + length ρ) p)
     (good-later τ (ρ ++ news p) t g) (acts-later τ (ρ ++ news p) t (g .bound) ∙ acts-receive τ t x u p e) m)
 
--- A good state: every thread good, and every name given known outside or not.
+-- A good state: every thread good, and every name given known to the environment or not.
 pub record Sound (P : Act → Type 0) (s : State) : Type 0 where
   pub threads : All (Good P (s .types)) (s .threads)
   pub flags : length (s .known) ≡ length (s .types)
@@ -209,14 +209,14 @@ pub data Kept (P : Act → Type 0) (s : State) (spent : (Act → ℕ) → ℕ) :
   stays : {n : ℕ} → Kept P s spent (refuses n)
   goes : {s′ : State} {bytes : List ℕ} → Took P s spent s′ → Kept P s spent (takes s′ bytes)
 
-send-at : (s : State) (i : ℕ) (t : Thread) (x y : ℕ) (p : Process) → getElem? (s .threads) i ≡ some t → t .text ≡ output x y p
+send-at : (s : State) (i : ℕ) (t : Thread) (x y : ℕ) (p : Process) → getElem? (s .threads) i ≡ some t → t .process ≡ output x y p
     → actAt s (getElem? (s .threads) i) ≡ some (bare (sendAct (s .types) t x y))
 unfolding actAt nextAct nextOf
 send-at s i t x y p e h =
     let k : threadActs (s .types) t ≡ bare (sendAct (s .types) t x y) ∷ acts (t .component) false (scopeOf (s .types) (t .names)) p = acts-send (s .types) t x y p h in
     rw (e, k, h)
 
-spent-at : (s : State) (i : ℕ) (t : Thread) (x y : ℕ) (p : Process) → getElem? (s .threads) i ≡ some t → t .text ≡ output x y p
+spent-at : (s : State) (i : ℕ) (t : Thread) (x y : ℕ) (p : Process) → getElem? (s .threads) i ≡ some t → t .process ≡ output x y p
     → (w : Act → ℕ) → w (bare (sendAct (s .types) t x y)) ≡ weightAt w (actAt s (getElem? (s .threads) i))
 unfolding weightAt bare sendAct
 spent-at s i t x y p e h w = rw (send-at s i t x y p e h)
@@ -229,17 +229,17 @@ known-given [] n h = let z : false ≡ true = h in let y : _≡_ {A = ℕ} 0 1 =
 known-given (k ∷ ks) zero h = omega arith
 known-given (k ∷ ks) (suc n) h = let r : n < length ks = known-given ks n h in omega arith
 
-known-typed : (P : Act → Type 0) (s : State) (n : ℕ) → Sound P s → isKnownOutside s n ≡ true → n < length (s .types)
-unfolding isKnownOutside
+known-typed : (P : Act → Type 0) (s : State) (n : ℕ) → Sound P s → environmentKnows s n ≡ true → n < length (s .types)
+unfolding environmentKnows
 known-typed P s n d h = omega (arith, known-given (s .known) n h, d .flags)
 
 -- A sender is no receiver.
 two-threads : (ts : List Thread) (i j : ℕ) (t u : Thread) (x y x′ v : ℕ) (p q : Process) → getElem? ts i ≡ some t → getElem? ts j ≡ some u
-    → t .text ≡ output x y p → u .text ≡ input x′ v q → i ≡ j → ⊥
+    → t .process ≡ output x y p → u .process ≡ input x′ v q → i ≡ j → ⊥
 two-threads ts i j t u x y x′ v p q e f g h k =
     let a : getElem? ts i ≡ getElem? ts j = ap (λ n. getElem? ts n) k in
     let b : t ≡ u = cc in
-    let c : output x y p ≡ input x′ v q = sym g ∙ ap (λ (r : Thread). r .text) b ∙ h in
+    let c : output x y p ≡ input x′ v q = sym g ∙ ap (λ (r : Thread). r .process) b ∙ h in
     let z : _≡_ {A = ℕ} 0 1 = cc in absurd (omega arith)
 
 passes-scope : (a : Act) → passes a ≡ true → inScope a ≡ true
@@ -254,7 +254,7 @@ next-holds : (P : Act → Type 0) (τ : List ℕ) (t : Thread) (a : Act) (rest :
 unfolding bare
 next-holds P τ t a rest g e = all-head (rw e at (g .holds))
 
--- The name sent in a meeting has a type, the bound one.
+-- The name sent in a communication has a type, the bound one.
 record Sent (τ : List ℕ) (n v : ℕ) : Type 0 where
   given-before : n < length τ
   of-type : getD τ n 0 ≡ v
@@ -285,13 +285,13 @@ fits-place P s σ spent i t x d e f =
     rw (join-singles (s .threads)) at (fits-set P (s .types ++ σ) spent (singles (s .threads)) i x (t ∷ []) (single-at (s .threads) i t e) (all-singles gs) f)
 
 module _ (P : Act → Type 0) (typed : (a : Act) → P a → passes a ≡ true) where
-  kept-copy : (s : State) (i : ℕ) → Sound P s → Kept P s (λ w. 0) (copyStep s i)
-  unfolding copyStep made
-  kept-copy s i d =
+  kept-unfold : (s : State) (i : ℕ) → Sound P s → Kept P s (λ w. 0) (unfoldStep s i)
+  unfolding unfoldStep made
+  kept-unfold s i d =
       on-given (Kept P s (λ w. 0)) _ _ _ (λ k. stays) (λ t e.
       on-repeat (Kept P s (λ w. 0)) _ _ _ (λ k. stays) (λ p h.
       on-taken (Kept P s (λ w. 0)) _ _ (λ k. stays) (goes (took-after P s (λ w. 0) _ (news p) d
-      (fits-place P s (news p) (λ w. 0) i t _ d e (fits-copy P (s .types) t p h (all-at (s .threads) i e (d .threads))))))))
+      (fits-place P s (news p) (λ w. 0) i t _ d e (fits-unfold P (s .types) t p h (all-at (s .threads) i e (d .threads))))))))
 
   kept-send : (s : State) (i : ℕ) → Sound P s → Kept P s (λ w. weightAt w (sendOf s (sendOut i))) (sendStep s i)
   unfolding sendStep made sendOf
@@ -317,17 +317,17 @@ module _ (P : Act → Type 0) (typed : (a : Act) → P a → passes a ≡ true) 
       on-taken (Kept P s (λ w. 0)) _ _ (λ k. stays) (goes (took-after P s (λ w. 0) _ (news p) d
       (fits-place P s (news p) (λ w. 0) i t _ d e
       (fits-receive P (s .types) [] t x u v p h (all-at (s .threads) i e (d .threads))
-      (known-typed P s v d (both-right (isKnownOutside s (runName t x)) (isKnownOutside s v) b))
+      (known-typed P s v d (both-right (environmentKnows s (runName t x)) (environmentKnows s v) b))
       (eqb-true (getD (s .types) v 0) u c)))))))))
 
-  fits-meet : (s : State) (i j : ℕ) (t u : Thread) (x y x′ v : ℕ) (p q : Process) → Sound P s
-      → getElem? (s .threads) i ≡ some t → getElem? (s .threads) j ≡ some u → t .text ≡ output x y p → u .text ≡ input x′ v q
+  fits-communicate : (s : State) (i j : ℕ) (t u : Thread) (x y x′ v : ℕ) (p q : Process) → Sound P s
+      → getElem? (s .threads) i ≡ some t → getElem? (s .threads) j ≡ some u → t .process ≡ output x y p → u .process ≡ input x′ v q
       → runName t x ≡ runName u x′
       → Fits P (s .types ++ (news p ++ news q)) (λ w. weightAt w (actAt s (getElem? (s .threads) i)))
       (join (set (set (singles (s .threads)) i (made s 0 t (t .names) p)) j (made s (length (news p)) u (u .names ++ (runName t y ∷ [])) q)))
       (s .threads)
   unfolding made
-  fits-meet s i j t u x y x′ v p q d e f h k c =
+  fits-communicate s i j t u x y x′ v p q d e f h k c =
       let τ : List ℕ = s .types in
       let gt : Good P (s .types) t = all-at (s .threads) i e (d .threads) in
       let gu : Good P (s .types) u = all-at (s .threads) j f (d .threads) in
@@ -348,9 +348,9 @@ module _ (P : Act → Type 0) (typed : (a : Act) → P a → passes a ≡ true) 
       (all-set (singles (s .threads)) i (all-singles gs) (ft .good)) fu)
       (fits-place P s (news p ++ news q) (λ w. weightAt w (actAt s (getElem? (s .threads) i))) i t _ d e ft)
 
-  kept-meet : (s : State) (i j : ℕ) → Sound P s → Kept P s (λ w. weightAt w (sendOf s (meet i j))) (meetStep s i j)
-  unfolding meetStep sendOf
-  kept-meet s i j d =
+  kept-communicate : (s : State) (i j : ℕ) → Sound P s → Kept P s (λ w. weightAt w (sendOf s (communicate i j))) (communicateStep s i j)
+  unfolding communicateStep sendOf
+  kept-communicate s i j d =
       on-given (Kept P s (λ w. weightAt w (actAt s (getElem? (s .threads) i)))) _ _ _ (λ k. stays) (λ t e.
       on-given (Kept P s (λ w. weightAt w (actAt s (getElem? (s .threads) i)))) _ _ _ (λ k. stays) (λ u f.
       on-sending (Kept P s (λ w. weightAt w (actAt s (getElem? (s .threads) i)))) _ t _ _ (λ k. stays) (λ x y p h.
@@ -358,11 +358,11 @@ module _ (P : Act → Type 0) (typed : (a : Act) → P a → passes a ≡ true) 
       on-guard (Kept P s (λ w. weightAt w (actAt s (getElem? (s .threads) i)))) _ _ _ (λ n. stays) (λ c.
       on-taken (Kept P s (λ w. weightAt w (actAt s (getElem? (s .threads) i)))) _ _ (λ n. stays) (goes
       (took-after P s (λ w. weightAt w (actAt s (getElem? (s .threads) i))) _ (news p ++ news q) d
-      (fits-meet s i j t u x y x′ v p q d e f h k (eqb-true (runName t x) (runName u x′) c)))))))))
+      (fits-communicate s i j t u x y x′ v p q d e f h k (eqb-true (runName t x) (runName u x′) c)))))))))
 
-  kept-outside : (s : State) (t : ℕ) → Sound P s → Kept P s (λ w. 0) (outsideStep s t)
-  unfolding outsideStep
-  kept-outside s t d =
+  kept-environment : (s : State) (t : ℕ) → Sound P s → Kept P s (λ w. 0) (environmentStep s t)
+  unfolding environmentStep
+  kept-environment s t d =
       let f : Fits P (s .types ++ (t ∷ [])) (λ w. 0) (s .threads) (s .threads) = record {
         good = all-map (λ l g. good-later (s .types) (t ∷ []) l g) (d .threads);
         cost = λ w. rw (nothing-join (owed w (s .types ++ (t ∷ [])) (s .threads))) (at-most-self (owed w (s .types ++ (t ∷ [])) (s .threads)));
@@ -373,11 +373,11 @@ module _ (P : Act → Type 0) (typed : (a : Act) → P a → passes a ≡ true) 
 
   pub kept : (s : State) (m : Move) → Sound P s → Kept P s (λ w. weightAt w (sendOf s m)) (step s m)
   unfolding step sendOf weightAt
-  kept s (copy i) d = kept-copy s i d
+  kept s (unfoldRepl i) d = kept-unfold s i d
   kept s (sendOut i) d = kept-send s i d
   kept s (receiveIn i v) d = kept-receive s i v d
-  kept s (meet i j) d = kept-meet s i j d
-  kept s (outside t) d = kept-outside s t d
+  kept s (communicate i j) d = kept-communicate s i j d
+  kept s (environmentName t) d = kept-environment s t d
 
 -- The weight of what a run sends: of each taken move, its send.
 unfoldable pub sentBy : (Act → ℕ) → State → List Move → ℕ

@@ -6,7 +6,7 @@ pub mod Alls
 pub mod ProductLaws
 pub mod Owed
 pub mod Invariant
-pub mod Posts
+pub mod Components
 pub mod Accepted
 pub mod Runs
 pub mod Theorem

@@ -1,5 +1,5 @@
--- What threads owe: the weight of all their acts, for any weight of acts that does not look at repeats. A copy costs nothing,
--- since acts under a repeat weigh nothing or without limit and take in one more copy; and putting threads in a thread's place
+-- What threads owe: the weight of all their acts, for any weight of acts that does not look at repeats. An unfolding costs nothing,
+-- since acts under a repeat weigh nothing or without limit and take in one more of them; and putting threads in a thread's place
 -- costs what they cost more than it.
 use Prim.Native.Nat.{ℕ, zero, suc, _+_}
 use native.Mathlib.Omega.{arith}
@@ -32,7 +32,7 @@ pub weight-append : (w : Act → ℕ) (xs ys : List Act) → weightOf w (xs ++ y
 unfolding weightOf
 weight-append w xs ys = total-append (λ a. w (bare a)) xs ys
 
--- What a text weighs under a repeat.
+-- What a process weighs under a repeat.
 pub weight-repeated : (w : Act → ℕ) (c : Component) (b : Bool) (scope : List ℕ) (p : Process)
     → weightOf w (acts c true scope p) ≡ forever (weightOf w (acts c b scope p))
 unfolding weightOf acts total bare forever repeatedly
@@ -60,27 +60,27 @@ absorbs (fin zero) = refl
 absorbs (fin (suc n)) = refl
 absorbs unlimited = refl
 
--- A copy costs nothing.
-pub copy-free : (w : Act → ℕ) (c : Component) (scope : List ℕ) (p : Process)
+-- An unfolding costs nothing.
+pub unfold-free : (w : Act → ℕ) (c : Component) (scope : List ℕ) (p : Process)
     → weightOf w (acts c false scope p ++ acts c true scope p) ≡ weightOf w (acts c true scope p)
-copy-free w c scope p =
+unfold-free w c scope p =
     let r : weightOf w (acts c true scope p) ≡ forever (weightOf w (acts c false scope p)) = weight-repeated w c false scope p in
     weight-append w (acts c false scope p) (acts c true scope p)
     ∙ rw r (absorbs (weightOf w (acts c false scope p)))
 
--- A property that does not look at repeats holds of the acts of a copy.
+-- A property that does not look at repeats holds of the acts of an unfolding.
 module _ (P : Act → Type 0) where
-  pub all-copied : (c : Component) (b : Bool) (scope : List ℕ) (p : Process)
+  pub all-unfolded : (c : Component) (b : Bool) (scope : List ℕ) (p : Process)
       → All (λ a. P (bare a)) (acts c true scope p) → All (λ a. P (bare a)) (acts c b scope p)
   unfolding acts bare
-  all-copied c b scope nil h = done
-  all-copied c b scope (par p q) h =
-      all-append (all-copied c b scope p (all-left (acts c true scope p) (acts c true scope q) h))
-      (all-copied c b scope q (all-right (acts c true scope p) (acts c true scope q) h))
-  all-copied c b scope (new t p) h = all-copied c b (scope ++ (t ∷ [])) p h
-  all-copied c b scope (input x t p) (also h hs) = also h (all-copied c b (scope ++ (t ∷ [])) p hs)
-  all-copied c b scope (output x y p) (also h hs) = also h (all-copied c b scope p hs)
-  all-copied c b scope (repl p) h = h
+  all-unfolded c b scope nil h = done
+  all-unfolded c b scope (par p q) h =
+      all-append (all-unfolded c b scope p (all-left (acts c true scope p) (acts c true scope q) h))
+      (all-unfolded c b scope q (all-right (acts c true scope p) (acts c true scope q) h))
+  all-unfolded c b scope (new t p) h = all-unfolded c b (scope ++ (t ∷ [])) p h
+  all-unfolded c b scope (input x t p) (also h hs) = also h (all-unfolded c b (scope ++ (t ∷ [])) p hs)
+  all-unfolded c b scope (output x y p) (also h hs) = also h (all-unfolded c b scope p hs)
+  all-unfolded c b scope (repl p) h = h
 
 -- What threads owe.
 unfoldable pub owed : (Act → ℕ) → List ℕ → List Thread → Count
@@ -92,7 +92,7 @@ owed-append w τ ts us = ap (weightOf w) (gather-append (threadActs τ) ts us) �
 
 pub acts-later : (τ σ : List ℕ) (t : Thread) → Bound τ (t .names) → threadActs (τ ++ σ) t ≡ threadActs τ t
 unfolding threadActs
-acts-later τ σ t b = ap (λ l. acts (t .component) false l (t .text)) (scope-later τ σ b)
+acts-later τ σ t b = ap (λ l. acts (t .component) false l (t .process)) (scope-later τ σ b)
 
 -- A thread whose names have types and whose acts all have a property.
 pub record Good (P : Act → Type 0) (τ : List ℕ) (t : Thread) : Type 0 where
@@ -197,7 +197,7 @@ fits-then P τ spent x y z f g = record {
       rw e at (spent-then (spent w) 0 (owed w τ x) (owed w τ y) (owed w τ z) (g .cost w) (f .cost w));
 }
 
--- An act and its sequel: what stands after the act fits in the act's place, the act's weight spent.
+-- An act and its continuation: what stands after the act fits in the act's place, the act's weight spent.
 pub fits-act : (P : Act → Type 0) (τ : List ℕ) (t : Thread) (a : Act) (rest : List Act) (x : List Thread)
     → Good P τ t → threadActs τ t ≡ bare a ∷ rest → Made τ x rest → Fits P τ (λ w. w (bare a)) x (t ∷ [])
 unfolding weightOf total weigh bare

@@ -1,6 +1,6 @@
--- What a text makes at once has the acts of the text. Types of run names are looked up by number, so names given later change
--- nothing for names given before (`scope-later`); under the names before it and the names it makes, the acts of a text's
--- threads are the acts of the text (`products`), and the acts of a start are the acts of its sheet (`start-acts`).
+-- What a process makes at once has the acts of the process. Types of run names are looked up by number, so names given later change
+-- nothing for names given before (`scope-later`); under the names before it and the names it makes, the acts of a process's
+-- threads are the acts of the process (`products`), and the acts of a start are the acts of its sheet (`start-acts`).
 use Prim.Native.Nat.{ℕ, zero, suc, _+_, _<_, _≤_}
 use native.Mathlib.Omega.{arith}
 use mathlib.Core.Bool.{false}
@@ -53,7 +53,7 @@ made-both {τ} {ts} {us} m n = record {
 }
 
 made-thread : (τ σ : List ℕ) (c : Component) (names : List ℕ) (p : Process) → Bound τ names
-    → Made (τ ++ σ) (record { component = c; names = names; text = p } ∷ []) (acts c false (scopeOf τ names) p)
+    → Made (τ ++ σ) (record { component = c; names = names; process = p } ∷ []) (acts c false (scopeOf τ names) p)
 unfolding gather threadActs
 made-thread τ σ c names p b = record {
   same = append-nil (acts c false (scopeOf (τ ++ σ) names) p) ∙ ap (λ l. acts c false l p) (scope-later τ σ b);

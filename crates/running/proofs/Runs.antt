@@ -21,7 +21,7 @@ use Rattle.policy.specs.Syntax.{Tree}
 use Rattle.running.specs.State.{State}
 use Rattle.running.specs.Products.{systemNews, start}
 use Rattle.running.specs.Moves.{Move, step, stateAfter, runStates}
-use Rattle.running.specs.Guarantees.{threadActs, stateActs, passes, isTyped, ofPost, NotBeyond, nextOf, nextAct, grantsNeed, isFine, nextFine, noError, sendOf, handsOver, handed, isWithin}
+use Rattle.running.specs.Guarantees.{threadActs, stateActs, passes, isTyped, ofComponent, NotBeyond, nextOf, nextAct, grantsNeed, isFine, nextFine, noError, sendOf, disclosuresOfAct, disclosedBy, isWithin}
 use Rattle.running.proofs.Alls.{All, done, also, all-map, all-both, all-gather, every-all}
 use Rattle.running.proofs.ProductLaws.{made-start, start-acts}
 use Rattle.running.proofs.Owed.{bare, weightOf, owed, Good, good-made}
@@ -93,7 +93,7 @@ run-fine policy sheet ms h =
     let t : Took (λ a. isFine policy a ≡ true) (start sheet) (λ w. sentBy w (start sheet) ms) (runStates (start sheet) ms)
     = took (λ a. isFine policy a ≡ true) (fine-passes policy) sheet s ms in
     every-all (λ t. nextFine policy (nextAct (runStates (start sheet) ms) t))
-    (all-map (λ t (g : Good (λ a. isFine policy a ≡ true) (runStates (start sheet) ms .types) t). next-fine policy (t .text) (g .holds)) (t .sound .threads))
+    (all-map (λ t (g : Good (λ a. isFine policy a ≡ true) (runStates (start sheet) ms .types) t). next-fine policy (t .process) (g .holds)) (t .sound .threads))
 
 -- Not beyond the start: flags.
 any-only : (q t : Act → Bool) (xs : List Act) → any t (only q xs) ≡ any (λ a. q a && t a) xs
@@ -127,16 +127,16 @@ run-flags sheet ms h t e =
     any-all (λ b. t (bare b)) (any (λ b. t (bare b)) (sheetActs sheet) ≡ true)
     (all-map (λ a (w : Within (sheetActs sheet) (bare a)). w .there t) (run-acts (Within (sheetActs sheet)) (λ a w. w .fits) sheet s ms)) e
 
-post-flags : (sheet : Sheet) (ms : List Move) → All (λ a. passes a ≡ true) (sheetActs sheet) → (n : ℕ) (v : Need → Bool)
-    → any (λ a. v (needOf a)) (ofPost n (stateActs (runStates (start sheet) ms))) ≡ true → any (λ a. v (needOf a)) (ofPost n (sheetActs sheet)) ≡ true
-unfolding ofPost bare needOf
-post-flags sheet ms h n v e =
+component-flags : (sheet : Sheet) (ms : List Move) → All (λ a. passes a ≡ true) (sheetActs sheet) → (n : ℕ) (v : Need → Bool)
+    → any (λ a. v (needOf a)) (ofComponent n (stateActs (runStates (start sheet) ms))) ≡ true → any (λ a. v (needOf a)) (ofComponent n (sheetActs sheet)) ≡ true
+unfolding ofComponent bare needOf
+component-flags sheet ms h n v e =
     let k : any (λ a. eqb (a .component .number) n && v (needOf a)) (stateActs (runStates (start sheet) ms)) ≡ true
     = rw (any-only (λ a. eqb (a .component .number) n) (λ a. v (needOf a)) (stateActs (runStates (start sheet) ms))) at e in
     rw (any-only (λ a. eqb (a .component .number) n) (λ a. v (needOf a)) (sheetActs sheet))
     (run-flags sheet ms h (λ a. eqb (a .component .number) n && v (needOf a)) k)
 
--- Counts: the weight of a disclosure at a post.
+-- Counts: the weight of a disclosure at a component.
 unfoldable pub disclosesAt : ℕ → ℕ → ℕ → Act → ℕ
 disclosesAt n k h a = cond (eqb (a .component .number) n) (disclosures k h (needOf a)) 0
 
@@ -145,44 +145,44 @@ unfolding weigh repeatedly
 weigh-nothing true = refl
 weigh-nothing false = refl
 
-pub post-count : (n k h : ℕ) (xs : List Act) → disclosed k h (ofPost n xs) ≡ weightOf (disclosesAt n k h) xs
-unfolding disclosed ofPost weightOf only total bare disclosesAt needOf
-post-count n k h [] = refl
-post-count n k h (x ∷ xs) = go (eqb (x .component .number) n) (post-count n k h xs)
+pub component-count : (n k h : ℕ) (xs : List Act) → disclosed k h (ofComponent n xs) ≡ weightOf (disclosesAt n k h) xs
+unfolding disclosed ofComponent weightOf only total bare disclosesAt needOf
+component-count n k h [] = refl
+component-count n k h (x ∷ xs) = go (eqb (x .component .number) n) (component-count n k h xs)
   where
-    go : (b : Bool) → disclosed k h (ofPost n xs) ≡ weightOf (disclosesAt n k h) xs
-        → disclosed k h (cond b (x ∷ ofPost n xs) (ofPost n xs))
+    go : (b : Bool) → disclosed k h (ofComponent n xs) ≡ weightOf (disclosesAt n k h) xs
+        → disclosed k h (cond b (x ∷ ofComponent n xs) (ofComponent n xs))
         ≡ weigh (x .repeated) (cond b (disclosures k h (needOf x)) 0) ⊕ weightOf (disclosesAt n k h) xs
     go true e = ap (λ z. weigh (x .repeated) (disclosures k h (needOf x)) ⊕ z) e
     go false e = rw (weigh-nothing (x .repeated)) (e ∙ sym (nothing-join (weightOf (disclosesAt n k h) xs)))
 
-hands-over : (n k h : ℕ) (o : Option Act) → handsOver n k h o ≡ weightAt (disclosesAt n k h) o
-unfolding handsOver weightAt disclosesAt bare needOf
-hands-over n k h none = refl
-hands-over n k h (some a) = refl
+act-discloses : (n k h : ℕ) (o : Option Act) → disclosuresOfAct n k h o ≡ weightAt (disclosesAt n k h) o
+unfolding disclosuresOfAct weightAt disclosesAt bare needOf
+act-discloses n k h none = refl
+act-discloses n k h (some a) = refl
 
-handed-sent : (n k h : ℕ) (s : State) (ms : List Move) → handed n k h s ms ≡ sentBy (disclosesAt n k h) s ms
-unfolding handed sentBy
-handed-sent n k h s [] = refl
-handed-sent n k h s (m ∷ ms) = rw (hands-over n k h (sendOf s m), handed-sent n k h (stateAfter s (step s m)) ms)
+disclosed-sent : (n k h : ℕ) (s : State) (ms : List Move) → disclosedBy n k h s ms ≡ sentBy (disclosesAt n k h) s ms
+unfolding disclosedBy sentBy
+disclosed-sent n k h s [] = refl
+disclosed-sent n k h s (m ∷ ms) = rw (act-discloses n k h (sendOf s m), disclosed-sent n k h (stateAfter s (step s m)) ms)
 
 owed-acts : (w : Act → ℕ) (s : State) → stateOwed w s ≡ weightOf w (stateActs s)
 unfolding stateOwed owed stateActs
 owed-acts w s = refl
 
--- What a post has handed over and still infers is at most what its sheet infers for it.
+-- What a component has disclosed and still infers is at most what its sheet infers for it.
 pub run-counts : (sheet : Sheet) (ms : List Move) → All (λ a. passes a ≡ true) (sheetActs sheet) → (n k h : ℕ)
-    → atMost (fin (handed n k h (start sheet) ms) ⊕ disclosed k h (ofPost n (stateActs (runStates (start sheet) ms)))) (disclosed k h (ofPost n (sheetActs sheet))) ≡ true
+    → atMost (fin (disclosedBy n k h (start sheet) ms) ⊕ disclosed k h (ofComponent n (stateActs (runStates (start sheet) ms)))) (disclosed k h (ofComponent n (sheetActs sheet))) ≡ true
 run-counts sheet ms p n k h =
     let t : Took (λ a. passes a ≡ true) (start sheet) (λ w. sentBy w (start sheet) ms) (runStates (start sheet) ms)
     = took (λ a. passes a ≡ true) (λ a k. k) sheet (all-map (λ a (k : passes a ≡ true). rw (bare-passes a) k) p) ms in
     let c : atMost (fin (sentBy (disclosesAt n k h) (start sheet) ms) ⊕ stateOwed (disclosesAt n k h) (runStates (start sheet) ms)) (stateOwed (disclosesAt n k h) (start sheet)) ≡ true
     = t .cost (disclosesAt n k h) in
-    let a : disclosed k h (ofPost n (stateActs (runStates (start sheet) ms))) ≡ stateOwed (disclosesAt n k h) (runStates (start sheet) ms)
-    = post-count n k h (stateActs (runStates (start sheet) ms)) ∙ sym (owed-acts (disclosesAt n k h) (runStates (start sheet) ms)) in
-    let b : disclosed k h (ofPost n (sheetActs sheet)) ≡ stateOwed (disclosesAt n k h) (start sheet)
-    = post-count n k h (sheetActs sheet) ∙ ap (weightOf (disclosesAt n k h)) (sym (start-acts sheet)) ∙ sym (owed-acts (disclosesAt n k h) (start sheet)) in
-    rw (a, b, handed-sent n k h (start sheet) ms) c
+    let a : disclosed k h (ofComponent n (stateActs (runStates (start sheet) ms))) ≡ stateOwed (disclosesAt n k h) (runStates (start sheet) ms)
+    = component-count n k h (stateActs (runStates (start sheet) ms)) ∙ sym (owed-acts (disclosesAt n k h) (runStates (start sheet) ms)) in
+    let b : disclosed k h (ofComponent n (sheetActs sheet)) ≡ stateOwed (disclosesAt n k h) (start sheet)
+    = component-count n k h (sheetActs sheet) ∙ ap (weightOf (disclosesAt n k h)) (sym (start-acts sheet)) ∙ sym (owed-acts (disclosesAt n k h) (start sheet)) in
+    rw (a, b, disclosed-sent n k h (start sheet) ms) c
 
 without : (n : ℕ) (a b : Count) → atMost (fin n ⊕ a) b ≡ true → atMost a b ≡ true
 without n a b h =
@@ -191,13 +191,13 @@ without n a b h =
 
 -- Not beyond the start.
 pub run-not-beyond : (sheet : Sheet) (ms : List Move) → All (λ a. passes a ≡ true) (sheetActs sheet) → (n : ℕ)
-    → NotBeyond (ofPost n (stateActs (runStates (start sheet) ms))) (ofPost n (sheetActs sheet))
+    → NotBeyond (ofComponent n (stateActs (runStates (start sheet) ms))) (ofComponent n (sheetActs sheet))
 run-not-beyond sheet ms p n = record {
-  reads = λ k. post-flags sheet ms p n (isRead k);
-  writes = λ k. post-flags sheet ms p n (isWrite k);
-  accesses = λ k. post-flags sheet ms p n (isAccess k);
-  counts = λ k h. without (handed n k h (start sheet) ms) (disclosed k h (ofPost n (stateActs (runStates (start sheet) ms))))
-      (disclosed k h (ofPost n (sheetActs sheet))) (run-counts sheet ms p n k h);
+  reads = λ k. component-flags sheet ms p n (isRead k);
+  writes = λ k. component-flags sheet ms p n (isWrite k);
+  accesses = λ k. component-flags sheet ms p n (isAccess k);
+  counts = λ k h. without (disclosedBy n k h (start sheet) ms) (disclosed k h (ofComponent n (stateActs (runStates (start sheet) ms))))
+      (disclosed k h (ofComponent n (sheetActs sheet))) (run-counts sheet ms p n k h);
 }
 
 -- No finite count exceeded.

@@ -17,15 +17,15 @@ use Rattle.inference.specs.declared.Need.the-variants.{Nothing, Read, Write, Ac
 use Rattle.policy.specs.Syntax.{Tree}
 use Rattle.policy.specs.Grants.{flagGranted, countGranted}
 use Rattle.running.specs.State.{Thread, State}
-use Rattle.running.specs.Moves.{Move, copy, sendOut, receiveIn, meet, outside, Result, refuses, takes, step, stateAfter}
+use Rattle.running.specs.Moves.{Move, unfoldRepl, sendOut, receiveIn, communicate, environmentName, Result, refuses, takes, step, stateAfter}
 
 -- The types of a thread's names by level: "run names having their types".
 unfoldable pub scopeOf : List ℕ → List ℕ → List ℕ
 scopeOf types names = map (λ n. getD types n 0) names
 
--- The acts of a thread's remaining text, "binders still ahead [having] their stored [types]".
+-- The acts of a thread's remaining process, "binders still ahead [having] their stored [types]".
 unfoldable pub threadActs : List ℕ → Thread → List Act
-threadActs types t = acts (t .component) false (scopeOf types (t .names)) (t .text)
+threadActs types t = acts (t .component) false (scopeOf types (t .names)) (t .process)
 
 unfoldable pub stateActs : State → List Act
 stateActs s = gather (threadActs (s .types)) (s .threads)
@@ -38,9 +38,9 @@ passes a = (inScope a && onChannel a) && (carriesObject a && inPath a)
 unfoldable pub isTyped : State → Bool
 isTyped s = every passes (stateActs s)
 
--- What a post infers: "what its threads' remaining texts need, joined as parallel parts".
-unfoldable pub ofPost : ℕ → List Act → List Act
-ofPost n all = only (λ a. eqb (a .component .number) n) all
+-- What a component infers: "what its threads' remaining texts need, joined as parallel parts".
+unfoldable pub ofComponent : ℕ → List Act → List Act
+ofComponent n all = only (λ a. eqb (a .component .number) n) all
 
 -- "It is not beyond the start if, for each kind, every flag in it was inferred from the sheet for that post, and every count is at
 -- most the one inferred there".
@@ -62,7 +62,7 @@ nextOf (output x y p) (a ∷ rest) = some a
 nextOf (repl p) rest = none
 
 unfoldable pub nextAct : State → Thread → Option Act
-nextAct s t = nextOf (t .text) (threadActs (s .types) t)
+nextAct s t = nextOf (t .process) (threadActs (s .types) t)
 
 -- A permission that a path's grant holds: a flag, or a count of at least one.
 unfoldable pub grantsNeed : List Tree → List ℕ → Need → Bool
@@ -89,26 +89,26 @@ actAt s none = none
 actAt s (some t) = nextAct s t
 
 unfoldable pub sendOf : State → Move → Option Act
-sendOf s (copy i) = none
+sendOf s (unfoldRepl i) = none
 sendOf s (sendOut i) = actAt s (getElem? (s .threads) i)
 sendOf s (receiveIn i v) = none
-sendOf s (meet i j) = actAt s (getElem? (s .threads) i)
-sendOf s (outside t) = none
+sendOf s (communicate i j) = actAt s (getElem? (s .threads) i)
+sendOf s (environmentName t) = none
 
 unfoldable pub isTaken : Result → Bool
 isTaken (refuses n) = false
 isTaken (takes s bytes) = true
 
--- how often an act at a post discloses data of kind k into group h
-unfoldable pub handsOver : ℕ → ℕ → ℕ → Option Act → ℕ
-handsOver n k h none = 0
-handsOver n k h (some a) = cond (eqb (a .component .number) n) (disclosures k h (needOf a)) 0
+-- how often an act at a component discloses data of kind k into group h
+unfoldable pub disclosuresOfAct : ℕ → ℕ → ℕ → Option Act → ℕ
+disclosuresOfAct n k h none = 0
+disclosuresOfAct n k h (some a) = cond (eqb (a .component .number) n) (disclosures k h (needOf a)) 0
 
 -- "A post hands over a link of kind t in group G by each taken 02 or 04 whose send, at that post, needs disclose G of t."
-unfoldable pub handed : ℕ → ℕ → ℕ → State → List Move → ℕ
-handed n k h s [] = 0
-handed n k h s (m ∷ ms) =
-    cond (isTaken (step s m)) (handsOver n k h (sendOf s m)) 0 + handed n k h (stateAfter s (step s m)) ms
+unfoldable pub disclosedBy : ℕ → ℕ → ℕ → State → List Move → ℕ
+disclosedBy n k h s [] = 0
+disclosedBy n k h s (m ∷ ms) =
+    cond (isTaken (step s m)) (disclosuresOfAct n k h (sendOf s m)) 0 + disclosedBy n k h (stateAfter s (step s m)) ms
 
 -- "the links it has handed over since the start plus those it still infers are at most that count", wherever that is finite
 unfoldable pub isWithin : Count → ℕ → Count → Bool

@@ -14,11 +14,15 @@ use Rattle.running.specs.Products.{news, threadsOf}
 -- "Moves (i, j threads, one byte): 01 i copy; 02 i send outside; 03 i v receive v from outside; 04 i j meet, i sending and j
 -- receiving; 05 type: the outside makes a known name."
 pub data Move : Type 0 where
-  copy : ℕ → Move
+  -- the unfolding of a replication (document 01: a copy)
+  unfoldRepl : ℕ → Move
+  -- an output to the environment (document 01: the outside), and an input from it
   sendOut : ℕ → Move
   receiveIn : ℕ → ℕ → Move
-  meet : ℕ → ℕ → Move
-  outside : ℕ → Move
+  -- a communication (document 01: a meeting)
+  communicate : ℕ → ℕ → Move
+  -- a name made by the environment
+  environmentName : ℕ → Move
 
 -- What a move does: it is refused with a number, or taken with the state after it and its record.
 pub data Result : Type 0 where
@@ -38,12 +42,12 @@ given number (some a) f = f a
 pub record Sending : Type 0 where
   pub channel : ℕ
   pub sent : ℕ
-  pub sequel : Process
+  pub continuation : Process
 
 pub record Receiving : Type 0 where
   pub channel : ℕ
   pub bound : ℕ
-  pub sequel : Process
+  pub continuation : Process
 
 unfoldable pub runName : Thread → ℕ → ℕ
 runName t level = getD (t .names) level 65535
@@ -53,14 +57,14 @@ asSending t nil = none
 asSending t (par p q) = none
 asSending t (new u p) = none
 asSending t (input x u p) = none
-asSending t (output x y p) = some (record { channel = runName t x; sent = runName t y; sequel = p })
+asSending t (output x y p) = some (record { channel = runName t x; sent = runName t y; continuation = p })
 asSending t (repl p) = none
 
 unfoldable pub asReceiving : Thread → Process → Option Receiving
 asReceiving t nil = none
 asReceiving t (par p q) = none
 asReceiving t (new u p) = none
-asReceiving t (input x u p) = some (record { channel = runName t x; bound = u; sequel = p })
+asReceiving t (input x u p) = some (record { channel = runName t x; bound = u; continuation = p })
 asReceiving t (output x y p) = none
 asReceiving t (repl p) = none
 
@@ -72,11 +76,11 @@ asRepeat (input x u p) = none
 asRepeat (output x y p) = none
 asRepeat (repl p) = some p
 
--- 32: known outside; a name never given is not.
-unfoldable pub isKnownOutside : State → ℕ → Bool
-isKnownOutside s n = getD (s .known) n false
+-- 32: known to the environment; a name never given is not.
+unfoldable pub environmentKnows : State → ℕ → Bool
+environmentKnows s n = getD (s .known) n false
 
--- "Products stand in their thread's place": the products of a text of thread i, where `before` new names come first.
+-- "Products stand in their thread's place": the products of a process of thread i, where `before` new names come first.
 unfoldable pub made : State → ℕ → Thread → List ℕ → Process → List Thread
 made s before t names p = threadsOf (t .component) names (length (s .types) + before) p
 
@@ -86,7 +90,7 @@ singles ts = map (λ t. t ∷ []) ts
 unfoldable pub join : List (List Thread) → List Thread
 join ts = gather (λ l. l) ts
 
--- the state with threads in place of others and new names that are not known outside
+-- the state with threads in place of others and new names that are not known to the environment
 unfoldable pub after : State → List (List Thread) → List ℕ → State
 after s threads types = record {
   threads = join threads;
@@ -112,54 +116,54 @@ unfoldable pub taken : State → List ℕ → Result
 taken s bytes = guard 35 (hasRoom s) (takes s bytes)
 
 -- 01: "the repeated process's products go before the repeat".
-unfoldable pub copyStep : State → ℕ → Result
-copyStep s i =
-    given 30 (getElem? (s .threads) i) (λ t. given 31 (asRepeat (t .text)) (λ p.
+unfoldable pub unfoldStep : State → ℕ → Result
+unfoldStep s i =
+    given 30 (getElem? (s .threads) i) (λ t. given 31 (asRepeat (t .process)) (λ p.
     taken (after s (set (singles (s .threads)) i (made s 0 t (t .names) p ++ (t ∷ []))) (news p))
     (recordOf 6 65535 65535 (t .component .number) 255)))
 
 -- 02: "send outside, the name sent becoming known"; label 3, or 4 for a name not known before.
 unfoldable pub sendStep : State → ℕ → Result
 sendStep s i =
-    given 30 (getElem? (s .threads) i) (λ t. given 31 (asSending t (t .text)) (λ a.
-    guard 32 (isKnownOutside s (a .channel))
-    (taken (nowKnown (a .sent) (after s (set (singles (s .threads)) i (made s 0 t (t .names) (a .sequel))) (news (a .sequel))))
-    (recordOf (cond (isKnownOutside s (a .sent)) 3 4) (a .channel) (a .sent) (t .component .number) 255))))
+    given 30 (getElem? (s .threads) i) (λ t. given 31 (asSending t (t .process)) (λ a.
+    guard 32 (environmentKnows s (a .channel))
+    (taken (nowKnown (a .sent) (after s (set (singles (s .threads)) i (made s 0 t (t .names) (a .continuation))) (news (a .continuation))))
+    (recordOf (cond (environmentKnows s (a .sent)) 3 4) (a .channel) (a .sent) (t .component .number) 255))))
 
 -- 03: "receive v from outside"; label 2.
 unfoldable pub receiveStep : State → ℕ → ℕ → Result
 receiveStep s i v =
-    given 30 (getElem? (s .threads) i) (λ t. given 31 (asReceiving t (t .text)) (λ a.
-    guard 32 (isKnownOutside s (a .channel) && isKnownOutside s v)
+    given 30 (getElem? (s .threads) i) (λ t. given 31 (asReceiving t (t .process)) (λ a.
+    guard 32 (environmentKnows s (a .channel) && environmentKnows s v)
     (guard 33 (eqb (getD (s .types) v 0) (a .bound))
-    (taken (after s (set (singles (s .threads)) i (made s 0 t (t .names ++ (v ∷ [])) (a .sequel))) (news (a .sequel)))
+    (taken (after s (set (singles (s .threads)) i (made s 0 t (t .names ++ (v ∷ [])) (a .continuation))) (news (a .continuation)))
     (recordOf 2 (a .channel) v (t .component .number) 255)))))
 
 -- 04: "meet, i sending and j receiving"; label 1. "in a meeting the sender's new names come first".
-unfoldable pub meetStep : State → ℕ → ℕ → Result
-meetStep s i j =
+unfoldable pub communicateStep : State → ℕ → ℕ → Result
+communicateStep s i j =
     given 30 (getElem? (s .threads) i) (λ t. given 30 (getElem? (s .threads) j) (λ u.
-    given 31 (asSending t (t .text)) (λ a. given 31 (asReceiving u (u .text)) (λ b.
+    given 31 (asSending t (t .process)) (λ a. given 31 (asReceiving u (u .process)) (λ b.
     guard 34 (eqb (a .channel) (b .channel))
     (taken
     (after s
-    (set (set (singles (s .threads)) i (made s 0 t (t .names) (a .sequel))) j
-    (made s (length (news (a .sequel))) u (u .names ++ (a .sent ∷ [])) (b .sequel)))
-    (news (a .sequel) ++ news (b .sequel)))
+    (set (set (singles (s .threads)) i (made s 0 t (t .names) (a .continuation))) j
+    (made s (length (news (a .continuation))) u (u .names ++ (a .sent ∷ [])) (b .continuation)))
+    (news (a .continuation) ++ news (b .continuation)))
     (recordOf 1 (a .channel) (a .sent) (t .component .number) (u .component .number)))))))
 
 -- 05: "the outside makes a known name"; label 5.
-unfoldable pub outsideStep : State → ℕ → Result
-outsideStep s t =
+unfoldable pub environmentStep : State → ℕ → Result
+environmentStep s t =
     taken (nowKnown (length (s .types)) (after s (singles (s .threads)) (t ∷ [])))
     (recordOf 5 65535 (length (s .types)) 255 255)
 
 unfoldable pub step : State → Move → Result
-step s (copy i) = copyStep s i
+step s (unfoldRepl i) = unfoldStep s i
 step s (sendOut i) = sendStep s i
 step s (receiveIn i v) = receiveStep s i v
-step s (meet i j) = meetStep s i j
-step s (outside t) = outsideStep s t
+step s (communicate i j) = communicateStep s i j
+step s (environmentName t) = environmentStep s t
 
 -- "A refused move changes nothing and play goes on." "A refused move: its number, seven zeros."
 unfoldable pub stateAfter : State → Result → State

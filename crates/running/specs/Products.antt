@@ -1,4 +1,4 @@
--- What a text makes at once: "Nothing-forms vanish, parallel forms split in order, new names take the next unused number and are
+-- What a process makes at once: "Nothing-forms vanish, parallel forms split in order, new names take the next unused number and are
 -- never given again. A thread is a receive, send or repeat."
 use Prim.Native.Nat.{ℕ, _+_}
 use mathlib.Core.List.{List, [], _∷_, _++_}
@@ -23,9 +23,9 @@ unfoldable pub threadsOf : Component → List ℕ → ℕ → Process → List T
 threadsOf c names next nil = []
 threadsOf c names next (par p q) = threadsOf c names next p ++ threadsOf c names (next + length (news p)) q
 threadsOf c names next (new t p) = threadsOf c (names ++ (next ∷ [])) (next + 1) p
-threadsOf c names next (input x t p) = record { component = c; names = names; text = input x t p } ∷ []
-threadsOf c names next (output x y p) = record { component = c; names = names; text = output x y p } ∷ []
-threadsOf c names next (repl p) = record { component = c; names = names; text = repl p } ∷ []
+threadsOf c names next (input x t p) = record { component = c; names = names; process = input x t p } ∷ []
+threadsOf c names next (output x y p) = record { component = c; names = names; process = output x y p } ∷ []
+threadsOf c names next (repl p) = record { component = c; names = names; process = repl p } ∷ []
 
 -- the same of a system, in sheet order; `number` is that of its first component
 unfoldable pub systemNews : System → List ℕ

@@ -7,16 +7,16 @@ use lib.Dec.{ltb, eqb}
 use Rattle.reading.specs.Read.{Read, got, refused, andThen, byteAt}
 use Rattle.reading.specs.Types.{typeAt}
 use Rattle.policy.specs.Reading.{twoBytes}
-use Rattle.running.specs.Moves.{Move, copy, sendOut, receiveIn, meet, outside}
+use Rattle.running.specs.Moves.{Move, unfoldRepl, sendOut, receiveIn, communicate, environmentName}
 
 -- The move with a code; i, j and v have no range.
 unfoldable pub moveFrom : List ℕ → ℕ → ℕ → Read Move
 moveFrom s at code =
-    cond (eqb code 1) (andThen (byteAt s at) (λ i m. got (copy i) m))
+    cond (eqb code 1) (andThen (byteAt s at) (λ i m. got (unfoldRepl i) m))
     (cond (eqb code 2) (andThen (byteAt s at) (λ i m. got (sendOut i) m))
     (cond (eqb code 3) (andThen (byteAt s at) (λ i m. andThen (twoBytes s m) (λ v k. got (receiveIn i v) k)))
-    (cond (eqb code 4) (andThen (byteAt s at) (λ i m. andThen (byteAt s m) (λ j k. got (meet i j) k)))
-    (cond (eqb code 5) (andThen (typeAt s at) (λ t m. got (outside t) m))
+    (cond (eqb code 4) (andThen (byteAt s at) (λ i m. andThen (byteAt s m) (λ j k. got (communicate i j) k)))
+    (cond (eqb code 5) (andThen (typeAt s at) (λ t m. got (environmentName t) m))
     (refused 4 at)))))
 
 unfoldable pub moveAt : List ℕ → ℕ → Read Move

@@ -7,11 +7,11 @@ use Rattle.reading.specs.Syntax.{Process}
 use Rattle.inference.specs.Acts.{Component}
 
 -- "Each thread has its post and its remaining text: the form it stands at and all after it, run names put in for the binders
--- already passed." The run names stand beside the text, by level.
+-- already passed." `process` is the remaining text, and the run names stand beside it, by level.
 pub record Thread : Type 0 where
   pub component : Component
   pub names : List ℕ
-  pub text : Process
+  pub process : Process
 
 pub record State : Type 0 where
   pub threads : List Thread

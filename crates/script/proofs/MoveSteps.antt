@@ -11,7 +11,7 @@ use Rattle.reading.specs.declared.NumberRead.{NumberRead}
 use Rattle.reading.specs.declared.NumberRead.the-variants as number-read
 use Rattle.running.specs.Moves.{Move}
 use Rattle.running.specs.Script.{moveFrom}
-use Rattle.script.specs.Fields.{copyAt, sendAt, receiptAt, meetingAt, outsideAt}
+use Rattle.script.specs.Fields.{unfoldAt, sendAt, receiptAt, communicationAt, environmentNameAt}
 use Rattle.script.specs.Told.{moveRead}
 use Rattle.script.specs.declared.MoveRead.{MoveRead}
 use Rattle.script.specs.declared.MoveRead.the-variants as move-read
@@ -24,9 +24,9 @@ stops-move r n x f q e h p = rw (← p, e, h)
 pub ruleset field-steps = (steps, stops-move)
 
 module _ (s : List ℕ) (at code : ℕ) {y : Read Move} where
-  pub code-copy : code ≡ 1 → y ≡ copyAt s at → y ≡ moveFrom s at code
-  unfolding moveFrom copyAt
-  code-copy e h = rw e h
+  pub code-unfold : code ≡ 1 → y ≡ unfoldAt s at → y ≡ moveFrom s at code
+  unfolding moveFrom unfoldAt
+  code-unfold e h = rw e h
 
   pub code-send : code ≡ 2 → y ≡ sendAt s at → y ≡ moveFrom s at code
   unfolding moveFrom sendAt
@@ -36,17 +36,17 @@ module _ (s : List ℕ) (at code : ℕ) {y : Read Move} where
   unfolding moveFrom receiptAt
   code-receipt e h = rw e h
 
-  pub code-meeting : code ≡ 4 → y ≡ meetingAt s at → y ≡ moveFrom s at code
-  unfolding moveFrom meetingAt
-  code-meeting e h = rw e h
+  pub code-communication : code ≡ 4 → y ≡ communicationAt s at → y ≡ moveFrom s at code
+  unfolding moveFrom communicationAt
+  code-communication e h = rw e h
 
-  pub code-outside : code ≡ 5 → y ≡ outsideAt s at → y ≡ moveFrom s at code
-  unfolding moveFrom outsideAt
-  code-outside e h = rw e h
+  pub code-environment : code ≡ 5 → y ≡ environmentNameAt s at → y ≡ moveFrom s at code
+  unfolding moveFrom environmentNameAt
+  code-environment e h = rw e h
 
   pub code-other : (code ≡ 1 → ⊥) → (code ≡ 2 → ⊥) → (code ≡ 3 → ⊥) → (code ≡ 4 → ⊥) → (code ≡ 5 → ⊥) → y ≡ refused 4 at
       → y ≡ moveFrom s at code
   unfolding moveFrom
   code-other a b c d e h = rw (ne-eqb code 1 a, ne-eqb code 2 b, ne-eqb code 3 c, ne-eqb code 4 d, ne-eqb code 5 e) h
 
-pub ruleset move-steps = (field-steps, code-copy, code-send, code-receipt, code-meeting, code-outside, code-other)
+pub ruleset move-steps = (field-steps, code-unfold, code-send, code-receipt, code-communication, code-environment, code-other)

@@ -4,10 +4,10 @@ use mathlib.Core.List.{List}
 use Rattle.reading.specs.Read.{Read, got, andThen, byteAt}
 use Rattle.reading.specs.Types.{typeAt}
 use Rattle.policy.specs.Reading.{twoBytes}
-use Rattle.running.specs.Moves.{Move, copy, sendOut, receiveIn, meet, outside}
+use Rattle.running.specs.Moves.{Move, unfoldRepl, sendOut, receiveIn, communicate, environmentName}
 
-unfoldable pub copyAt : List ℕ → ℕ → Read Move
-copyAt s at = andThen (byteAt s at) (λ i m. got (copy i) m)
+unfoldable pub unfoldAt : List ℕ → ℕ → Read Move
+unfoldAt s at = andThen (byteAt s at) (λ i m. got (unfoldRepl i) m)
 
 unfoldable pub sendAt : List ℕ → ℕ → Read Move
 sendAt s at = andThen (byteAt s at) (λ i m. got (sendOut i) m)
@@ -15,8 +15,8 @@ sendAt s at = andThen (byteAt s at) (λ i m. got (sendOut i) m)
 unfoldable pub receiptAt : List ℕ → ℕ → Read Move
 receiptAt s at = andThen (byteAt s at) (λ i m. andThen (twoBytes s m) (λ v k. got (receiveIn i v) k))
 
-unfoldable pub meetingAt : List ℕ → ℕ → Read Move
-meetingAt s at = andThen (byteAt s at) (λ i m. andThen (byteAt s m) (λ j k. got (meet i j) k))
+unfoldable pub communicationAt : List ℕ → ℕ → Read Move
+communicationAt s at = andThen (byteAt s at) (λ i m. andThen (byteAt s m) (λ j k. got (communicate i j) k))
 
-unfoldable pub outsideAt : List ℕ → ℕ → Read Move
-outsideAt s at = andThen (typeAt s at) (λ t m. got (outside t) m)
+unfoldable pub environmentNameAt : List ℕ → ℕ → Read Move
+environmentNameAt s at = andThen (typeAt s at) (λ t m. got (environmentName t) m)

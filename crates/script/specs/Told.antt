@@ -3,7 +3,7 @@ use Prim.Native.Nat.{ℕ, _+_, _%_}
 use mathlib.Core.List.{List, [], _∷_, _++_}
 use lib.ListN.{length, set}
 use Rattle.reading.specs.Read.{Read, got, refused}
-use Rattle.running.specs.Moves.{Move as Transition, copy, sendOut, receiveIn, meet, outside, word}
+use Rattle.running.specs.Moves.{Move as Transition, unfoldRepl, sendOut, receiveIn, communicate, environmentName, word}
 use Rattle.script.specs.declared.Move.{Move}
 use Rattle.script.specs.declared.Move.the-variants as move
 use Rattle.script.specs.declared.MoveRead.{MoveRead}
@@ -11,11 +11,11 @@ use Rattle.script.specs.declared.MoveRead.the-variants as move-read
 use Rattle.script.specs.declared.Record.{Record}
 
 unfoldable pub moveOf : Move → Transition
-moveOf (move.Copy i) = copy i
+moveOf (move.Unfold i) = unfoldRepl i
 moveOf (move.SendOut i) = sendOut i
 moveOf (move.ReceiveIn r) = receiveIn (r .thread) (r .name)
-moveOf (move.Meet m) = meet (m .sender) (m .receiver)
-moveOf (move.Outside t) = outside t
+moveOf (move.Communicate m) = communicate (m .sender) (m .receiver)
+moveOf (move.EnvironmentName t) = environmentName t
 
 abbrev pub moveRead : MoveRead → Read Transition
 moveRead (move-read.Found p) = got (moveOf (p .step)) (p .next)

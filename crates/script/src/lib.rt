@@ -5,25 +5,25 @@ pub mod records;
 
 use reading::Refusal;
 
-// A name that a thread is to receive from outside.
+// A name that a thread is to receive from the environment.
 pub struct Receipt {
     pub thread: usize,
     pub name: usize,
 }
 
-// Two threads that are to meet.
-pub struct Meeting {
+// Two threads that are to communicate (document 01: to meet).
+pub struct Communication {
     pub sender: usize,
     pub receiver: usize,
 }
 
-// The moves: a thread's copy, a send outside, a receive from outside, a meeting, and a name of a type made by the outside.
+// The moves: the unfolding of a replication, a send to the environment, a receive from the environment, a communication, and a name of a type made by the environment.
 pub enum Move {
-    Copy(usize),
+    Unfold(usize),
     SendOut(usize),
     ReceiveIn(Receipt),
-    Meet(Meeting),
-    Outside(usize),
+    Communicate(Communication),
+    EnvironmentName(usize),
 }
 
 // What stands at a place of a script: a move with its fields, and the place after it.

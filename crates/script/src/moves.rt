@@ -3,9 +3,9 @@ ghost use mathlib.Core.Path.{_≡_};
 ghost use Rattle.reading.specs.Read.{refused};
 ghost use Rattle.reading.specs.Told.{number, refusalOf};
 ghost use Rattle.running.specs.Script.{moveAt, readScript};
-ghost use Rattle.script.specs.Fields.{copyAt, sendAt, receiptAt, meetingAt, outsideAt};
+ghost use Rattle.script.specs.Fields.{unfoldAt, sendAt, receiptAt, communicationAt, environmentNameAt};
 ghost use Rattle.script.specs.Told.{moveRead, placeOf, countedMoves};
-use crate::Meeting;
+use crate::Communication;
 use crate::Move;
 use crate::MovePlace;
 use crate::MoveRead;
@@ -31,21 +31,21 @@ fn no_move(at: usize) -> MoveRead
     MoveRead::Refused(Refusal { question: 4, at })
 }
 
-// A copy: the thread.
-fn copy_at(s: &[u8], at: usize) -> MoveRead
-    ensures { λ r. ⌜ moveRead r ≡ copyAt (now (s .entry)) at ⌝ }
+// An unfolding: the thread.
+fn unfold_at(s: &[u8], at: usize) -> MoveRead
+    ensures { λ r. ⌜ moveRead r ≡ unfoldAt (now (s .entry)) at ⌝ }
 {
     let read = byte_at(s, at);
     let NumberRead::Found(thread) = read else {
         return not_read(read);
     };
     MoveRead::Found(MovePlace {
-        step: Move::Copy(thread.value),
+        step: Move::Unfold(thread.value),
         next: thread.next,
     })
 }
 
-// A send outside: the thread.
+// A send to the environment: the thread.
 fn send_at(s: &[u8], at: usize) -> MoveRead
     ensures { λ r. ⌜ moveRead r ≡ sendAt (now (s .entry)) at ⌝ }
 {
@@ -59,7 +59,7 @@ fn send_at(s: &[u8], at: usize) -> MoveRead
     })
 }
 
-// A receive from outside: the thread, then the name.
+// A receive from the environment: the thread, then the name.
 fn receipt_at(s: &[u8], at: usize) -> MoveRead
     ensures { λ r. ⌜ moveRead r ≡ receiptAt (now (s .entry)) at ⌝ }
 {
@@ -81,9 +81,9 @@ fn receipt_at(s: &[u8], at: usize) -> MoveRead
     })
 }
 
-// A meeting: the thread that sends, then the one that receives.
-fn meeting_at(s: &[u8], at: usize) -> MoveRead
-    ensures { λ r. ⌜ moveRead r ≡ meetingAt (now (s .entry)) at ⌝ }
+// A communication: the thread that sends, then the one that receives.
+fn communication_at(s: &[u8], at: usize) -> MoveRead
+    ensures { λ r. ⌜ moveRead r ≡ communicationAt (now (s .entry)) at ⌝ }
 {
     let first = byte_at(s, at);
     let NumberRead::Found(sender) = first else {
@@ -93,26 +93,26 @@ fn meeting_at(s: &[u8], at: usize) -> MoveRead
     let NumberRead::Found(receiver) = second else {
         return not_read(second);
     };
-    let meeting = Meeting {
+    let communication = Communication {
         sender: sender.value,
         receiver: receiver.value,
     };
     MoveRead::Found(MovePlace {
-        step: Move::Meet(meeting),
+        step: Move::Communicate(communication),
         next: receiver.next,
     })
 }
 
-// A name that the outside makes: its type.
-fn outside_at(s: &[u8], at: usize) -> MoveRead
-    ensures { λ r. ⌜ moveRead r ≡ outsideAt (now (s .entry)) at ⌝ }
+// A name that the environment makes: its type.
+fn environment_name_at(s: &[u8], at: usize) -> MoveRead
+    ensures { λ r. ⌜ moveRead r ≡ environmentNameAt (now (s .entry)) at ⌝ }
 {
     let read = type_at(s, at);
     let NumberRead::Found(t) = read else {
         return not_read(read);
     };
     MoveRead::Found(MovePlace {
-        step: Move::Outside(t.value),
+        step: Move::EnvironmentName(t.value),
         next: t.next,
     })
 }
@@ -128,11 +128,11 @@ pub fn move_at(s: &[u8], at: usize) -> MoveRead
     let next = byte.next;
     let code = byte.value;
     match code {
-        1 => copy_at(s, next),
+        1 => unfold_at(s, next),
         2 => send_at(s, next),
         3 => receipt_at(s, next),
-        4 => meeting_at(s, next),
-        5 => outside_at(s, next),
+        4 => communication_at(s, next),
+        5 => environment_name_at(s, next),
         _ => no_move(next),
     }
 }

@@ -10,7 +10,7 @@ use Rattle.service.specs.Told.{told, Checked}
 use Rattle.service.specs.declared.Answer.{Answer}
 use Rattle.service.specs.declared.Answer.the-variants as answer-case
 use Rattle.running.specs.Play.{played}
-use Rattle.playing.specs.Told.{Played}
+use Rattle.execution.specs.Told.{Played}
 use Rattle.velimhaw.specs.Codes.{codeOf, CheckedAs, PlayedAs}
 
 module _ (a : Answer) (n : ℕ) where

@@ -4,7 +4,7 @@
 ghost use mathlib.Core.Path.{_≡_};
 ghost use Rattle.service.specs.Told.{told};
 ghost use Rattle.velimhaw.specs.Codes.{codeOf, CheckedAs, PlayedAs};
-use playing::play;
+use execution::play;
 use service::Answer;
 use service::checking::check;
 

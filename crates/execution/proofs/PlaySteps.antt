@@ -1,0 +1,212 @@
+-- What each return of the service has to show, over plain values: questions 1 to 18, 20, 21 and 22 in order, and the run.
+use Prim.Native.Nat.{ℕ, zero, suc, _*_, _/_, _<_, _≤_}
+use mathlib.Core.Bool.{Bool, true, false, _&&_}
+use mathlib.Core.List.{List}
+use mathlib.Core.Path.{_≡_, refl, sym, ap, _∙_}
+use native.Mathlib.Omega.{arith}
+use borrow.Author.Needs.{needs}
+use borrow.Author.Tests.{le-leb, lt-leb}
+use lib.Dec.{leb}
+use lib.ListN.{length, getD, replicate, length-replicate}
+use Rattle.reading.proofs.Parts.{never}
+use Rattle.reading.specs.Read.{Read, got, refused}
+use Rattle.reading.specs.Syntax.{Sheet}
+use Rattle.reading.specs.System.{readSheet}
+use Rattle.reading.specs.Told.{number}
+use Rattle.reading.specs.declared.Number.{Number}
+use Rattle.reading.specs.declared.NumberRead.{NumberRead}
+use Rattle.reading.specs.declared.NumberRead.the-variants as number-read
+use Rattle.reading.specs.declared.Refusal.{Refusal}
+use Rattle.reading.proofs.TreeLaws.{sheet-parts}
+use Rattle.service.specs.Questions.{passed, failed, ask, afterReading, judged}
+use Rattle.service.specs.Told.{firstFailed}
+use Rattle.service.specs.declared.Answer.{Answer}
+use Rattle.service.specs.declared.Answer.the-variants as answer-case
+use Rattle.service.proofs.JudgeSteps.{sheet-reads}
+use Rattle.service.proofs.FirstLaws.{Passed, first-passes, first-fails}
+use Rattle.running.specs.State.{State}
+use Rattle.running.specs.Products.{start}
+use Rattle.running.specs.Moves.{Move, hasRoom, runLog}
+use Rattle.running.specs.Script.{asTwentyOne, readScript}
+use Rattle.running.specs.Play.{openedFrom, opened, logged, outcomeOf, played}
+use Rattle.script.specs.Told.{countedMoves}
+use Rattle.script.proofs.ScriptLaws.{script-moves, script-few}
+use Rattle.script.proofs.CountSteps.{Counted, script-counted, script-refused}
+use Rattle.products.specs.Held.{Holds}
+use Rattle.products.specs.Starts.{Blank, Starts}
+use Rattle.products.specs.declared.Sizes.{Sizes}
+use Rattle.execution.specs.Told.{Played}
+use Rattle.execution.specs.Begins.{Reads, begun, startOf, listed, movesOf, ranOver, scripted, playedScript, playedFrom, Comes, Lent}
+use Rattle.execution.specs.Runs.{Going}
+
+-- Question 21.
+twenty-one : (r : Read (List Move)) {q p : ℕ} → asTwentyOne r ≡ refused q p → q ≡ 21
+unfolding asTwentyOne
+twenty-one (got ms e) h = never (sym h)
+twenty-one (refused a b) {q} {p} h = let e : 21 ≡ q = cc in sym e
+
+script-question : (script : List ℕ) {q p : ℕ} → readScript script ≡ refused q p → q ≡ 21
+unfolding readScript
+script-question script h = twenty-one _ h
+
+moves-are : (script : List ℕ) {ms : List Move} {e : ℕ} → readScript script ≡ got ms e → movesOf script ≡ ms
+unfolding movesOf listed
+moves-are script h = rw h
+
+module _ (begin : State) (script log : List ℕ) where
+  pub script-fails : (r : NumberRead) (q : Refusal) → r ≡ number-read.Refused q → number r ≡ countedMoves (readScript script)
+      → Comes (playedScript begin script log) log (answer-case.Refused 21)
+  unfolding playedScript scripted logged outcomeOf afterReading
+  script-fails r q e h =
+      let f = script-refused script (ap number (sym e) ∙ h) in
+      let k : q .question ≡ 21 = script-question script f in
+      record { answer = rw (f, k); lent = rw f }
+
+  module _ (r : NumberRead) (n : Number) (e : r ≡ number-read.Found n) (h : number r ≡ countedMoves (readScript script)) where
+    counted : Counted script (n .value) (n .next)
+    counted = script-counted script (ap number (sym e) ∙ h)
+
+    -- Question 22.
+    pub log-short : length log / 8 < n .value → Comes (playedScript begin script log) log (answer-case.Refused 22)
+    unfolding playedScript scripted logged outcomeOf afterReading ask
+    log-short k =
+        let c = counted in
+        let t : leb (8 * length (c .moves)) (length log) ≡ false = lt-leb (8 * length (c .moves)) (length log) (omega (arith, c .count)) in
+        record { answer = rw (c .is, t); lent = rw (c .is, t) }
+
+    -- The run.
+    pub log-written : (log′ : List ℕ) → n .value ≤ length log / 8 → log′ ≡ ranOver (runLog begin (movesOf script)) log
+        → Comes (playedScript begin script log) log′ (answer-case.Accepted (n .value))
+    unfolding playedScript scripted logged outcomeOf afterReading ask ranOver
+    log-written log′ k w =
+        let c = counted in
+        let t : leb (8 * length (c .moves)) (length log) ≡ true = le-leb (8 * length (c .moves)) (length log) (omega (arith, c .count)) in
+        record { answer = rw (c .is, t) (ap passed (sym (c .count))); lent = rw (c .is, t) (rw (moves-are script (c .is)) at w) }
+
+pub run-begins : (s script log threads types : List ℕ) (known : List Bool) (cells : List ℕ) (z : Sizes) (r : NumberRead) (n : Number)
+    → Holds s z 1 threads types known cells (startOf s) → r ≡ number-read.Found n → number r ≡ countedMoves (readScript script)
+    → n .value ≤ length log / 8
+    → Going s script (runLog (startOf s) (movesOf script)) (n .value) (record { at = 0; done = 0; sizes = z }) log threads types known cells
+run-begins s script log threads types known cells z r n holds e h k =
+    let c = counted (startOf s) script log r n e h in
+    let same = moves-are script (c .is) in
+    let read = script-moves script (c .is) in
+    record {
+      state = startOf s;
+      rest = movesOf script;
+      end = n .next;
+      holds = holds;
+      reads = rw same read;
+      whole = refl;
+      all = omega (arith, ap length same, c .count);
+      most = omega (arith, c .count, script-few script read);
+      room = omega arith;
+    }
+
+pub ruleset script-steps = (needs, script-fails, log-short, log-written, run-begins)
+
+-- Question 20.
+module _ (s script log : List ℕ) (reads : Reads s) (threads types : List ℕ) (known : List Bool) (cells : List ℕ) (z : Sizes)
+    (starts : (sheet : Sheet) (end : ℕ) → length s ≤ 4096 → readSheet s ≡ got sheet end → Starts s sheet threads types known cells z) where
+  here : Starts s (reads .tree) threads types known cells z
+  here = starts (reads .tree) (reads .end) (reads .short) (reads .reads)
+
+  begins : startOf s ≡ start (reads .tree)
+  unfolding startOf begun
+  begins = rw (reads .reads)
+
+  both : (a b : Bool) → b ≡ false → (a && b) ≡ false
+  both true b h = h
+  both false b h = refl
+
+  no-room : hasRoom (startOf s) ≡ false → Comes (playedFrom (startOf s) script log) log (answer-case.Refused 20)
+  unfolding playedFrom logged outcomeOf ask
+  no-room h = record { answer = rw h; lent = rw h }
+
+  pub crowded : 64 < z .threads → Comes (playedFrom (startOf s) script log) log (answer-case.Refused 20)
+  unfolding hasRoom
+  crowded h = no-room (rw (begins, lt-leb (length (start (reads .tree) .threads)) 64 (omega (arith, here .crowded))))
+
+  pub overnamed : 1024 < z .names → Comes (playedFrom (startOf s) script log) log (answer-case.Refused 20)
+  unfolding hasRoom
+  overnamed h =
+      let t = lt-leb (length (start (reads .tree) .types)) 1024 (omega (arith, here .named)) in
+      no-room (rw begins (both (leb (length (start (reads .tree) .threads)) 64) (leb (length (start (reads .tree) .types)) 1024) t))
+
+  pub start-holds : z .threads ≤ 64 → z .names ≤ 1024 → Holds s z 1 threads types known cells (startOf s)
+  start-holds h k = rw begins (here .holds h k)
+
+  pub plays-on : z .threads ≤ 64 → z .names ≤ 1024 → (log′ : List ℕ) (r : Answer) → Comes (playedScript (startOf s) script log) log′ r
+      → Comes (playedFrom (startOf s) script log) log′ r
+  unfolding playedFrom playedScript ask hasRoom
+  plays-on h k log′ r c =
+      let t : hasRoom (startOf s) ≡ true =
+      rw (
+        begins,
+        le-leb (length (start (reads .tree) .threads)) 64 (omega (arith, here .crowded)),
+        le-leb (length (start (reads .tree) .types)) 1024 (omega (arith, here .named)),
+      ) in
+      rw t c
+
+pub tables-from : (threads made types : List ℕ) (known : List Bool) (cells threads′ made′ types′ : List ℕ) (known′ : List Bool) (cells′ : List ℕ)
+    → Blank threads types known cells → length made ≡ 128 → length threads′ ≡ length threads → length made′ ≡ length made
+    → length types′ ≡ length types → length known′ ≡ length known → length cells′ ≡ length cells → Lent threads′ made′ types′ known′ cells′
+tables-from threads made types known cells threads′ made′ types′ known′ cells′ b m th ma ty k ce = record {
+  thread-room = th ∙ b .thread-room;
+  made-room = ma ∙ m;
+  type-room = ty ∙ b .type-room;
+  cell-room = ce ∙ b .cell-room;
+  known-room = k ∙ b .known-room;
+}
+
+pub ruleset start-steps = (needs, crowded, overnamed, start-holds, plays-on, tables-from)
+
+-- New tables.
+all-false : (n i : ℕ) → getD (replicate n false) i false ≡ false
+all-false zero i = refl
+all-false (suc n) zero = refl
+all-false (suc n) (suc i) = all-false n i
+
+pub new-tables : Blank (replicate 128 0) (replicate 1024 0) (replicate 1024 false) (replicate 2304 0)
+new-tables = record {
+  thread-room = length-replicate {A = ℕ} 128 0;
+  type-room = length-replicate {A = ℕ} 1024 0;
+  known-room = length-replicate {A = Bool} 1024 false;
+  cell-room = length-replicate {A = ℕ} 2304 0;
+  unknown = all-false 1024;
+}
+
+-- Questions 1 to 18.
+module _ (s c : List ℕ) (n : ℕ) (first : n ≡ firstFailed (judged s c)) where
+  pub refuses : (script log : List ℕ) → n < 19 → Played s c script log log (answer-case.Refused n)
+  unfolding played opened openedFrom logged outcomeOf
+  refuses script log h =
+      let e : judged s c ≡ failed n = first-fails s c (omega (arith, first)) ∙ ap failed (sym first) in
+      record { answer = rw e; lent = rw e }
+
+  module _ (h : 19 ≤ n) where
+    accepted : Passed s c
+    accepted = first-passes s c (omega (arith, first))
+
+    read-so : readSheet s ≡ got (accepted .accepted .sheet) (accepted .end)
+    read-so = sheet-reads s c (accepted .accepted .sheet) (accepted .end) (accepted .reads)
+
+    pub accepted-reads : Reads s
+    accepted-reads = record {
+      short = sheet-parts s c (accepted .reads) .short;
+      tree = accepted .accepted .sheet;
+      end = accepted .end;
+      reads = read-so;
+    }
+
+    starts-so : startOf s ≡ start (accepted .accepted .sheet)
+    unfolding startOf begun
+    starts-so = rw read-so
+
+    pub plays : (script log log′ : List ℕ) (r : Answer) → Comes (playedFrom (startOf s) script log) log′ r → Played s c script log log′ r
+    unfolding played opened openedFrom playedFrom scripted
+    plays script log log′ r d =
+        let w = rw starts-so at d in
+        record { answer = rw (accepted .passes) (w .answer); lent = rw (accepted .passes) (w .lent) }
+
+pub ruleset play-steps = (needs, refuses, accepted-reads, plays)

@@ -1,0 +1,157 @@
+-- A run, move by move, over plain values: the next move can be read, its step and its record keep what the run's log is, and after
+-- the last move the log is whole.
+use Prim.Native.Nat.{ℕ, _+_, _-_, _*_, _<_, _≤_}
+use mathlib.Core.Bool.{Bool}
+use mathlib.Core.List.{List, [], _∷_, _++_, append-assoc, append-nil}
+use mathlib.Core.Path.{_≡_, refl, sym, ap, _∙_}
+use native.Mathlib.Decide.{ℕ-discrete}
+use native.Mathlib.Omega.{arith}
+use borrow.Author.Needs.{needs}
+use lib.ListN.{length, take, drop, take-append-drop}
+use lib.Seq.{length-take-le}
+use Rattle.reading.proofs.Parts.{never}
+use Rattle.reading.specs.Read.{got}
+use Rattle.reading.specs.declared.Refusal.{Refusal}
+use Rattle.running.specs.State.{State}
+use Rattle.running.specs.Moves.{Move, step, stateAfter, recordBytes, runLog}
+use Rattle.running.specs.Script.{moveAt, movesFrom}
+use Rattle.script.specs.Told.{moveOf, moveRead, bytesOf}
+use Rattle.script.specs.declared.MovePlace.{MovePlace}
+use Rattle.script.specs.declared.MoveRead.{MoveRead}
+use Rattle.script.specs.declared.MoveRead.the-variants as move-read
+use Rattle.script.proofs.ScriptLaws.{More, more-moves, no-more}
+use Rattle.transitions.specs.Steps.{Stepped}
+use Rattle.transitions.specs.declared.Moved.{Moved}
+use Rattle.execution.specs.Begins.{Lent, ranOver}
+use Rattle.execution.specs.Runs.{Going, Turned}
+use Rattle.execution.specs.declared.Point.{Point}
+use Rattle.execution.proofs.LogLaws.{eight-bytes, logged-more, log-length, past-kept}
+
+-- The log of a run, cut after its first move.
+run-cut : (state : State) (m : Move) (ms : List Move) (done bytes : List ℕ) → bytes ≡ recordBytes (step state m)
+    → (done ++ bytes) ++ runLog (stateAfter state (step state m)) ms ≡ done ++ runLog state (m ∷ ms)
+unfolding runLog
+run-cut state m ms done bytes e = rw (append-assoc done bytes (runLog (stateAfter state (step state m)) ms), e)
+
+-- The step that a move of a run makes.
+abbrev Steps : List ℕ → List ℕ → List ℕ → List Bool → List ℕ → Point → MovePlace → List ℕ → List ℕ → List Bool → List ℕ → Moved → Type 0
+Steps s threads types known cells p f threads′ types′ known′ cells′ r =
+    Stepped s (p .sizes) threads types known cells threads′ types′ known′ cells′ (λ state. step state (moveOf (f .step))) r
+
+module _ (s script run : List ℕ) (count : ℕ) (p : Point) (log threads types : List ℕ) (known : List Bool) (cells : List ℕ)
+    (g : Going s script run count p log threads types known cells) where
+  pub record-room : p .done < count → p .done * 8 + 8 ≤ length log
+  record-room h = omega (arith, g .room)
+
+  pub few-threads : p .sizes .threads ≤ 64
+  few-threads = g .holds .few
+
+  -- There is a next move while not all are made.
+  next-there : p .done < count → More (1024 - p .done) script (p .at) (g .rest) (g .end)
+  next-there h = go (ℕ-discrete (p .at) (length script))
+    where
+      go : Dec (p .at ≡ length script) → More (1024 - p .done) script (p .at) (g .rest) (g .end)
+      go (yes f) = absurd (omega (arith, g .all, ap length (no-more (1024 - p .done) script (p .at) (g .reads) f)))
+      go (no f) = more-moves (1024 - p .done) script (p .at) (g .reads) f
+
+  module _ (h : p .done < count) (r : MoveRead) (e : moveRead r ≡ moveAt script (p .at)) where
+    pub never-refused : (q : Refusal) → r ≡ move-read.Refused q → Turned s script run count p log log threads types known cells p
+    never-refused q f = never (ap moveRead (sym f) ∙ e ∙ next-there h .next .first)
+
+    module _ (f : MovePlace) (found : r ≡ move-read.Found f) where
+      record Reached : Type 0 where
+        others : List Move
+        all : g .rest ≡ moveOf (f .step) ∷ others
+        rest : movesFrom (1024 - (p .done + 1)) script (f .next) ≡ got others (g .end)
+
+      reached : Reached
+      reached =
+          let m = next-there h in
+          let u : got (moveOf (f .step)) (f .next) ≡ got (m .move) (m .next .place) = ap moveRead (sym found) ∙ e ∙ m .next .first in
+          let v : m .move ≡ moveOf (f .step) = cc in
+          let w : m .next .place ≡ f .next = cc in
+          let k : 1024 - p .done - 1 ≡ 1024 - (p .done + 1) = omega arith in
+          record {
+            others = m .others;
+            all = m .all ∙ ap (λ (x : Move). x ∷ m .others) v;
+            rest = rw (w, k) at (m .next .rest);
+          }
+
+      pub next-turned : (threads′ types′ : List ℕ) (known′ : List Bool) (cells′ : List ℕ) (moved : Moved) (log′ : List ℕ)
+          → Steps s threads types known cells p f threads′ types′ known′ cells′ moved
+          → log′ ≡ take (p .done * 8) log ++ (bytesOf (moved .line) ++ drop (p .done * 8 + 8) log)
+          → Turned s script run count p log log′ threads′ types′ known′ cells′ (record { at = f .next; done = p .done + 1; sizes = moved .sizes })
+      next-turned threads′ types′ known′ cells′ moved log′ steps wrote =
+          let n = reached in
+          let a = steps (g .state) (p .done + 1) (omega (arith, g .most)) (g .holds) in
+          let bytes = bytesOf (moved .line) in
+          let eight = eight-bytes (moved .line) in
+          let room = record-room h in
+          let at : (p .done + 1) * 8 ≡ p .done * 8 + 8 = omega arith in
+          let more = logged-more log bytes (p .done * 8) eight room log′ wrote in
+          let long = log-length log bytes (p .done * 8) eight room log′ wrote in
+          record {
+            going = record {
+              state = stateAfter (g .state) (step (g .state) (moveOf (f .step)));
+              rest = n .others;
+              end = g .end;
+              holds = a .holds;
+              reads = n .rest;
+              whole = rw (at, more, run-cut (g .state) (moveOf (f .step)) (n .others) (take (p .done * 8) log) bytes (a .bytes), ← n .all) (g .whole);
+              all = omega (arith, g .all, ap length (n .all));
+              most = g .most;
+              room = omega (arith, g .room, long);
+            };
+            done = refl;
+            kept = past-kept log bytes (p .done * 8) eight room log′ wrote (count * 8) (omega arith);
+          }
+
+pub ruleset turn-steps = (needs, record-room, few-threads, never-refused, next-turned)
+
+-- The loop: the run goes on, and nothing is written past the records of all moves; the tables keep their lengths.
+pub record Running (s script run : List ℕ) (count : ℕ) (log₀ : List ℕ) (p : Point) (log threads made types : List ℕ) (known : List Bool) (cells : List ℕ) : Type 0 where
+  pub going : Going s script run count p log threads types known cells
+  pub tables : Lent threads made types known cells
+  pub long : length log ≡ length log₀
+  pub past : drop (count * 8) log ≡ drop (count * 8) log₀
+
+module _ (s script run : List ℕ) (count : ℕ) (log₀ : List ℕ) (p : Point) (log threads made types : List ℕ) (known : List Bool) (cells : List ℕ) where
+  pub run-next : Running s script run count log₀ p log threads made types known cells
+      → (r : Point) (log′ threads′ made′ types′ : List ℕ) (known′ : List Bool) (cells′ : List ℕ)
+      → Turned s script run count p log log′ threads′ types′ known′ cells′ r
+      → length log′ ≡ length log → length threads′ ≡ length threads → length made′ ≡ length made → length types′ ≡ length types
+      → length known′ ≡ length known → length cells′ ≡ length cells
+      → Running s script run count log₀ r log′ threads′ made′ types′ known′ cells′
+  run-next a r log′ threads′ made′ types′ known′ cells′ t l th m ty k ce = record {
+    going = t .going;
+    tables = record {
+      thread-room = th ∙ a .tables .thread-room;
+      made-room = m ∙ a .tables .made-room;
+      type-room = ty ∙ a .tables .type-room;
+      cell-room = ce ∙ a .tables .cell-room;
+      known-room = k ∙ a .tables .known-room;
+    };
+    long = l ∙ a .long;
+    past = t .kept ∙ a .past;
+  }
+
+  pub run-first : Going s script run count p log threads types known cells → Lent threads made types known cells
+      → Running s script run count log p log threads made types known cells
+  run-first g t = record { going = g; tables = t; long = refl; past = refl }
+
+  -- After the last move.
+  no-rest : (ms : List Move) → length ms ≡ 0 → ms ≡ []
+  no-rest [] h = refl
+  no-rest (m ∷ ms) h = absurd (omega (arith, h))
+
+  pub run-last : Running s script run count log₀ p log threads made types known cells → count ≤ p .done → log ≡ ranOver run log₀
+  unfolding ranOver runLog
+  run-last a h =
+      let g = a .going in
+      let e : g .rest ≡ [] = no-rest (g .rest) (omega (arith, g .all)) in
+      let d : p .done ≡ count = omega (arith, g .all) in
+      let w : take (count * 8) log ≡ run = rw (e, d, append-nil) at (g .whole) in
+      let n : length run ≡ count * 8 = ap length (sym w) ∙ length-take-le (count * 8) log (g .room) in
+      rw n (sym (take-append-drop (count * 8) log) ∙ ap (λ (l : List ℕ). l ++ drop (count * 8) log) w ∙ ap (λ (l : List ℕ). run ++ l) (a .past))
+
+pub ruleset run-steps = (needs, run-next, run-first, run-last)

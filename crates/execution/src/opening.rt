@@ -1,0 +1,103 @@
+// Questions 20 to 22 of a sheet that passes questions 1 to 18, and its run.
+ghost use mathlib.Core.Path.{_≡_};
+ghost use lib.ListN.{length};
+ghost use Rattle.products.specs.Held.{Holds};
+ghost use Rattle.products.specs.Starts.{Blank};
+ghost use Rattle.execution.specs.Begins.{Reads, startOf, playedScript, playedFrom, Comes, Lent};
+use crate::Point;
+use crate::runs::run;
+use products::Sizes;
+use products::start::start;
+use reading::NumberRead;
+use script::moves::count_moves;
+use service::Answer;
+
+// Questions 21 and 22, and the run, from the start in the tables on.
+fn play_script(
+    s: &[u8],
+    script: &[u8],
+    sizes: Sizes,
+    log: &mut [u8],
+    threads: &mut [usize],
+    made: &mut [usize],
+    types: &mut [usize],
+    known: &mut [bool],
+    cells: &mut [usize],
+) -> Answer
+    requires { ⌜ Holds (now s) sizes 1 (now threads) (now types) (now known) (now cells) (startOf (now s))
+        × Lent (now threads) (now made) (now types) (now known) (now cells) ⌝ }
+    ensures { λ r. ⌜ Comes (playedScript (startOf (now (s .entry))) (now (script .entry)) (now (log .entry))) (now (log .exit)) r ⌝ }
+{
+    let counted = count_moves(script);
+    let NumberRead::Found(moves) = counted else {
+        return Answer::Refused(21);
+    };
+    let count = moves.value;
+    if log.len() / 8 < count {
+        return Answer::Refused(22);
+    }
+    let begin = Point {
+        at: 0,
+        done: 0,
+        sizes,
+    };
+    run(
+        s,
+        script,
+        count,
+        begin,
+        log,
+        threads,
+        made,
+        types,
+        known,
+        cells,
+    );
+    Answer::Accepted(count)
+}
+
+// Question 20, then 21 and 22, and the run, with blank tables.
+fn play_with(
+    s: &[u8],
+    script: &[u8],
+    log: &mut [u8],
+    threads: &mut [usize],
+    made: &mut [usize],
+    types: &mut [usize],
+    known: &mut [bool],
+    cells: &mut [usize],
+) -> Answer
+    requires { ⌜ Reads (now s) × Blank (now threads) (now types) (now known) (now cells) × (length (now made) ≡ 128) ⌝ }
+    ensures { λ r. ⌜ Comes (playedFrom (startOf (now (s .entry))) (now (script .entry)) (now (log .entry))) (now (log .exit)) r ⌝ }
+{
+    let sizes = start(s, threads, types, known, cells);
+    if 64 < sizes.threads {
+        return Answer::Refused(20);
+    }
+    if 1024 < sizes.names {
+        return Answer::Refused(20);
+    }
+    play_script(s, script, sizes, log, threads, made, types, known, cells)
+}
+
+// Questions 20 to 22, and the run.
+pub fn play_accepted(s: &[u8], script: &[u8], log: &mut [u8]) -> Answer
+    requires { ⌜ Reads (now s) ⌝ }
+    ensures { λ r. ⌜ Comes (playedFrom (startOf (now (s .entry))) (now (script .entry)) (now (log .entry))) (now (log .exit)) r ⌝ }
+{
+    let mut threads = [0usize; 128];
+    let mut made = [0usize; 128];
+    let mut types = [0usize; 1024];
+    let mut known = [false; 1024];
+    let mut cells = [0usize; 2304];
+    play_with(
+        s,
+        script,
+        log,
+        &mut threads,
+        &mut made,
+        &mut types,
+        &mut known,
+        &mut cells,
+    )
+}

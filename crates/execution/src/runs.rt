@@ -1,0 +1,73 @@
+// A run under a script: a move a turn, and its record of eight bytes.
+ghost use mathlib.Core.Path.{_≡_};
+ghost use Prim.Native.Nat.{_<_};
+ghost use Rattle.running.specs.Moves.{runLog};
+ghost use Rattle.execution.specs.Begins.{startOf, movesOf, ranOver, Lent};
+ghost use Rattle.execution.specs.Runs.{Going, Turned};
+use crate::Point;
+use script::MoveRead;
+use script::moves::move_at;
+use script::records::write_record;
+use transitions::moves::step;
+
+// Makes the next of `count` moves and writes its record.
+fn turn(
+    s: &[u8],
+    script: &[u8],
+    count: usize,
+    p: Point,
+    log: &mut [u8],
+    threads: &mut [usize],
+    made: &mut [usize],
+    types: &mut [usize],
+    known: &mut [bool],
+    cells: &mut [usize],
+) -> Point
+    requires { ⌜ Going (now s) (now script) (runLog (startOf (now s)) (movesOf (now script))) count p (now log)
+        (now threads) (now types) (now known) (now cells)
+        × Lent (now threads) (now made) (now types) (now known) (now cells) × (p .done < count) ⌝ }
+    ensures { λ r. ⌜ Turned (now (s .entry)) (now (script .entry))
+        (runLog (startOf (now (s .entry))) (movesOf (now (script .entry)))) count p
+        (now (log .entry)) (now (log .exit)) (now (threads .exit)) (now (types .exit)) (now (known .exit)) (now (cells .exit)) r ⌝ }
+{
+    let at = p.done * 8;
+    let done = p.done + 1;
+    let read = move_at(script, p.at);
+    let MoveRead::Found(found) = read else {
+        return p;
+    };
+    let next = found.next;
+    let m = found.step;
+    let moved = step(s, m, p.sizes, threads, made, types, known, cells);
+    let sizes = moved.sizes;
+    write_record(log, at, moved.line);
+    Point {
+        at: next,
+        done,
+        sizes,
+    }
+}
+
+// Makes the moves left of `count` moves.
+pub fn run(
+    s: &[u8],
+    script: &[u8],
+    count: usize,
+    begin: Point,
+    log: &mut [u8],
+    threads: &mut [usize],
+    made: &mut [usize],
+    types: &mut [usize],
+    known: &mut [bool],
+    cells: &mut [usize],
+)
+    requires { ⌜ Going (now s) (now script) (runLog (startOf (now s)) (movesOf (now script))) count begin (now log)
+        (now threads) (now types) (now known) (now cells)
+        × Lent (now threads) (now made) (now types) (now known) (now cells) ⌝ }
+    ensures { λ _. ⌜ now (log .exit) ≡ ranOver (runLog (startOf (now (s .entry))) (movesOf (now (script .entry)))) (now (log .entry)) ⌝ }
+{
+    let mut p = begin;
+    while p.done < count {
+        p = turn(s, script, count, p, log, threads, made, types, known, cells);
+    }
+}

@@ -1,0 +1,83 @@
+// One name given, one thread made.
+ghost use mathlib.Core.Path.{_≡_};
+ghost use Prim.Native.Nat.{_-_};
+ghost use Rattle.products.specs.Makes.{Gives, Pushes, ThreadMade};
+use crate::Made;
+use crate::Sizes;
+use crate::skip::skip;
+use memory::Thread;
+use memory::chains::bind;
+use memory::names::store;
+use memory::threads::pack;
+
+// The sizes where no name is left.
+fn too_many(sizes: Sizes) -> Sizes
+    ensures { λ r. ⌜ r ≡ record { threads = sizes .threads; names = 1025; cells = sizes .cells } ⌝ }
+{
+    Sizes {
+        threads: sizes.threads,
+        names: 1025,
+        cells: sizes.cells,
+    }
+}
+
+// A new name of type t takes the next number; its cell comes after `env`.
+pub fn give(sizes: Sizes, t: usize, env: usize, types: &mut [usize], cells: &mut [usize]) -> Sizes
+    ensures { λ r. ⌜ Gives sizes t env (now (types .entry)) (now (types .exit)) (now (cells .entry)) (now (cells .exit)) r ⌝ }
+{
+    let name = sizes.names;
+    let cell = sizes.cells;
+    if 1024 <= name {
+        return too_many(sizes);
+    }
+    if 2304 <= cell {
+        return too_many(sizes);
+    }
+    let given = Sizes {
+        threads: sizes.threads,
+        names: name + 1,
+        cells: cell + 1,
+    };
+    store(types, name, t);
+    bind(cells, cell, env, name);
+    given
+}
+
+// The cell written last.
+pub fn last_cell(sizes: Sizes) -> usize
+    ensures { λ r. ⌜ r ≡ sizes .cells - 1 ⌝ }
+{
+    if sizes.cells == 0 { 0 } else { sizes.cells - 1 }
+}
+
+// A thread stands after those made so far.
+fn push(sizes: Sizes, t: Thread, made: &mut [usize]) -> Sizes
+    ensures { λ r. ⌜ Pushes sizes t (now (made .entry)) (now (made .exit)) r ⌝ }
+{
+    let n = sizes.threads;
+    if 64 <= n {
+        return Sizes {
+            threads: 65,
+            names: sizes.names,
+            cells: sizes.cells,
+        };
+    }
+    store(made, n, pack(t));
+    Sizes {
+        threads: n + 1,
+        names: sizes.names,
+        cells: sizes.cells,
+    }
+}
+
+// A thread whose prefix is a receive, send or replication; its process is passed over.
+pub fn make_thread(s: &[u8], t: Thread, sizes: Sizes, made: &mut [usize]) -> Made
+    ensures { λ r. ⌜ ThreadMade (now (s .entry)) sizes t (now (made .entry)) (now (made .exit)) r ⌝ }
+{
+    let next = skip(s, t.at, t.nest, t.names);
+    let pushed = push(sizes, t, made);
+    Made {
+        next,
+        sizes: pushed,
+    }
+}

@@ -1,0 +1,30 @@
+// What a process or a system makes at once (document 01, "Running"): threads and new names, into lent memory; and the start
+// of a run.
+//
+// The tables lent are `made`, for the threads; `types`, the type of each name given so far; `known`, which names are known to
+// the environment; and `cells`, the run names of the binders passed.
+pub mod giving;
+pub mod processes;
+pub mod skip;
+pub mod start;
+pub mod systems;
+
+// How many threads, names and cells are in use. More than 64 threads count as 65, more than 1,024 names as 1,025.
+pub struct Sizes {
+    pub threads: usize,
+    pub names: usize,
+    pub cells: usize,
+}
+
+// What was made of a process: the place after it, and the sizes afterwards.
+pub struct Made {
+    pub next: usize,
+    pub sizes: Sizes,
+}
+
+// The same of a system, with the number of components so far.
+pub struct MadeSystem {
+    pub next: usize,
+    pub components: usize,
+    pub sizes: Sizes,
+}

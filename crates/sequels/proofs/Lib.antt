@@ -1,9 +1,0 @@
--- Laws of products in their place, and the lemmas of the functions' proofs.
-pub mod StandSteps
-pub mod FormLaws
-pub mod WidenSteps
-pub mod RoomLaws
-pub mod PlaceLaws
-pub mod PlaceSteps
-pub mod ExchangeLaws
-pub mod ExchangeSteps

@@ -1,7 +1,0 @@
--- `refused` tells a refusal (OutcomeSteps.antt).
-use Rattle.stepping.proofs.OutcomeSteps.{outcome-steps}
-use Rattle.stepping.proofs.outcomes.refused.Statement.{statement}
-use Rattle.stepping.proofs.outcomes.refused.Tie as tie
-
-pub refused-spec : {M : Type 1} → statement M
-refused-spec = tie.close (tie.spec (λ c. search outcome-steps))

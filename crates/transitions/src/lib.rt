@@ -1,0 +1,28 @@
+// The moves of a run on a state in lent memory (document 01, "Running").
+//
+// Five tables are lent: `threads`, the threads in order; `made`, room for what a move makes; `types`, the type of each name
+// given so far; `known`, which names are known to the environment; and `cells`, the run names of the binders passed.
+pub mod unfoldings;
+pub mod communication;
+pub mod moves;
+pub mod outcomes;
+pub mod environment;
+pub mod receiving;
+pub mod sending;
+
+use products::Sizes;
+use memory::Thread;
+use script::Record;
+use continuations::Action;
+
+// A thread with the send or receive that is its prefix.
+pub struct Actor {
+    pub thread: Thread,
+    pub act: Action,
+}
+
+// What a move did: the sizes after it, and its line in the log.
+pub struct Moved {
+    pub sizes: Sizes,
+    pub line: Record,
+}

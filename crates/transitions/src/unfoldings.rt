@@ -1,0 +1,77 @@
+// 01, the unfolding of a replication (document 01: a copy): it makes what it repeats, which goes before it.
+ghost use mathlib.Core.Path.{_≡_};
+ghost use Prim.Native.Nat.{_<_};
+ghost use Rattle.running.specs.State.{Thread as Running};
+ghost use Rattle.running.specs.Moves.{asRepeat, unfoldStep};
+ghost use Rattle.continuations.specs.Prefixes.{repeatOf};
+ghost use Rattle.continuations.specs.Places.{Tables};
+ghost use Rattle.transitions.specs.Steps.{SteppedAny, ActedAny};
+use crate::Moved;
+use crate::outcomes::outcome;
+use crate::outcomes::refused;
+use products::Sizes;
+use memory::Thread;
+use script::Record;
+use continuations::Prefix;
+use continuations::placing::replace;
+use continuations::prefixes::continuation;
+use continuations::prefixes::prefix_of;
+use continuations::prefixes::thread_at;
+
+// 01 of a thread whose prefix is a replication, what is repeated at `next`: its products go before the repeat.
+fn unfold_at(
+    s: &[u8],
+    t: Thread,
+    next: usize,
+    i: usize,
+    sizes: Sizes,
+    threads: &mut [usize],
+    made: &mut [usize],
+    types: &mut [usize],
+    cells: &mut [usize],
+) -> Moved
+    requires { ⌜ (i < sizes .threads) × Tables sizes (now threads) (now made) (now types) (now cells) ⌝ }
+    ensures { λ r. ⌜ ((u : Running) → asRepeat (u .process) ≡ repeatOf (now (s .entry)) t (Prefix.Repeats next)
+        → ActedAny (now (s .entry)) sizes t i u (now (threads .entry)) (now (types .entry)) (now (cells .entry))
+        (now (threads .exit)) (now (types .exit)) (now (cells .exit)) (λ state. unfoldStep state i) r) ⌝ }
+{
+    let placed = replace(s, continuation(t, next), i, i, sizes, threads, made, types, cells);
+    outcome(
+        placed,
+        Record {
+            number: 0,
+            label: 6,
+            channel: 65535,
+            name: 65535,
+            actor: t.component,
+            receiver: 255,
+        },
+    )
+}
+
+// 01: the unfolding of a replication.
+pub fn unfold_replication(
+    s: &[u8],
+    i: usize,
+    sizes: Sizes,
+    threads: &mut [usize],
+    made: &mut [usize],
+    types: &mut [usize],
+    cells: &mut [usize],
+) -> Moved
+    requires { ⌜ Tables sizes (now threads) (now made) (now types) (now cells) ⌝ }
+    ensures { λ r. ⌜ SteppedAny (now (s .entry)) sizes (now (threads .entry)) (now (types .entry)) (now (cells .entry))
+        (now (threads .exit)) (now (types .exit)) (now (cells .exit)) (λ state. unfoldStep state i) r ⌝ }
+{
+    if sizes.threads <= i {
+        return refused(30, sizes);
+    }
+    let t = thread_at(threads, i);
+    let prefix = prefix_of(s, t, cells);
+    match prefix {
+        Prefix::Repeats(next) => unfold_at(s, t, next, i, sizes, threads, made, types, cells),
+        Prefix::Nothing => refused(31, sizes),
+        Prefix::Receives(_) => refused(31, sizes),
+        Prefix::Sends(_) => refused(31, sizes),
+    }
+}
