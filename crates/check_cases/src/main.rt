@@ -1,11 +1,11 @@
 // Runs document 01's table, and both sides of each limit, through the service `check`. Each line shows a label, the answer, and
 // the sixteen bytes lent, which were all AA before the call. What is printed is compared with the file stdout.
 use files::first;
-use service::checking::check;
 use fixtures::put;
 use fixtures::put_chain;
 use fixtures::put_times;
 use fixtures::say_line;
+use service::checking::check;
 
 fn show(label: &[u8], sheet: &[u8], charter: &[u8]) {
     let mut output = [0xAAu8; 16];

@@ -14,12 +14,12 @@ use crate::placing::has_room;
 use crate::placing::none_made;
 use crate::widening::under_cell;
 use crate::widening::with_cell;
-use products::Made;
-use products::Sizes;
-use products::processes::make_process;
 use memory::Thread;
 use memory::chains::bind;
 use memory::threads::splice;
+use products::Made;
+use products::Sizes;
+use products::processes::make_process;
 
 // What the receiver's continuation makes, under the name disclosed, which takes the next cell.
 fn make_theirs(

@@ -7,8 +7,8 @@ pub mod placing;
 pub mod prefixes;
 pub mod widening;
 
-use products::Sizes;
 use memory::Thread;
+use products::Sizes;
 
 // A send or receive in front of a thread: its channel, what it sends or the type that it binds, and the place of its continuation.
 pub struct Action {

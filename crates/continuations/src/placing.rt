@@ -4,10 +4,10 @@ ghost use Prim.Native.Nat.{_≤_};
 ghost use lib.ListN.{length};
 ghost use Rattle.continuations.specs.Places.{Tables, roomFor, Puts, Replacing};
 use crate::Placed;
-use products::Sizes;
-use products::processes::make_process;
 use memory::Thread;
 use memory::threads::splice;
+use products::Sizes;
+use products::processes::make_process;
 
 // 35: "room for 64 threads and 1,024 names afterwards?", where `kept` threads stay.
 pub fn has_room(kept: usize, sizes: Sizes) -> bool

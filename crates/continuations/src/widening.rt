@@ -1,8 +1,8 @@
 // One name more: a process under it, and the sizes with its cell.
 ghost use mathlib.Core.Path.{_≡_};
 ghost use Rattle.continuations.specs.Places.{underCell, withCell};
-use products::Sizes;
 use memory::Thread;
+use products::Sizes;
 
 // A process under one name more, in cell `cell`.
 pub fn under_cell(t: Thread, cell: usize) -> Thread

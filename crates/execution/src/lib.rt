@@ -3,8 +3,8 @@ pub mod opening;
 pub mod runs;
 
 ghost use Rattle.execution.specs.Told.{Played};
-use products::Sizes;
 use opening::play_accepted;
+use products::Sizes;
 use service::Answer;
 use service::judging::first_failed;
 

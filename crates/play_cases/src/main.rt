@@ -1,7 +1,7 @@
 // Runs document 01's scripts, and both sides of each limit of a run, through the service `play`. Each line shows a label, the
 // answer, and the log lent, which was all AA before the call. What is printed is compared with the file stdout.
-use files::first;
 use execution::play;
+use files::first;
 use fixtures::put;
 use fixtures::put_all;
 use fixtures::put_grid;

@@ -1,11 +1,11 @@
 // The program `run`: reads `sheet.bin`, `charter.bin` and `script.bin` in the folder it is run in (an absent file as empty), and
 // writes the log's bytes alone, or `refused N`. A script of 1,024 moves has at most 7,168 bytes, and a longer one fails question
 // 21 however much of it is read.
+use execution::play;
 use files::first;
 use files::load;
 use files::print_refused;
 use libc::STDOUT_FILENO;
-use execution::play;
 use service::Answer;
 
 fn main() {

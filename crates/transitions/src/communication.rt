@@ -10,16 +10,16 @@ use crate::Actor;
 use crate::Moved;
 use crate::outcomes::outcome;
 use crate::outcomes::refused;
-use products::Sizes;
-use memory::Thread;
-use script::Communication;
-use script::Record;
 use continuations::Exchange;
 use continuations::Prefix;
 use continuations::exchanging::exchange;
 use continuations::prefixes::continuation;
 use continuations::prefixes::prefix_of;
 use continuations::prefixes::thread_at;
+use memory::Thread;
+use products::Sizes;
+use script::Communication;
+use script::Record;
 
 // 04 of a sender and a receiver.
 fn communicate_both(

@@ -9,9 +9,9 @@ ghost use Rattle.products.specs.Held.{Holds};
 ghost use Rattle.transitions.specs.Steps.{Answers};
 use crate::Moved;
 use crate::outcomes::refused;
-use products::Sizes;
 use memory::names::know;
 use memory::names::store;
+use products::Sizes;
 use script::Record;
 
 // 05: the environment makes a known name of type t.

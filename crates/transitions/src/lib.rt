@@ -2,18 +2,18 @@
 //
 // Five tables are lent: `threads`, the threads in order; `made`, room for what a move makes; `types`, the type of each name
 // given so far; `known`, which names are known to the environment; and `cells`, the run names of the binders passed.
-pub mod unfoldings;
 pub mod communication;
+pub mod environment;
 pub mod moves;
 pub mod outcomes;
-pub mod environment;
 pub mod receiving;
 pub mod sending;
+pub mod unfoldings;
 
-use products::Sizes;
-use memory::Thread;
-use script::Record;
 use continuations::Action;
+use memory::Thread;
+use products::Sizes;
+use script::Record;
 
 // A thread with the send or receive that is its prefix.
 pub struct Actor {

@@ -6,11 +6,11 @@ ghost use Rattle.script.specs.Told.{moveOf};
 ghost use Rattle.continuations.specs.Places.{Tables};
 ghost use Rattle.transitions.specs.Steps.{Stepped};
 use crate::Moved;
-use crate::unfoldings::unfold_replication;
 use crate::communication::communicate;
 use crate::environment::environment_name;
 use crate::receiving::receive_in;
 use crate::sending::send_out;
+use crate::unfoldings::unfold_replication;
 use products::Sizes;
 use script::Move;
 

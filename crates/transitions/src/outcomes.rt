@@ -2,10 +2,10 @@
 ghost use mathlib.Core.Path.{_≡_};
 ghost use Rattle.transitions.specs.Steps.{refusal, outcomeOf, knownAfter};
 use crate::Moved;
-use products::Sizes;
-use memory::names::know;
-use script::Record;
 use continuations::Placed;
+use memory::names::know;
+use products::Sizes;
+use script::Record;
 
 // A refused move: its number, and the sizes as they are.
 pub fn refused(number: usize, sizes: Sizes) -> Moved

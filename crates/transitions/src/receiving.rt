@@ -10,13 +10,6 @@ ghost use Rattle.transitions.specs.Steps.{Stepped, Acted, ActedAny, rece
 use crate::Moved;
 use crate::outcomes::outcome;
 use crate::outcomes::refused;
-use products::Sizes;
-use memory::Thread;
-use memory::chains::bind;
-use memory::names::is_known;
-use memory::names::type_of;
-use script::Receipt;
-use script::Record;
 use continuations::Action;
 use continuations::Prefix;
 use continuations::placing::replace;
@@ -25,6 +18,13 @@ use continuations::prefixes::prefix_of;
 use continuations::prefixes::thread_at;
 use continuations::widening::under_cell;
 use continuations::widening::with_cell;
+use memory::Thread;
+use memory::chains::bind;
+use memory::names::is_known;
+use memory::names::type_of;
+use products::Sizes;
+use script::Receipt;
+use script::Record;
 
 // 03 of a thread whose prefix is a receive, the name known and of the bound type.
 fn receive_on(
@@ -128,7 +128,18 @@ pub fn receive_in(
     let t = thread_at(threads, m.thread);
     let prefix = prefix_of(s, t, cells);
     match prefix {
-        Prefix::Receives(act) => receive_at(s, t, act, m, sizes, threads, made, types, known, cells),
+        Prefix::Receives(act) => receive_at(
+            s,
+            t,
+            act,
+            m,
+            sizes,
+            threads,
+            made,
+            types,
+            known,
+            cells,
+        ),
         Prefix::Nothing => refused(31, sizes),
         Prefix::Repeats(_) => refused(31, sizes),
         Prefix::Sends(_) => refused(31, sizes),

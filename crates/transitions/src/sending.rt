@@ -12,16 +12,16 @@ use crate::Moved;
 use crate::outcomes::know_sent;
 use crate::outcomes::outcome;
 use crate::outcomes::refused;
-use products::Sizes;
-use memory::Thread;
-use memory::names::is_known;
-use script::Record;
 use continuations::Action;
 use continuations::Prefix;
 use continuations::placing::replace;
 use continuations::prefixes::continuation;
 use continuations::prefixes::prefix_of;
 use continuations::prefixes::thread_at;
+use memory::Thread;
+use memory::names::is_known;
+use products::Sizes;
+use script::Record;
 
 // What the log says of a send to the environment; `old` if the name sent was known before.
 fn sent_line(act: Action, component: usize, old: bool) -> Record

@@ -9,14 +9,14 @@ ghost use Rattle.transitions.specs.Steps.{SteppedAny, ActedAny};
 use crate::Moved;
 use crate::outcomes::outcome;
 use crate::outcomes::refused;
-use products::Sizes;
-use memory::Thread;
-use script::Record;
 use continuations::Prefix;
 use continuations::placing::replace;
 use continuations::prefixes::continuation;
 use continuations::prefixes::prefix_of;
 use continuations::prefixes::thread_at;
+use memory::Thread;
+use products::Sizes;
+use script::Record;
 
 // 01 of a thread whose prefix is a replication, what is repeated at `next`: its products go before the repeat.
 fn unfold_at(
@@ -35,7 +35,17 @@ fn unfold_at(
         → ActedAny (now (s .entry)) sizes t i u (now (threads .entry)) (now (types .entry)) (now (cells .entry))
         (now (threads .exit)) (now (types .exit)) (now (cells .exit)) (λ state. unfoldStep state i) r) ⌝ }
 {
-    let placed = replace(s, continuation(t, next), i, i, sizes, threads, made, types, cells);
+    let placed = replace(
+        s,
+        continuation(t, next),
+        i,
+        i,
+        sizes,
+        threads,
+        made,
+        types,
+        cells,
+    );
     outcome(
         placed,
         Record {
