@@ -3,12 +3,12 @@
 use Prim.Native.Nat.{ℕ, zero, suc, _+_}
 use mathlib.Core.Bool.{Bool, true, false, _||_}
 use mathlib.Core.List.{List, [], _∷_, _++_}
+use mathlib.Core.Option.{Option, some}
 use mathlib.Core.Path.{_≡_, refl, sym, ap, _∙_}
 use native.Mathlib.Omega.{arith}
-use lib.ListN.{getElem?}
 use Rattle.reading.specs.Syntax.{Process, nil, par, new, input, output, repl}
 use Rattle.inference.proofs.CountLaws.{join-assoc, nothing-join, join-unlimited, unlimited-join}
-use Rattle.inference.specs.Acts.{Component, Act, acts}
+use Rattle.inference.specs.Acts.{Component, Act, typeOf, acts}
 use Rattle.inference.specs.Counts.{Count, fin, unlimited, _⊕_, repeatedly}
 use Rattle.inference.specs.Lists.{any}
 use Rattle.inference.specs.Needs.{needOf, needOn, disclosures, weigh, total, disclosed}
@@ -30,13 +30,13 @@ any-append p [] ys = refl
 any-append p (a ∷ xs) ys = rw (any-append p xs ys) (sym (or-assoc (p a) (any p xs) (any p ys)))
 
 -- "Parallel parts .. join these."
-module _ (k h : ℕ) (c : Component) (b : Bool) (scope : List ℕ) where
+module _ (k h : ℕ) (c : Component) (b : Bool) (scope : List (Option ℕ)) where
   pub disclosed-par : (p q : Process)
       → disclosed k h (acts c b scope (par p q)) ≡ disclosed k h (acts c b scope p) ⊕ disclosed k h (acts c b scope q)
   unfolding disclosed acts
   disclosed-par p q = total-append (λ a. disclosures k h (needOf a)) (acts c b scope p) (acts c b scope q)
 
-pub any-par : (t : Act → Bool) (c : Component) (b : Bool) (scope : List ℕ) (p q : Process)
+pub any-par : (t : Act → Bool) (c : Component) (b : Bool) (scope : List (Option ℕ)) (p q : Process)
     → any t (acts c b scope (par p q)) ≡ (any t (acts c b scope p) || any t (acts c b scope q))
 unfolding acts
 any-par t c b scope p q = any-append t (acts c b scope p) (acts c b scope q)
@@ -73,22 +73,22 @@ module _ (v : Need → ℕ) (c : Component) where
   abbrev weight : Act → ℕ
   weight a = v (needOf a)
 
-  pub total-repeated : (b : Bool) (scope : List ℕ) (p : Process) → total weight (acts c true scope p) ≡ forever (total weight (acts c b scope p))
+  pub total-repeated : (b : Bool) (scope : List (Option ℕ)) (p : Process) → total weight (acts c true scope p) ≡ forever (total weight (acts c b scope p))
   unfolding acts total needOf forever repeatedly
   total-repeated b scope nil = refl
   total-repeated b scope (par p q) =
       total-append weight (acts c true scope p) (acts c true scope q)
       ∙ rw (total-repeated b scope p, total-repeated b scope q) (sym (forever-join (total weight (acts c b scope p)) (total weight (acts c b scope q))))
       ∙ ap forever (sym (total-append weight (acts c b scope p) (acts c b scope q)))
-  total-repeated b scope (new t p) = total-repeated b (scope ++ (t ∷ [])) p
+  total-repeated b scope (new t p) = total-repeated b (scope ++ (some t ∷ [])) p
   total-repeated b scope (input x t p) =
-      one-repeated b (v (needOn false (getElem? scope x))) (total weight (acts c true (scope ++ (t ∷ [])) p)) (total weight (acts c b (scope ++ (t ∷ [])) p))
-      (total-repeated b (scope ++ (t ∷ [])) p)
+      one-repeated b (v (needOn false (typeOf scope x))) (total weight (acts c true (scope ++ (some t ∷ [])) p)) (total weight (acts c b (scope ++ (some t ∷ [])) p))
+      (total-repeated b (scope ++ (some t ∷ [])) p)
   total-repeated b scope (output x y p) =
-      one-repeated b (v (needOn true (getElem? scope x))) (total weight (acts c true scope p)) (total weight (acts c b scope p)) (total-repeated b scope p)
+      one-repeated b (v (needOn true (typeOf scope x))) (total weight (acts c true scope p)) (total weight (acts c b scope p)) (total-repeated b scope p)
   total-repeated b scope (repl p) = total-repeated true scope p
 
-module _ (k h : ℕ) (c : Component) (b : Bool) (scope : List ℕ) where
+module _ (k h : ℕ) (c : Component) (b : Bool) (scope : List (Option ℕ)) where
   pub disclosed-repl : (p : Process) → disclosed k h (acts c b scope (repl p)) ≡ forever (disclosed k h (acts c b scope p))
   unfolding disclosed acts
   disclosed-repl p = total-repeated (λ n. disclosures k h n) c b scope p

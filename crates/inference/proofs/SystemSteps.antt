@@ -1,7 +1,8 @@
 -- The walk over a system, return by return: what the parts of a form were found to be makes what the form is found to be.
 use Prim.Native.Nat.{ℕ, _+_, _-_, _<_, _≤_, min}
 use mathlib.Core.Bool.{true, false}
-use mathlib.Core.List.{List, [], _∷_, _++_}
+use mathlib.Core.List.{List, [], _∷_, _++_, map}
+use mathlib.Core.Option.{some}
 use mathlib.Core.Path.{_≡_, refl, sym, _∙_}
 use native.Mathlib.Omega.{arith}
 use borrow.Author.Needs.{needs}
@@ -21,7 +22,7 @@ use Rattle.reading.specs.declared.FormRead.{FormRead}
 use Rattle.reading.specs.declared.FormRead.the-variants as form-read
 use Rattle.reading.specs.declared.Place.{Place}
 use Rattle.reading.specs.declared.Refusal.{Refusal}
-use Rattle.inference.proofs.WalkLaws.{worst-most, worstAll-append, chargedAll-append, bound-in, kept-below, min-cong}
+use Rattle.inference.proofs.WalkLaws.{worst-most, worstAll-append, chargedAll-append, scope-bound, kept-below, min-cong}
 use Rattle.inference.specs.Acts.{acts, actsOf, locate}
 use Rattle.inference.specs.Rows.{withPath}
 use Rattle.inference.specs.Walks.{worstAll, chargedAll, opens, Inferred, InferredAt}
@@ -147,7 +148,7 @@ module _ (t : Grown System) (names u preceding : ℕ) (path scope scope₁ scope
       → InferredAt preceding path (under (newₛ u) t) names scope scope′ table table′ w
   unfolding under locate components
   under-new e l k h =
-      let widened = bound-in scope scope₁ names u e (omega arith) in
+      let widened = scope-bound scope scope₁ names u e (omega arith) in
       record {
         place = h .place;
         first = rw widened at (h .first);
@@ -159,7 +160,7 @@ module _ (t : Grown System) (names u preceding : ℕ) (path scope scope₁ scope
 -- A component.
 module _ (t : Grown Process) (names g preceding : ℕ) (path own scope scope′ table table₁ table′ : List ℕ) (w : Walk) where
   pub component-found : ltb (length path) 8 ≡ true → (ltb (length path) 8 ≡ true → own ≡ path ++ (g ∷ [])) → table₁ ≡ withPath table preceding own
-      → Inferred t (acts (record { number = preceding; path = own }) false (take names scope) (t .tree)) names scope scope′ table₁ table′ w
+      → Inferred t (acts (record { number = preceding; path = own }) false (map some (take names scope)) (t .tree)) names scope scope′ table₁ table′ w
       → InferredAt preceding path (under (compₛ g) t) names scope scope′ table table′ (record { next = w .next; fault = w .fault; components = preceding + 1 })
   unfolding under locate components worstAll chargedAll actsOf
   component-found o d q h = record {

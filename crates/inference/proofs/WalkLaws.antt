@@ -1,12 +1,13 @@
 -- Laws of what a walk finds: acts that follow one another, components that follow one another, and a name that is bound.
-use Prim.Native.Nat.{ℕ, _+_, _<_, _≤_, min}
-use mathlib.Core.List.{List, [], _∷_, _++_}
+use Prim.Native.Nat.{ℕ, zero, suc, _+_, _<_, _≤_, min}
+use mathlib.Core.List.{List, [], _∷_, _++_, map}
+use mathlib.Core.Option.{Option, some, none}
 use mathlib.Core.Path.{_≡_, refl, sym, ap, _∙_}
 use native.Mathlib.Numerals.{add-one}
 use native.Mathlib.Omega.{arith}
-use lib.ListN.{length, take, set}
+use lib.ListN.{length, take, set, getElem?}
 use lib.Seq.{take-suc-set, take-set-le, take-take}
-use Rattle.inference.specs.Acts.{Act, Located, actsOf}
+use Rattle.inference.specs.Acts.{Act, Located, typeOf, actsOf}
 use Rattle.inference.specs.Needs.{needOf}
 use Rattle.inference.specs.Rows.{charge, withPath}
 use Rattle.inference.specs.Walks.{faultOf, worst, charged, worstAll, chargedAll}
@@ -55,6 +56,20 @@ bound l n t h = rw add-one (take-suc-set l n t h)
 
 pub bound-in : (l m : List ℕ) (n t : ℕ) → m ≡ set l n t → n < length l → take (n + 1) m ≡ take n l ++ (t ∷ [])
 bound-in l m n t e h = rw e (bound l n t h)
+
+-- Stored types as a scope: every level has its type.
+some-snoc : (l : List ℕ) (t : ℕ) → map some (l ++ (t ∷ [])) ≡ map some l ++ (some t ∷ [])
+some-snoc [] t = refl
+some-snoc (x ∷ l) t = ap (λ r. some x ∷ r) (some-snoc l t)
+
+pub some-type : (l : List ℕ) (x : ℕ) → typeOf (map some l) x ≡ getElem? l x
+unfolding typeOf
+some-type [] x = refl
+some-type (t ∷ l) zero = refl
+some-type (t ∷ l) (suc x) = some-type l x
+
+pub scope-bound : (l m : List ℕ) (n t : ℕ) → m ≡ set l n t → n < length l → map some (take (n + 1) m) ≡ map some (take n l) ++ (some t ∷ [])
+scope-bound l m n t e h = ap (map some) (bound-in l m n t e h) ∙ some-snoc (take n l) t
 
 pub kept-below : (l m k : List ℕ) (n t : ℕ) → m ≡ set l n t → take (n + 1) k ≡ take (n + 1) m → take n k ≡ take n l
 kept-below l m k n t e h =

@@ -1,7 +1,7 @@
 -- The walk over a process, return by return: what the parts of a form were found to be makes what the form is found to be.
 use Prim.Native.Nat.{ℕ, _+_, _-_, _<_, _≤_, min}
 use mathlib.Core.Bool.{Bool, true, false}
-use mathlib.Core.List.{List, [], _∷_, _++_}
+use mathlib.Core.List.{List, [], _∷_, _++_, map}
 use mathlib.Core.Option.{Option, some}
 use mathlib.Core.Path.{_≡_, refl, sym, _∙_}
 use native.Mathlib.Omega.{arith}
@@ -21,8 +21,8 @@ use Rattle.reading.specs.declared.FormRead.{FormRead}
 use Rattle.reading.specs.declared.FormRead.the-variants as form-read
 use Rattle.reading.specs.declared.Place.{Place}
 use Rattle.reading.specs.declared.Refusal.{Refusal}
-use Rattle.inference.proofs.WalkLaws.{worst-append, charged-append, bound-in, kept-below, min-cong}
-use Rattle.inference.specs.Acts.{Component, Act, acts}
+use Rattle.inference.proofs.WalkLaws.{worst-append, charged-append, some-type, scope-bound, kept-below, min-cong}
+use Rattle.inference.specs.Acts.{Component, Act, typeOf, acts}
 use Rattle.inference.specs.Needs.{needOn, needOf}
 use Rattle.inference.specs.Rows.{charge}
 use Rattle.inference.specs.Told.{known}
@@ -33,7 +33,7 @@ use Rattle.inference.specs.declared.Walk.{Walk}
 
 -- A walk over a tree found that tree's acts.
 abbrev Finds : Component → Bool → Grown Process → ℕ → List ℕ → List ℕ → List ℕ → List ℕ → Walk → Type 0
-Finds c b t names scope scope′ table table′ w = Inferred t (acts c b (take names scope) (t .tree)) names scope scope′ table table′ w
+Finds c b t names scope scope′ table table′ w = Inferred t (acts c b (map some (take names scope)) (t .tree)) names scope scope′ table table′ w
 
 nothing : (t : Grown Process) (at : ℕ) (c : Component) (b : Bool) (names : ℕ) (scope table : List ℕ) → t ≡ record { tree = nil; next = at }
     → Finds c b t names scope scope table table (record { next = at; fault = 11 })
@@ -131,7 +131,7 @@ module _ (t : Grown Process) (names u : ℕ) (c : Component) (b : Bool) (scope s
       → Finds c b (under (new u) t) names scope scope′ table table′ w
   unfolding under acts
   under-new e l k h =
-      let widened = bound-in scope scope₁ names u e (omega arith) in
+      let widened = scope-bound scope scope₁ names u e (omega arith) in
       record {
         place = h .place;
         first = rw widened at (h .first);
@@ -155,17 +155,18 @@ module _ (t : Grown Process) (x y names : ℕ) (c : Component) (b : Bool) (scope
       → Finds c b (under (new y) t) names scope scope′ table₁ table′ w → Finds c b (under (input x y) t) names scope scope′ table table′ v
   unfolding under acts faultOf needOf
   after-input p q h = after-act
-      (record { component = c; repeated = b; sends = false; channel = getElem? (take names scope) x; object = some y })
-      (acts c b (take names scope ++ (y ∷ [])) (t .tree)) (under (new y) t) (under (input x y) t)
-      names scope scope′ table table₁ table′ m w v refl p q h e
+      (record { component = c; repeated = b; sends = false; channel = typeOf (map some (take names scope)) x; object = some y })
+      (acts c b (map some (take names scope) ++ (some y ∷ [])) (t .tree)) (under (new y) t) (under (input x y) t)
+      names scope scope′ table table₁ table′ m w v refl (rw (some-type (take names scope) x) p) (rw (some-type (take names scope) x) q) h e
 
   pub after-output : m ≡ fault (getElem? (take names scope) x) (getElem? (take names scope) y) (c .path)
       → table₁ ≡ charge table (c .number) (needOn true (getElem? (take names scope) x)) b
       → Finds c b t names scope scope′ table₁ table′ w → Finds c b (under (output x y) t) names scope scope′ table table′ v
   unfolding under acts faultOf needOf
   after-output p q h = after-act
-      (record { component = c; repeated = b; sends = true; channel = getElem? (take names scope) x; object = getElem? (take names scope) y })
-      (acts c b (take names scope) (t .tree)) t (under (output x y) t) names scope scope′ table table₁ table′ m w v refl p q h e
+      (record { component = c; repeated = b; sends = true; channel = typeOf (map some (take names scope)) x; object = typeOf (map some (take names scope)) y })
+      (acts c b (map some (take names scope)) (t .tree)) t (under (output x y) t) names scope scope′ table table₁ table′ m w v refl
+      (rw (some-type (take names scope) x, some-type (take names scope) y) p) (rw (some-type (take names scope) x) q) h e
 
 -- One process after another.
 module _ (n : ℕ) (s : List ℕ) (names at : ℕ) (c : Component) (b : Bool) (scope scope₁ scope′ table table₁ table′ : List ℕ) (l r w : Walk) where

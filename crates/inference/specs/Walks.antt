@@ -1,7 +1,7 @@
 -- What the walk over a sheet finds and writes, in terms of the acts of the tree that it walks.
 use Prim.Native.Nat.{ℕ, _+_, _≤_, min}
 use mathlib.Core.Path.{_≡_}
-use mathlib.Core.List.{List, [], _∷_}
+use mathlib.Core.List.{List, [], _∷_, map}
 use mathlib.Core.Bool.{Bool, true, false, cond, _&&_}
 use mathlib.Core.Option.{Option, some, none}
 use lib.Dec.{ltb}
@@ -65,7 +65,7 @@ pub record Inferred (t : Grown Process) (walked : List Act) (names : ℕ) (scope
 -- The same, in a context: whose acts they are, and whether they stand under a repeat.
 abbrev pub InferredIn : Context → Grown Process → ℕ → List ℕ → List ℕ → List ℕ → List ℕ → Walk → Type 0
 InferredIn c t names scope scope′ table table′ r =
-    Inferred t (acts (record { number = c .component; path = pathOf (c .path) }) (c .repeated) (take names scope) (t .tree))
+    Inferred t (acts (record { number = c .component; path = pathOf (c .path) }) (c .repeated) (map some (take names scope)) (t .tree))
     names scope scope′ table table′ r
 
 -- Where a form binds a name, there is room for it.
@@ -91,7 +91,7 @@ pub record InferredSystem (t : Grown System) (ls : List Located) (before names :
 -- The same, for the components of a tree with a path and a number of components before it.
 abbrev pub InferredAt : ℕ → List ℕ → Grown System → ℕ → List ℕ → List ℕ → List ℕ → List ℕ → SystemWalk → Type 0
 InferredAt before path t names scope scope′ table table′ r =
-    InferredSystem t (locate before path (take names scope) (t .tree)) before names scope scope′ table table′ r
+    InferredSystem t (locate before path (map some (take names scope)) (t .tree)) before names scope scope′ table table′ r
 
 -- Where a form of a system binds a name, opens a group or is a component, there is room for it.
 unfoldable pub opens : ℕ → List ℕ → ℕ → Form → Bool

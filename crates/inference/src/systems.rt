@@ -1,6 +1,8 @@
 // The walk over a system: it numbers the components, stores their paths and walks their processes.
 ghost use mathlib.Core.Path.{_≡_};
 ghost use mathlib.Core.Bool.{true};
+ghost use mathlib.Core.List.{map};
+ghost use mathlib.Core.Option.{some};
 ghost use Prim.Native.Nat.{_+_, _<_, min};
 ghost use lib.Dec.{ltb};
 ghost use lib.ListN.{length, take};
@@ -75,7 +77,7 @@ pub fn infer_system(
 ) -> SystemWalk
     requires { ⌜ length (now scope) ≡ 64 ⌝ }
     ensures { λ r. ⌜ InferredSystem (systemTree (spot .nest) (now (s .entry)) (spot .names) (pathOf path) components (spot .at))
-        (locate components (pathOf path) (take (spot .names) (now (scope .entry)))
+        (locate components (pathOf path) (map some (take (spot .names) (now (scope .entry))))
         (systemTree (spot .nest) (now (s .entry)) (spot .names) (pathOf path) components (spot .at) .tree))
         components (spot .names) (now (scope .entry)) (now (scope .exit)) (now (table .entry)) (now (table .exit)) r ⌝ }
 {

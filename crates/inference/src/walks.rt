@@ -2,6 +2,7 @@
 // forms, the permitted nesting falling at each call.
 ghost use mathlib.Core.Path.{_≡_};
 ghost use mathlib.Core.Bool.{true, false};
+ghost use mathlib.Core.List.{map};
 ghost use mathlib.Core.Option.{some};
 ghost use Prim.Native.Nat.{_+_, _<_, min};
 ghost use lib.ListN.{length, take, getElem?};
@@ -112,7 +113,7 @@ pub fn infer_process(
     requires { ⌜ (context .component < 32) × (length (now scope) ≡ 64) ⌝ }
     ensures { λ r. ⌜ Inferred (processTree (spot .nest) (now (s .entry)) (spot .names) (spot .at))
         (acts (record { number = context .component; path = pathOf (context .path) }) (context .repeated)
-        (take (spot .names) (now (scope .entry)))
+        (map some (take (spot .names) (now (scope .entry))))
         (processTree (spot .nest) (now (s .entry)) (spot .names) (spot .at) .tree))
         (spot .names) (now (scope .entry)) (now (scope .exit)) (now (table .entry)) (now (table .exit)) r ⌝ }
 {

@@ -2,6 +2,7 @@
 -- act discloses to one group at most and takes at least one byte of the sheet, so that 32 components and 4,096 bytes make at most
 -- 18,432 bytes of interface.
 use Prim.Native.Nat.{ℕ, zero, suc, _+_, _*_, _<_, _≤_}
+use mathlib.Core.Option.{Option, some}
 use mathlib.Core.Path.{_≡_, refl, ap, _∙_}
 use mathlib.Core.List.{List, [], _∷_, _++_, map}
 use mathlib.Core.Bool.{Bool, true, false, cond, not, _&&_}
@@ -227,10 +228,10 @@ all-size n (l ∷ rest) (store-more ok more) = omega (
 
 -- Each act takes at least one byte of the sheet.
 module _ (read : ℕ → List ℕ → ℕ → ℕ → Read System) (process : ℕ → Read Process)
-    (l : (ns : ℕ) (path : List ℕ) (preceding m : ℕ) (scope : List ℕ) (p : System) (k : ℕ) → read ns path preceding m ≡ got p k
+    (l : (ns : ℕ) (path : List ℕ) (preceding m : ℕ) (scope : List (Option ℕ)) (p : System) (k : ℕ) → read ns path preceding m ≡ got p k
     → m + actsIn (locate preceding path scope p) ≤ k)
     (a : (m : ℕ) (p : Process) (k : ℕ) → process m ≡ got p k → m + actCount p ≤ k)
-    (at names : ℕ) (path : List ℕ) (preceding : ℕ) (scope : List ℕ) where
+    (at names : ℕ) (path : List ℕ) (preceding : ℕ) (scope : List (Option ℕ)) where
   located-from : (f : Form) (next : ℕ) → at < next → {p : System} {k : ℕ}
       → systemFrom read process at names path preceding f next ≡ got p k → at + actsIn (locate preceding path scope p) ≤ k
   unfolding systemFrom component locate actsIn actsOf
@@ -255,7 +256,7 @@ module _ (read : ℕ → List ℕ → ℕ → ℕ → Read System) (process : �
       let x = parts (read (names + 1) path preceding next) (λ u j. got (newₛ t u) j) e in
       let z : newₛ t (x .value) ≡ p = cc in
       let w : x .place ≡ k = cc in
-      rw (← z) (omega (arith, l (names + 1) path preceding next (scope ++ (t ∷ [])) (x .value) (x .place) (x .first)))
+      rw (← z) (omega (arith, l (names + 1) path preceding next (scope ++ (some t ∷ [])) (x .value) (x .place) (x .first)))
   located-from (Component b) next h {p} {k} e =
       let x = parts (process next) (λ u j. got (compₛ b u) j) e in
       let z : compₛ b (x .value) ≡ p = cc in
@@ -269,7 +270,7 @@ module _ (read : ℕ → List ℕ → ℕ → ℕ → Read System) (process : �
   located-from (Output i) next h e = never e
   located-from Replicate next h e = never e
 
-located-acts : (nest : ℕ) (s : List ℕ) (names : ℕ) (path : List ℕ) (preceding at : ℕ) (scope : List ℕ) (p : System) (k : ℕ)
+located-acts : (nest : ℕ) (s : List ℕ) (names : ℕ) (path : List ℕ) (preceding at : ℕ) (scope : List (Option ℕ)) (p : System) (k : ℕ)
     → readSystem nest s names path preceding at ≡ got p k → at + actsIn (locate preceding path scope p) ≤ k
 unfolding readSystem
 located-acts zero s names path preceding at scope p k e =
@@ -289,10 +290,10 @@ pub interface-short : (s charter : List ℕ) (sheet : Sheet) (k : ℕ) → Sheet
 unfolding interface located
 interface-short s charter sheet k h = omega (
   arith,
-  all-size 0 (locate 0 [] (sheet .free) (sheet .system)) (sheet-storable s charter sheet k h),
-  located-count 0 [] (sheet .free) (sheet .system),
+  all-size 0 (locate 0 [] (map some (sheet .free)) (sheet .system)) (sheet-storable s charter sheet k h),
+  located-count 0 [] (map some (sheet .free)) (sheet .system),
   sheet-components s charter sheet k h,
-  located-acts 64 s (length (sheet .free)) [] 0 (h .start) (sheet .free) (sheet .system) k (h .body),
+  located-acts 64 s (length (sheet .free)) [] 0 (h .start) (map some (sheet .free)) (sheet .system) k (h .body),
   h .end,
   h .short,
 )

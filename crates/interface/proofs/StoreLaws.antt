@@ -1,8 +1,9 @@
 -- The components of a sheet that was read can be stored in the table: their numbers are consecutive, there are at most 32 of
 -- them, their paths have at most eight groups below 64, and they have fewer acts than the sheet has bytes.
 use Prim.Native.Nat.{ℕ, zero, suc, _+_, _-_, _*_, _<_, _≤_}
+use mathlib.Core.Option.{Option, some}
 use mathlib.Core.Path.{_≡_, refl, sym, ap, ap₂, _∙_}
-use mathlib.Core.List.{List, [], _∷_, _++_}
+use mathlib.Core.List.{List, [], _∷_, _++_, map}
 use mathlib.Core.Bool.{Bool, true, false}
 use native.Mathlib.Omega.{arith}
 use lib.ListN.{length, getD, replicate, length-append, length-replicate, getD-replicate, List·getD-append, List·getD-eq-default}
@@ -38,12 +39,12 @@ actCount (input x t p) = suc (actCount p)
 actCount (output x y p) = suc (actCount p)
 actCount (repl p) = actCount p
 
-pub open-acts : (c : Owner) (r : Bool) (scope : List ℕ) (p : Process) → length (acts c r scope p) ≡ actCount p
+pub open-acts : (c : Owner) (r : Bool) (scope : List (Option ℕ)) (p : Process) → length (acts c r scope p) ≡ actCount p
 unfolding acts actCount
 open-acts c r scope nil = refl
 open-acts c r scope (par p q) = length-append (acts c r scope p) (acts c r scope q) ∙ ap₂ _+_ (open-acts c r scope p) (open-acts c r scope q)
-open-acts c r scope (new t p) = open-acts c r (scope ++ (t ∷ [])) p
-open-acts c r scope (input x t p) = ap suc (open-acts c r (scope ++ (t ∷ [])) p)
+open-acts c r scope (new t p) = open-acts c r (scope ++ (some t ∷ [])) p
+open-acts c r scope (input x t p) = ap suc (open-acts c r (scope ++ (some t ∷ [])) p)
 open-acts c r scope (output x y p) = ap suc (open-acts c r scope p)
 open-acts c r scope (repl p) = open-acts c true scope p
 
@@ -99,12 +100,12 @@ all-append : (n : ℕ) {xs ys : List Act} → AllOf n xs → AllOf n ys → AllO
 all-append n of-none h = h
 all-append n (of-more e more) h = of-more e (all-append n more h)
 
-own-acts : (c : Owner) (r : Bool) (scope : List ℕ) (p : Process) → AllOf (c .number) (acts c r scope p)
+own-acts : (c : Owner) (r : Bool) (scope : List (Option ℕ)) (p : Process) → AllOf (c .number) (acts c r scope p)
 unfolding acts
 own-acts c r scope nil = of-none
 own-acts c r scope (par p q) = all-append (c .number) (own-acts c r scope p) (own-acts c r scope q)
-own-acts c r scope (new t p) = own-acts c r (scope ++ (t ∷ [])) p
-own-acts c r scope (input x t p) = of-more refl (own-acts c r (scope ++ (t ∷ [])) p)
+own-acts c r scope (new t p) = own-acts c r (scope ++ (some t ∷ [])) p
+own-acts c r scope (input x t p) = of-more refl (own-acts c r (scope ++ (some t ∷ [])) p)
 own-acts c r scope (output x y p) = of-more refl (own-acts c r scope p)
 own-acts c r scope (repl p) = own-acts c true scope p
 
@@ -156,22 +157,22 @@ store-append : (n : ℕ) {xs ys : List Located} (m : ℕ) → AllStorable n xs �
 store-append n {ys = ys} m store-none e h = let f : m ≡ n = omega arith in rw (← f) h
 store-append n m (store-more ok more) e h = store-more ok (store-append (suc n) m more (omega arith) h)
 
-pub located-count : (number : ℕ) (path scope : List ℕ) (s : System) → length (locate number path scope s) ≡ components s
+pub located-count : (number : ℕ) (path : List ℕ) (scope : List (Option ℕ)) (s : System) → length (locate number path scope s) ≡ components s
 unfolding locate components
 located-count number path scope nilₛ = refl
 located-count number path scope (parₛ l r) =
     length-append (locate number path scope l) (locate (number + components l) path scope r)
     ∙ ap₂ _+_ (located-count number path scope l) (located-count (number + components l) path scope r)
 located-count number path scope (groupₛ g p) = located-count number (path ++ (g ∷ [])) scope p
-located-count number path scope (newₛ t p) = located-count number path (scope ++ (t ∷ [])) p
+located-count number path scope (newₛ t p) = located-count number path (scope ++ (some t ∷ [])) p
 located-count number path scope (compₛ g p) = refl
 
 module _ (read : ℕ → List ℕ → ℕ → ℕ → Read System) (process : ℕ → Read Process)
     (later : (ns : ℕ) (path : List ℕ) (preceding m : ℕ) (p : System) (k : ℕ) → read ns path preceding m ≡ got p k → m ≤ k)
-    (l : (ns : ℕ) (path : List ℕ) (preceding m : ℕ) (scope : List ℕ) (p : System) (k : ℕ) → read ns path preceding m ≡ got p k → FitsRow path → k ≤ 65000
+    (l : (ns : ℕ) (path : List ℕ) (preceding m : ℕ) (scope : List (Option ℕ)) (p : System) (k : ℕ) → read ns path preceding m ≡ got p k → FitsRow path → k ≤ 65000
     → AllStorable preceding (locate preceding path scope p))
     (a : (m : ℕ) (p : Process) (k : ℕ) → process m ≡ got p k → m + actCount p ≤ k)
-    (at names : ℕ) (path : List ℕ) (preceding : ℕ) (scope : List ℕ) (fits : FitsRow path) where
+    (at names : ℕ) (path : List ℕ) (preceding : ℕ) (scope : List (Option ℕ)) (fits : FitsRow path) where
   store-from : (f : Form) (next : ℕ) → FitsSystem 64 0 (length path) preceding f → GroupBelow f → {p : System} {k : ℕ}
       → systemFrom read process at names path preceding f next ≡ got p k → k ≤ 65000 → AllStorable preceding (locate preceding path scope p)
   unfolding systemFrom component FitsSystem GroupBelow locate actsOf
@@ -195,7 +196,7 @@ module _ (read : ℕ → List ℕ → ℕ → ℕ → Read System) (process : �
       let x = parts (read (names + 1) path preceding next) (λ u j. got (newₛ t u) j) e in
       let z : newₛ t (x .value) ≡ p = cc in
       let w : x .place ≡ k = cc in
-      rw (← z) (l (names + 1) path preceding next (scope ++ (t ∷ [])) (x .value) (x .place) (x .first) fits (omega arith))
+      rw (← z) (l (names + 1) path preceding next (scope ++ (some t ∷ [])) (x .value) (x .place) (x .first) fits (omega arith))
   store-from (Component b) next h g {p} {k} e few =
       let x = parts (process next) (λ u j. got (compₛ b u) j) e in
       let z : compₛ b (x .value) ≡ p = cc in
@@ -224,7 +225,7 @@ fits-any nest names long preceding (Input a) h = h
 fits-any nest names long preceding (Output a) h = h
 fits-any nest names long preceding Replicate h = h
 
-store-read : (nest : ℕ) (s : List ℕ) (names : ℕ) (path : List ℕ) (preceding at : ℕ) (scope : List ℕ) (p : System) (k : ℕ)
+store-read : (nest : ℕ) (s : List ℕ) (names : ℕ) (path : List ℕ) (preceding at : ℕ) (scope : List (Option ℕ)) (p : System) (k : ℕ)
     → readSystem nest s names path preceding at ≡ got p k → FitsRow path → k ≤ 65000 → AllStorable preceding (locate preceding path scope p)
 unfolding readSystem
 store-read zero s names path preceding at scope p k e fits few =
@@ -243,7 +244,7 @@ store-read (suc n) s names path preceding at scope p k e fits few =
 pub sheet-storable : (s charter : List ℕ) (sheet : Sheet) (k : ℕ) → SheetParts s charter sheet k → AllStorable 0 (located sheet)
 unfolding located
 sheet-storable s charter sheet k h =
-    store-read 64 s (length (sheet .free)) [] 0 (h .start) (sheet .free) (sheet .system) k (h .body)
+    store-read 64 s (length (sheet .free)) [] 0 (h .start) (map some (sheet .free)) (sheet .system) k (h .body)
     (record { short = omega arith; groups = λ i p. absurd (omega arith) }) (omega (arith, h .end, h .short))
 
 pub sheet-components : (s charter : List ℕ) (sheet : Sheet) (k : ℕ) → SheetParts s charter sheet k → components (sheet .system) ≤ 32
@@ -256,11 +257,11 @@ pub sheet-table : (s charter : List ℕ) (sheet : Sheet) (k : ℕ) → SheetPart
     → tableEntries (chargedAll table (located sheet)) (components (sheet .system)) ≡ interface sheet
 unfolding tableEntries interface located
 sheet-table s charter sheet k h rows room table long clear =
-    ap (λ (n : ℕ). gather (rowEntries (chargedAll table (locate 0 [] (sheet .free) (sheet .system)))) (rising 0 n))
-    (sym (located-count 0 [] (sheet .free) (sheet .system)))
-    ∙ table-from (locate 0 [] (sheet .free) (sheet .system)) 0
+    ap (λ (n : ℕ). gather (rowEntries (chargedAll table (locate 0 [] (map some (sheet .free)) (sheet .system)))) (rising 0 n))
+    (sym (located-count 0 [] (map some (sheet .free)) (sheet .system)))
+    ∙ table-from (locate 0 [] (map some (sheet .free)) (sheet .system)) 0
     (sheet-storable s charter sheet k h)
-    (omega (arith, located-count 0 [] (sheet .free) (sheet .system), room))
+    (omega (arith, located-count 0 [] (map some (sheet .free)) (sheet .system), room))
     table long clear
 
 pub clear-zeros : (n : ℕ) → Clear 0 (replicate n 0)

@@ -27,7 +27,7 @@ use Rattle.policy.specs.Grants.{flagGranted, countGranted}
 use Rattle.policy.specs.Satisfies.{hasTree, pathReached, grantsOne, covered}
 use Rattle.service.specs.Questions.{Asked, passed, ask, afterReading, typed, wellFormed, satisfied, Accepted, judged}
 use Rattle.running.specs.Guarantees.{passes, grantsNeed, isFine, ofComponent}
-use Rattle.running.proofs.Alls.{All, done, also, all-both, all-right, all-head, all-each, all-gather, all-member, all-from, all-every}
+use Rattle.running.proofs.Alls.{All, done, also, or-first, or-second, any-member, all-both, all-right, all-head, all-each, all-gather, all-member, all-from, all-every}
 use Rattle.running.proofs.Components.{acts-component, component-acts}
 
 -- A "yes" leaves the question answered and the questions after it.
@@ -148,14 +148,6 @@ unfolding flagged
 first-flag true p rest e hs = all-head hs
 first-flag false p rest e hs = let z : _≡_ {A = ℕ} 0 1 = cc in absurd (omega arith)
 
-or-first : (a b : Bool) → a ≡ true → (a || b) ≡ true
-or-first true b h = refl
-or-first false b h = let z : _≡_ {A = ℕ} 0 1 = cc in absurd (omega arith)
-
-or-second : (a b : Bool) → b ≡ true → (a || b) ≡ true
-or-second true b h = refl
-or-second false b h = h
-
 zero-at-most : (a b : Count) → isZero a ≡ true → atMost a b ≡ true
 unfolding isZero atMost
 zero-at-most (fin zero) (fin n) h = le-leb 0 n (omega arith)
@@ -270,12 +262,7 @@ unfolding needOn need
 need-range b none = tt
 need-range b (some t) = channel-range b (shape t) (shape-range t)
 
--- An act of a list has what the list has.
-any-member : (t : Act → Bool) (a : Act) {xs : List Act} → List·Memᴰ a xs → t a ≡ true → any t xs ≡ true
-unfolding any
-any-member t a (List·Memᴰ·head {x = x} {xs = xs} e) h = or-first (t x) (any t xs) (rw (← e) h)
-any-member t a (List·Memᴰ·tail {x = x} {xs = xs} m) h = or-second (t x) (any t xs) (any-member t a m h)
-
+-- An act of a list weighs at most what the list weighs.
 weigh-least : (b : Bool) (n : ℕ) → atMost (fin n) (weigh b n) ≡ true
 unfolding weigh repeatedly atMost
 weigh-least false n = at-most-self (fin n)

@@ -2,7 +2,8 @@
 use Prim.Native.Nat.{ℕ, _+_, _<_, _≤_}
 use native.Mathlib.Omega.{arith}
 use mathlib.Core.Bool.{Bool, true, false, cond}
-use mathlib.Core.List.{List, [], _∷_, _++_, append-nil, List·Memᴰ}
+use mathlib.Core.List.{List, [], _∷_, _++_, append-nil, map, List·Memᴰ}
+use mathlib.Core.Option.{Option, some}
 use mathlib.Core.Path.{_≡_, refl, sym, ap, ap₂, _∙_}
 use lib.Dec.{eqb}
 use borrow.Author.Tests.{eq-eqb, ne-eqb}
@@ -32,12 +33,12 @@ only-none p done = refl
 only-none p (also {x = x} h hs) = rw (h, only-none p hs)
 
 -- Every act of a process is its component's.
-pub acts-component : (c : Component) (b : Bool) (scope : List ℕ) (p : Process) → All (λ a. a .component ≡ c) (acts c b scope p)
+pub acts-component : (c : Component) (b : Bool) (scope : List (Option ℕ)) (p : Process) → All (λ a. a .component ≡ c) (acts c b scope p)
 unfolding acts
 acts-component c b scope nil = done
 acts-component c b scope (par p q) = all-append (acts-component c b scope p) (acts-component c b scope q)
-acts-component c b scope (new t p) = acts-component c b (scope ++ (t ∷ [])) p
-acts-component c b scope (input x t p) = also refl (acts-component c b (scope ++ (t ∷ [])) p)
+acts-component c b scope (new t p) = acts-component c b (scope ++ (some t ∷ [])) p
+acts-component c b scope (input x t p) = also refl (acts-component c b (scope ++ (some t ∷ [])) p)
 acts-component c b scope (output x y p) = also refl (acts-component c b scope p)
 acts-component c b scope (repl p) = acts-component c true scope p
 
@@ -69,7 +70,7 @@ record Within (m n : ℕ) (l : Located) : Type 0 where
   low : m ≤ l .component .number
   high : l .component .number < n
 
-numbers : (m : ℕ) (path scope : List ℕ) (s : System) → All (Within m (m + components s)) (locate m path scope s)
+numbers : (m : ℕ) (path : List ℕ) (scope : List (Option ℕ)) (s : System) → All (Within m (m + components s)) (locate m path scope s)
 unfolding locate components
 numbers m path scope nilₛ = done
 numbers m path scope (parₛ p q) =
@@ -77,7 +78,7 @@ numbers m path scope (parₛ p q) =
     (all-map (λ l (h : Within m (m + components p) l). record { low = h .low; high = omega arith }) (numbers m path scope p))
     (all-map (λ l (h : Within (m + components p) (m + components p + components q) l). record { low = omega arith; high = omega arith }) (numbers (m + components p) path scope q))
 numbers m path scope (groupₛ g p) = numbers m (path ++ (g ∷ [])) scope p
-numbers m path scope (newₛ t p) = numbers m path (scope ++ (t ∷ [])) p
+numbers m path scope (newₛ t p) = numbers m path (scope ++ (some t ∷ [])) p
 numbers m path scope (compₛ g p) =
     let a : m ≤ m = omega arith in
     let b : m < m + 1 = omega arith in
@@ -101,7 +102,7 @@ own-one : (l : Located) → ofComponent (l .component .number) (gather actsOf (l
 unfolding gather
 own-one l = rw (append-nil (actsOf l)) (own-acts l)
 
-own : (m : ℕ) (path scope : List ℕ) (s : System)
+own : (m : ℕ) (path : List ℕ) (scope : List (Option ℕ)) (s : System)
     → All (λ l. ofComponent (l .component .number) (gather actsOf (locate m path scope s)) ≡ actsOf l) (locate m path scope s)
 unfolding locate
 own m path scope nilₛ = done
@@ -112,9 +113,9 @@ own m path scope (parₛ p q) =
     (all-both (λ l h e. left-own l (locate m path scope p) (locate (m + components p) path scope q) m (m + components p) (m + components p + components q) h nr e) nl (own m path scope p))
     (all-both (λ l h e. right-own l (locate m path scope p) (locate (m + components p) path scope q) m (m + components p) (m + components p + components q) h nl e) nr (own (m + components p) path scope q))
 own m path scope (groupₛ g p) = own m (path ++ (g ∷ [])) scope p
-own m path scope (newₛ t p) = own m path (scope ++ (t ∷ [])) p
+own m path scope (newₛ t p) = own m path (scope ++ (some t ∷ [])) p
 own m path scope (compₛ g p) = also (own-one (record { component = record { number = m; path = path ++ (g ∷ []) }; scope = scope; process = p })) done
 
 pub component-acts : (sheet : Sheet) (l : Located) → List·Memᴰ l (located sheet) → ofComponent (l .component .number) (sheetActs sheet) ≡ actsOf l
 unfolding sheetActs located
-component-acts sheet l m = all-member m (own 0 [] (sheet .free) (sheet .system))
+component-acts sheet l m = all-member m (own 0 [] (map some (sheet .free)) (sheet .system))

@@ -16,8 +16,9 @@ use Rattle.reading.specs.Types.{shape}
 use Rattle.reading.specs.declared.Shape.{Shape}
 use Rattle.reading.specs.declared.Shape.the-variants.{Plain, Channel}
 use Rattle.inference.specs.Counts.{Count, fin, _⊕_, atMost}
-use Rattle.inference.specs.Acts.{Act, acts}
+use Rattle.inference.specs.Acts.{Act, typeOf, acts}
 use Rattle.inference.specs.Typing.{isKnown, ofShape, ofChannel, isType, inScope, onChannel, carriesObject, inPath}
+use Rattle.inference.proofs.RowSteps.{elem-in}
 use Rattle.inference.proofs.CountLaws.{nothing-join, at-most-self}
 use Rattle.running.specs.State.{Thread, State}
 use Rattle.running.specs.Products.{news, threadsOf}
@@ -29,11 +30,11 @@ use Rattle.running.proofs.Owed.{bare, weightOf, weight-append, unfold-f
 
 -- A name in scope is a run name with that type.
 record Found (τ names : List ℕ) (x : ℕ) : Type 0 where
-  type : getElem? (scopeOf τ names) x ≡ some (getD τ (getD names x 65535) 0)
+  type : typeOf (scopeOf τ names) x ≡ getElem? τ (getD names x 65535)
   known : getD names x 65535 < length τ
 
-found : (τ names : List ℕ) (x : ℕ) → Bound τ names → isKnown (getElem? (scopeOf τ names) x) ≡ true → Found τ names x
-unfolding scopeOf isKnown
+found : (τ names : List ℕ) (x : ℕ) → Bound τ names → isKnown (typeOf (scopeOf τ names) x) ≡ true → Found τ names x
+unfolding scopeOf typeOf isKnown
 found τ [] x done h = let z : false ≡ true = h in let y : _≡_ {A = ℕ} 0 1 = cc in absurd (omega arith)
 found τ (n ∷ names) zero (also b bs) h = record { type = refl; known = b }
 found τ (n ∷ names) (suc x) (also b bs) h = let r : Found τ names x = found τ names x bs h in record { type = r .type; known = r .known }
@@ -51,22 +52,22 @@ agree none o u h e = let z : false ≡ true = h in cc
 agree (some c) o u h e = agree-shape (shape c) o u h e
 
 -- Elimination of the questions of a move.
-on-guard : (R : Result → Type 0) (n : ℕ) (b : Bool) (r : Result) → ((k : ℕ) → R (refuses k)) → (b ≡ true → R r) → R (guard n b r)
+pub on-guard : (R : Result → Type 0) (n : ℕ) (b : Bool) (r : Result) → ((k : ℕ) → R (refuses k)) → (b ≡ true → R r) → R (guard n b r)
 unfolding guard
 on-guard R n true r nay go = go refl
 on-guard R n false r nay go = nay n
 
-on-given : {A : Type 0} (R : Result → Type 0) (n : ℕ) (o : Option A) (f : A → Result) → ((k : ℕ) → R (refuses k))
+pub on-given : {A : Type 0} (R : Result → Type 0) (n : ℕ) (o : Option A) (f : A → Result) → ((k : ℕ) → R (refuses k))
     → ((a : A) → o ≡ some a → R (f a)) → R (given n o f)
 unfolding given
 on-given R n none f nay go = nay n
 on-given R n (some a) f nay go = go a refl
 
-on-taken : (R : Result → Type 0) (s : State) (bytes : List ℕ) → ((k : ℕ) → R (refuses k)) → R (takes s bytes) → R (taken s bytes)
+pub on-taken : (R : Result → Type 0) (s : State) (bytes : List ℕ) → ((k : ℕ) → R (refuses k)) → R (takes s bytes) → R (taken s bytes)
 unfolding taken
 on-taken R s bytes nay go = on-guard R 35 (hasRoom s) (takes s bytes) nay (λ h. go)
 
-on-sending : (R : Result → Type 0) (n : ℕ) (t : Thread) (p : Process) (f : Sending → Result) → ((k : ℕ) → R (refuses k))
+pub on-sending : (R : Result → Type 0) (n : ℕ) (t : Thread) (p : Process) (f : Sending → Result) → ((k : ℕ) → R (refuses k))
     → ((x y : ℕ) (q : Process) → p ≡ output x y q → R (f (record { channel = runName t x; sent = runName t y; continuation = q })))
     → R (given n (asSending t p) f)
 unfolding given asSending
@@ -77,7 +78,7 @@ on-sending R n t (input x u p) f nay go = nay n
 on-sending R n t (output x y p) f nay go = go x y p refl
 on-sending R n t (repl p) f nay go = nay n
 
-on-receiving : (R : Result → Type 0) (n : ℕ) (t : Thread) (p : Process) (f : Receiving → Result) → ((k : ℕ) → R (refuses k))
+pub on-receiving : (R : Result → Type 0) (n : ℕ) (t : Thread) (p : Process) (f : Receiving → Result) → ((k : ℕ) → R (refuses k))
     → ((x u : ℕ) (q : Process) → p ≡ input x u q → R (f (record { channel = runName t x; bound = u; continuation = q })))
     → R (given n (asReceiving t p) f)
 unfolding given asReceiving
@@ -88,7 +89,7 @@ on-receiving R n t (input x u p) f nay go = go x u p refl
 on-receiving R n t (output x y p) f nay go = nay n
 on-receiving R n t (repl p) f nay go = nay n
 
-on-repeat : (R : Result → Type 0) (n : ℕ) (p : Process) (f : Process → Result) → ((k : ℕ) → R (refuses k))
+pub on-repeat : (R : Result → Type 0) (n : ℕ) (p : Process) (f : Process → Result) → ((k : ℕ) → R (refuses k))
     → ((q : Process) → p ≡ repl q → R (f q)) → R (given n (asRepeat p) f)
 unfolding given asRepeat
 on-repeat R n nil f nay go = nay n
@@ -104,10 +105,10 @@ weightAt w none = 0
 weightAt w (some a) = w (bare a)
 
 unfoldable pub sendAct : List ℕ → Thread → ℕ → ℕ → Act
-sendAct τ t x y = record { component = t .component; repeated = false; sends = true; channel = getElem? (scopeOf τ (t .names)) x; object = getElem? (scopeOf τ (t .names)) y }
+sendAct τ t x y = record { component = t .component; repeated = false; sends = true; channel = typeOf (scopeOf τ (t .names)) x; object = typeOf (scopeOf τ (t .names)) y }
 
 unfoldable pub receiveAct : List ℕ → Thread → ℕ → ℕ → Act
-receiveAct τ t x u = record { component = t .component; repeated = false; sends = false; channel = getElem? (scopeOf τ (t .names)) x; object = some u }
+receiveAct τ t x u = record { component = t .component; repeated = false; sends = false; channel = typeOf (scopeOf τ (t .names)) x; object = some u }
 
 acts-send : (τ : List ℕ) (t : Thread) (x y : ℕ) (p : Process) → t .process ≡ output x y p
     → threadActs τ t ≡ bare (sendAct τ t x y) ∷ acts (t .component) false (scopeOf τ (t .names)) p
@@ -115,7 +116,7 @@ unfolding threadActs acts bare sendAct
 acts-send τ t x y p e = rw e
 
 acts-receive : (τ : List ℕ) (t : Thread) (x u : ℕ) (p : Process) → t .process ≡ input x u p
-    → threadActs τ t ≡ bare (receiveAct τ t x u) ∷ acts (t .component) false (scopeOf τ (t .names) ++ (u ∷ [])) p
+    → threadActs τ t ≡ bare (receiveAct τ t x u) ∷ acts (t .component) false (scopeOf τ (t .names) ++ (some u ∷ [])) p
 unfolding threadActs acts bare receiveAct
 acts-receive τ t x u p e = rw e
 
@@ -157,20 +158,20 @@ fits-send P τ σ t x y p e g =
     (good-later τ (news p ++ σ) t g) (acts-later τ (news p ++ σ) t (g .bound) ∙ acts-send τ t x y p e) m
 
 fits-receive : (P : Act → Type 0) (τ ρ : List ℕ) (t : Thread) (x u v : ℕ) (p : Process) → t .process ≡ input x u p → Good P τ t
-    → v < length τ → getD τ v 0 ≡ u
+    → v < length τ → getElem? τ v ≡ some u
     → Fits P (τ ++ (ρ ++ news p)) (λ w. 0) (threadsOf (t .component) (t .names ++ (v ∷ [])) (length τ + length ρ) p) (t ∷ [])
 fits-receive P τ ρ t x u v p e g h k =
     let n : length (τ ++ ρ) ≡ length τ + length ρ = length-append τ ρ in
     let b : Bound τ (t .names ++ (v ∷ [])) = all-append (g .bound) (also h done) in
     let m₁ : Made ((τ ++ ρ) ++ (news p ++ [])) (threadsOf (t .component) (t .names ++ (v ∷ [])) (length τ + length ρ) p) (acts (t .component) false (scopeOf (τ ++ ρ) (t .names ++ (v ∷ []))) p)
     = products (t .component) (τ ++ ρ) [] (t .names ++ (v ∷ [])) (length τ + length ρ) p n (bound-later τ ρ b) in
-    let s : scopeOf (τ ++ ρ) (t .names ++ (v ∷ [])) ≡ scopeOf τ (t .names) ++ (u ∷ [])
+    let s : scopeOf (τ ++ ρ) (t .names ++ (v ∷ [])) ≡ scopeOf τ (t .names) ++ (some u ∷ [])
     = scope-later τ ρ b ∙ scope-snoc τ (t .names) v ∙ ap (λ l. scopeOf τ (t .names) ++ (l ∷ [])) k in
     let a : (τ ++ ρ) ++ news p ≡ τ ++ (ρ ++ news p) = append-assoc τ ρ (news p) in
-    let m : Made (τ ++ (ρ ++ news p)) (threadsOf (t .component) (t .names ++ (v ∷ [])) (length τ + length ρ) p) (acts (t .component) false (scopeOf τ (t .names) ++ (u ∷ [])) p)
+    let m : Made (τ ++ (ρ ++ news p)) (threadsOf (t .component) (t .names ++ (v ∷ [])) (length τ + length ρ) p) (acts (t .component) false (scopeOf τ (t .names) ++ (some u ∷ [])) p)
     = rw (append-nil (news p), s, a) at m₁ in
     fits-free P (τ ++ (ρ ++ news p)) (λ w. w (bare (receiveAct τ t x u))) (threadsOf (t .component) (t .names ++ (v ∷ [])) (length τ + length ρ) p) (t ∷ [])
-    (fits-act P (τ ++ (ρ ++ news p)) t (receiveAct τ t x u) (acts (t .component) false (scopeOf τ (t .names) ++ (u ∷ [])) p) (threadsOf (t .component) (t .names ++ (v ∷ [])) (length τ + length ρ) p)
+    (fits-act P (τ ++ (ρ ++ news p)) t (receiveAct τ t x u) (acts (t .component) false (scopeOf τ (t .names) ++ (some u ∷ [])) p) (threadsOf (t .component) (t .names ++ (v ∷ [])) (length τ + length ρ) p)
     (good-later τ (ρ ++ news p) t g) (acts-later τ (ρ ++ news p) t (g .bound) ∙ acts-receive τ t x u p e) m)
 
 -- A good state: every thread good, and every name given known to the environment or not.
@@ -233,6 +234,9 @@ known-typed : (P : Act → Type 0) (s : State) (n : ℕ) → Sound P s → envir
 unfolding environmentKnows
 known-typed P s n d h = omega (arith, known-given (s .known) n h, d .flags)
 
+type-at : (τ : List ℕ) (v u : ℕ) → v < length τ → getD τ v 0 ≡ u → getElem? τ v ≡ some u
+type-at τ v u h e = sym (elem-in τ v h) ∙ ap some e
+
 -- A sender is no receiver.
 two-threads : (ts : List Thread) (i j : ℕ) (t u : Thread) (x y x′ v : ℕ) (p q : Process) → getElem? ts i ≡ some t → getElem? ts j ≡ some u
     → t .process ≡ output x y p → u .process ≡ input x′ v q → i ≡ j → ⊥
@@ -257,24 +261,23 @@ next-holds P τ t a rest g e = all-head (rw e at (g .holds))
 -- The name sent in a communication has a type, the bound one.
 record Sent (τ : List ℕ) (n v : ℕ) : Type 0 where
   given-before : n < length τ
-  of-type : getD τ n 0 ≡ v
+  of-type : getElem? τ n ≡ some v
 
 sent : (τ : List ℕ) (t u : Thread) (x y x′ v : ℕ) → Bound τ (t .names) → Bound τ (u .names) → runName t x ≡ runName u x′
     → passes (bare (sendAct τ t x y)) ≡ true → passes (bare (receiveAct τ u x′ v)) ≡ true → Sent τ (runName t y) v
 unfolding runName bare sendAct receiveAct inScope carriesObject
 sent τ t u x y x′ v b c e h k =
-    let h₁ : (isKnown (getElem? (scopeOf τ (t .names)) x) && isKnown (getElem? (scopeOf τ (t .names)) y)) ≡ true = passes-scope (bare (sendAct τ t x y)) h in
-    let h₂ : ofChannel (λ g l. isType l (getElem? (scopeOf τ (t .names)) y)) (getElem? (scopeOf τ (t .names)) x) ≡ true = passes-carries (bare (sendAct τ t x y)) h in
-    let k₁ : (isKnown (getElem? (scopeOf τ (u .names)) x′) && isKnown (some v)) ≡ true = passes-scope (bare (receiveAct τ u x′ v)) k in
-    let k₂ : ofChannel (λ g l. isType l (some v)) (getElem? (scopeOf τ (u .names)) x′) ≡ true = passes-carries (bare (receiveAct τ u x′ v)) k in
-    let fx : Found τ (t .names) x = found τ (t .names) x b (both-left (isKnown (getElem? (scopeOf τ (t .names)) x)) (isKnown (getElem? (scopeOf τ (t .names)) y)) h₁) in
-    let fy : Found τ (t .names) y = found τ (t .names) y b (both-right (isKnown (getElem? (scopeOf τ (t .names)) x)) (isKnown (getElem? (scopeOf τ (t .names)) y)) h₁) in
-    let fu : Found τ (u .names) x′ = found τ (u .names) x′ c (both-left (isKnown (getElem? (scopeOf τ (u .names)) x′)) (isKnown (some v)) k₁) in
-    let same : getElem? (scopeOf τ (u .names)) x′ ≡ getElem? (scopeOf τ (t .names)) x
-    = fu .type ∙ ap (λ n. some (getD τ n 0)) (sym e) ∙ sym (fx .type) in
-    let o : getElem? (scopeOf τ (t .names)) y ≡ some v = agree (getElem? (scopeOf τ (t .names)) x) (getElem? (scopeOf τ (t .names)) y) v h₂ (rw same at k₂) in
-    let l : some (getD τ (getD (t .names) y 65535) 0) ≡ some v = sym (fy .type) ∙ o in
-    record { given-before = fy .known; of-type = cc }
+    let h₁ : (isKnown (typeOf (scopeOf τ (t .names)) x) && isKnown (typeOf (scopeOf τ (t .names)) y)) ≡ true = passes-scope (bare (sendAct τ t x y)) h in
+    let h₂ : ofChannel (λ g l. isType l (typeOf (scopeOf τ (t .names)) y)) (typeOf (scopeOf τ (t .names)) x) ≡ true = passes-carries (bare (sendAct τ t x y)) h in
+    let k₁ : (isKnown (typeOf (scopeOf τ (u .names)) x′) && isKnown (some v)) ≡ true = passes-scope (bare (receiveAct τ u x′ v)) k in
+    let k₂ : ofChannel (λ g l. isType l (some v)) (typeOf (scopeOf τ (u .names)) x′) ≡ true = passes-carries (bare (receiveAct τ u x′ v)) k in
+    let fx : Found τ (t .names) x = found τ (t .names) x b (both-left (isKnown (typeOf (scopeOf τ (t .names)) x)) (isKnown (typeOf (scopeOf τ (t .names)) y)) h₁) in
+    let fy : Found τ (t .names) y = found τ (t .names) y b (both-right (isKnown (typeOf (scopeOf τ (t .names)) x)) (isKnown (typeOf (scopeOf τ (t .names)) y)) h₁) in
+    let fu : Found τ (u .names) x′ = found τ (u .names) x′ c (both-left (isKnown (typeOf (scopeOf τ (u .names)) x′)) (isKnown (some v)) k₁) in
+    let same : typeOf (scopeOf τ (u .names)) x′ ≡ typeOf (scopeOf τ (t .names)) x
+    = fu .type ∙ ap (λ n. getElem? τ n) (sym e) ∙ sym (fx .type) in
+    let o : typeOf (scopeOf τ (t .names)) y ≡ some v = agree (typeOf (scopeOf τ (t .names)) x) (typeOf (scopeOf τ (t .names)) y) v h₂ (rw same at k₂) in
+    record { given-before = fy .known; of-type = sym (fy .type) ∙ o }
 
 -- One thread's place taken.
 fits-place : (P : Act → Type 0) (s : State) (σ : List ℕ) (spent : (Act → ℕ) → ℕ) (i : ℕ) (t : Thread) (x : List Thread) → Sound P s
@@ -318,7 +321,7 @@ module _ (P : Act → Type 0) (typed : (a : Act) → P a → passes a ≡ true) 
       (fits-place P s (news p) (λ w. 0) i t _ d e
       (fits-receive P (s .types) [] t x u v p h (all-at (s .threads) i e (d .threads))
       (known-typed P s v d (both-right (environmentKnows s (runName t x)) (environmentKnows s v) b))
-      (eqb-true (getD (s .types) v 0) u c)))))))))
+      (type-at (s .types) v u (known-typed P s v d (both-right (environmentKnows s (runName t x)) (environmentKnows s v) b)) (eqb-true (getD (s .types) v 0) u c))))))))))
 
   fits-communicate : (s : State) (i j : ℕ) (t u : Thread) (x y x′ v : ℕ) (p q : Process) → Sound P s
       → getElem? (s .threads) i ≡ some t → getElem? (s .threads) j ≡ some u → t .process ≡ output x y p → u .process ≡ input x′ v q

@@ -8,5 +8,6 @@ pub mod Owed
 pub mod Invariant
 pub mod Components
 pub mod Accepted
+pub mod Homes
 pub mod Runs
 pub mod Theorem

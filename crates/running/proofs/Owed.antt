@@ -5,13 +5,13 @@ use Prim.Native.Nat.{ℕ, zero, suc, _+_}
 use native.Mathlib.Omega.{arith}
 use mathlib.Core.Bool.{Bool, true, false}
 use mathlib.Core.List.{List, [], _∷_, _++_, append-nil}
-use mathlib.Core.Option.{some}
+use mathlib.Core.Option.{Option, some}
 use mathlib.Core.Path.{_≡_, refl, sym, ap, ap₂, _∙_}
 use lib.ListN.{getElem?, set}
 use Rattle.reading.specs.Syntax.{Process, nil, par, new, input, output, repl}
 use Rattle.inference.specs.Lists.{gather}
 use Rattle.inference.specs.Counts.{Count, fin, unlimited, _⊕_, atMost, repeatedly}
-use Rattle.inference.specs.Acts.{Component, Act, acts}
+use Rattle.inference.specs.Acts.{Component, Act, typeOf, acts}
 use Rattle.inference.specs.Needs.{weigh, total}
 use Rattle.inference.proofs.CountLaws.{join-comm, join-assoc, nothing-join, at-most-self, at-most-trans, at-most-joined, join-mono}
 use Rattle.inference.proofs.ActLaws.{total-append, forever, forever-join, one-repeated}
@@ -33,7 +33,7 @@ unfolding weightOf
 weight-append w xs ys = total-append (λ a. w (bare a)) xs ys
 
 -- What a process weighs under a repeat.
-pub weight-repeated : (w : Act → ℕ) (c : Component) (b : Bool) (scope : List ℕ) (p : Process)
+pub weight-repeated : (w : Act → ℕ) (c : Component) (b : Bool) (scope : List (Option ℕ)) (p : Process)
     → weightOf w (acts c true scope p) ≡ forever (weightOf w (acts c b scope p))
 unfolding weightOf acts total bare forever repeatedly
 weight-repeated w c b scope nil = refl
@@ -44,13 +44,13 @@ weight-repeated w c b scope (par p q) =
     ∙ ap₂ _⊕_ l r
     ∙ sym (forever-join (weightOf w (acts c b scope p)) (weightOf w (acts c b scope q)))
     ∙ ap forever (sym (weight-append w (acts c b scope p) (acts c b scope q)))
-weight-repeated w c b scope (new t p) = weight-repeated w c b (scope ++ (t ∷ [])) p
+weight-repeated w c b scope (new t p) = weight-repeated w c b (scope ++ (some t ∷ [])) p
 weight-repeated w c b scope (input x t p) =
-    one-repeated b (w (record { component = c; repeated = false; sends = false; channel = getElem? scope x; object = some t }))
-    (weightOf w (acts c true (scope ++ (t ∷ [])) p)) (weightOf w (acts c b (scope ++ (t ∷ [])) p))
-    (weight-repeated w c b (scope ++ (t ∷ [])) p)
+    one-repeated b (w (record { component = c; repeated = false; sends = false; channel = typeOf scope x; object = some t }))
+    (weightOf w (acts c true (scope ++ (some t ∷ [])) p)) (weightOf w (acts c b (scope ++ (some t ∷ [])) p))
+    (weight-repeated w c b (scope ++ (some t ∷ [])) p)
 weight-repeated w c b scope (output x y p) =
-    one-repeated b (w (record { component = c; repeated = false; sends = true; channel = getElem? scope x; object = getElem? scope y }))
+    one-repeated b (w (record { component = c; repeated = false; sends = true; channel = typeOf scope x; object = typeOf scope y }))
     (weightOf w (acts c true scope p)) (weightOf w (acts c b scope p)) (weight-repeated w c b scope p)
 weight-repeated w c b scope (repl p) = weight-repeated w c true scope p
 
@@ -61,7 +61,7 @@ absorbs (fin (suc n)) = refl
 absorbs unlimited = refl
 
 -- An unfolding costs nothing.
-pub unfold-free : (w : Act → ℕ) (c : Component) (scope : List ℕ) (p : Process)
+pub unfold-free : (w : Act → ℕ) (c : Component) (scope : List (Option ℕ)) (p : Process)
     → weightOf w (acts c false scope p ++ acts c true scope p) ≡ weightOf w (acts c true scope p)
 unfold-free w c scope p =
     let r : weightOf w (acts c true scope p) ≡ forever (weightOf w (acts c false scope p)) = weight-repeated w c false scope p in
@@ -70,15 +70,15 @@ unfold-free w c scope p =
 
 -- A property that does not look at repeats holds of the acts of an unfolding.
 module _ (P : Act → Type 0) where
-  pub all-unfolded : (c : Component) (b : Bool) (scope : List ℕ) (p : Process)
+  pub all-unfolded : (c : Component) (b : Bool) (scope : List (Option ℕ)) (p : Process)
       → All (λ a. P (bare a)) (acts c true scope p) → All (λ a. P (bare a)) (acts c b scope p)
   unfolding acts bare
   all-unfolded c b scope nil h = done
   all-unfolded c b scope (par p q) h =
       all-append (all-unfolded c b scope p (all-left (acts c true scope p) (acts c true scope q) h))
       (all-unfolded c b scope q (all-right (acts c true scope p) (acts c true scope q) h))
-  all-unfolded c b scope (new t p) h = all-unfolded c b (scope ++ (t ∷ [])) p h
-  all-unfolded c b scope (input x t p) (also h hs) = also h (all-unfolded c b (scope ++ (t ∷ [])) p hs)
+  all-unfolded c b scope (new t p) h = all-unfolded c b (scope ++ (some t ∷ [])) p h
+  all-unfolded c b scope (input x t p) (also h hs) = also h (all-unfolded c b (scope ++ (some t ∷ [])) p hs)
   all-unfolded c b scope (output x y p) (also h hs) = also h (all-unfolded c b scope p hs)
   all-unfolded c b scope (repl p) h = h
 

@@ -4,10 +4,10 @@
 use Prim.Native.Nat.{ℕ, zero, suc, _+_, _<_, _≤_}
 use native.Mathlib.Omega.{arith}
 use mathlib.Core.Bool.{false}
-use mathlib.Core.List.{List, [], _∷_, _++_, append-assoc}
+use mathlib.Core.List.{List, [], _∷_, _++_, append-assoc, map}
+use mathlib.Core.Option.{Option, some}
 use mathlib.Core.Path.{_≡_, refl, ap, ap₂, _∙_}
-use lib.ListN.{length, getD, length-append, List·getD-append}
-use lib.Seq.{getD-append-seam}
+use lib.ListN.{length, getElem?, length-append}
 use Rattle.reading.specs.Syntax.{Process, nil, par, new, input, output, repl, System, nilₛ, parₛ, groupₛ, newₛ, compₛ, Sheet, components}
 use Rattle.inference.specs.Lists.{gather, rising}
 use Rattle.inference.specs.Acts.{Component, Act, acts, locate, located, actsOf, sheetActs}
@@ -23,19 +23,28 @@ Bound types names = All (λ n. n < length types) names
 pub bound-later : (τ σ : List ℕ) {names : List ℕ} → Bound τ names → Bound (τ ++ σ) names
 bound-later τ σ b = all-map (λ n (h : n < length τ). omega (arith, length-append τ σ)) b
 
+elem-before : (τ σ : List ℕ) (n : ℕ) → n < length τ → getElem? (τ ++ σ) n ≡ getElem? τ n
+elem-before [] σ n h = absurd (omega arith)
+elem-before (t ∷ τ) σ zero h = refl
+elem-before (t ∷ τ) σ (suc n) h = elem-before τ σ n (omega arith)
+
+elem-seam : (τ σ : List ℕ) (t : ℕ) → getElem? (τ ++ (t ∷ σ)) (length τ) ≡ some t
+elem-seam [] σ t = refl
+elem-seam (u ∷ τ) σ t = elem-seam τ σ t
+
 pub scope-later : (τ σ : List ℕ) {names : List ℕ} → Bound τ names → scopeOf (τ ++ σ) names ≡ scopeOf τ names
 unfolding scopeOf
 scope-later τ σ done = refl
-scope-later τ σ (also {x = n} h b) = ap₂ _∷_ (List·getD-append τ σ 0 n h) (scope-later τ σ b)
+scope-later τ σ (also {x = n} h b) = ap₂ _∷_ (elem-before τ σ n h) (scope-later τ σ b)
 
 append-nil : {A : Type 0} (xs : List A) → xs ++ [] ≡ xs
 append-nil [] = refl
 append-nil (x ∷ xs) = ap (λ l. x ∷ l) (append-nil xs)
 
-pub scope-snoc : (τ names : List ℕ) (n : ℕ) → scopeOf τ (names ++ (n ∷ [])) ≡ scopeOf τ names ++ (getD τ n 0 ∷ [])
+pub scope-snoc : (τ names : List ℕ) (n : ℕ) → scopeOf τ (names ++ (n ∷ [])) ≡ scopeOf τ names ++ (getElem? τ n ∷ [])
 unfolding scopeOf
 scope-snoc τ [] n = refl
-scope-snoc τ (m ∷ names) n = ap (λ l. getD τ m 0 ∷ l) (scope-snoc τ names n)
+scope-snoc τ (m ∷ names) n = ap (λ l. getElem? τ m ∷ l) (scope-snoc τ names n)
 
 -- Threads whose acts are these, and whose names have types.
 pub record Made (types : List ℕ) (threads : List Thread) (all : List Act) : Type 0 where
@@ -66,9 +75,9 @@ bound-snoc τ names t n e b =
     all-append (bound-later τ (t ∷ []) b) (also h done)
 
 scope-new : (τ names : List ℕ) (t n : ℕ) → length τ ≡ n → Bound τ names
-    → scopeOf (τ ++ (t ∷ [])) (names ++ (n ∷ [])) ≡ scopeOf τ names ++ (t ∷ [])
+    → scopeOf (τ ++ (t ∷ [])) (names ++ (n ∷ [])) ≡ scopeOf τ names ++ (some t ∷ [])
 scope-new τ names t n e b =
-    let h : getD (τ ++ (t ∷ [])) n 0 ≡ t = rw (← e) (getD-append-seam τ t [] 0) in
+    let h : getElem? (τ ++ (t ∷ [])) n ≡ some t = rw (← e) (elem-seam τ [] t) in
     let k : scopeOf (τ ++ (t ∷ [])) names ≡ scopeOf τ names = scope-later τ (t ∷ []) b in
     scope-snoc (τ ++ (t ∷ [])) names n ∙ rw (h, k) refl
 
@@ -94,7 +103,7 @@ products c τ σ names next (par p q) e b =
 products c τ σ names next (new t p) e b =
     let r : Made ((τ ++ (t ∷ [])) ++ (news p ++ σ)) (threadsOf c (names ++ (next ∷ [])) (next + 1) p) (acts c false (scopeOf (τ ++ (t ∷ [])) (names ++ (next ∷ []))) p)
     = products c (τ ++ (t ∷ [])) σ (names ++ (next ∷ [])) (next + 1) p (length-snoc τ t next e) (bound-snoc τ names t next e b) in
-    let k : scopeOf (τ ++ (t ∷ [])) (names ++ (next ∷ [])) ≡ scopeOf τ names ++ (t ∷ []) = scope-new τ names t next e b in
+    let k : scopeOf (τ ++ (t ∷ [])) (names ++ (next ∷ [])) ≡ scopeOf τ names ++ (some t ∷ []) = scope-new τ names t next e b in
     let a : (τ ++ (t ∷ [])) ++ (news p ++ σ) ≡ τ ++ (t ∷ (news p ++ σ)) = append-assoc τ (t ∷ []) (news p ++ σ) in
     rw (k, a) at r
 products c τ σ names next (input x t p) e b = made-thread τ σ c names (input x t p) b
@@ -125,7 +134,7 @@ made-system m path τ σ names next (newₛ t p) e b =
     let r : Made ((τ ++ (t ∷ [])) ++ (systemNews p ++ σ)) (systemThreads m path (names ++ (next ∷ [])) (next + 1) p)
     (gather actsOf (locate m path (scopeOf (τ ++ (t ∷ [])) (names ++ (next ∷ []))) p))
     = made-system m path (τ ++ (t ∷ [])) σ (names ++ (next ∷ [])) (next + 1) p (length-snoc τ t next e) (bound-snoc τ names t next e b) in
-    let k : scopeOf (τ ++ (t ∷ [])) (names ++ (next ∷ [])) ≡ scopeOf τ names ++ (t ∷ []) = scope-new τ names t next e b in
+    let k : scopeOf (τ ++ (t ∷ [])) (names ++ (next ∷ [])) ≡ scopeOf τ names ++ (some t ∷ []) = scope-new τ names t next e b in
     let a : (τ ++ (t ∷ [])) ++ (systemNews p ++ σ) ≡ τ ++ (t ∷ (systemNews p ++ σ)) = append-assoc τ (t ∷ []) (systemNews p ++ σ) in
     rw (k, a) at r
 made-system m path τ σ names next (compₛ g p) e b =
@@ -141,14 +150,14 @@ bound-rising τ k (suc n) h =
     let b : suc k + n ≤ length τ = omega arith in
     also a (bound-rising τ (suc k) n b)
 
-scope-rising : (xs ys : List ℕ) (k : ℕ) → length xs ≡ k → scopeOf (xs ++ ys) (rising k (length ys)) ≡ ys
+scope-rising : (xs ys : List ℕ) (k : ℕ) → length xs ≡ k → scopeOf (xs ++ ys) (rising k (length ys)) ≡ map some ys
 unfolding scopeOf rising
 scope-rising xs [] k e = refl
 scope-rising xs (y ∷ ys) k e =
-    let h : getD (xs ++ (y ∷ ys)) k 0 ≡ y = rw (← e) (getD-append-seam xs y ys 0) in
+    let h : getElem? (xs ++ (y ∷ ys)) k ≡ some y = rw (← e) (elem-seam xs ys y) in
     let l : length (xs ++ (y ∷ [])) ≡ suc k = omega (arith, length-append xs (y ∷ [])) in
     let a : (xs ++ (y ∷ [])) ++ ys ≡ xs ++ (y ∷ ys) = append-assoc xs (y ∷ []) ys in
-    let r : scopeOf (xs ++ (y ∷ ys)) (rising (suc k) (length ys)) ≡ ys = rw a at (scope-rising (xs ++ (y ∷ [])) ys (suc k) l) in
+    let r : scopeOf (xs ++ (y ∷ ys)) (rising (suc k) (length ys)) ≡ map some ys = rw a at (scope-rising (xs ++ (y ∷ [])) ys (suc k) l) in
     ap₂ _∷_ h r
 
 -- "The start is the free names with their types and what the sheet's system makes of threads and new names."
@@ -161,7 +170,7 @@ made-start sheet =
     (gather actsOf (locate 0 [] (scopeOf (sheet .free) (rising 0 (length (sheet .free)))) (sheet .system)))
     = made-system 0 [] (sheet .free) [] (rising 0 (length (sheet .free))) (length (sheet .free)) (sheet .system) refl
     (bound-rising (sheet .free) 0 (length (sheet .free)) (omega arith)) in
-    let k : scopeOf (sheet .free) (rising 0 (length (sheet .free))) ≡ sheet .free = scope-rising [] (sheet .free) 0 refl in
+    let k : scopeOf (sheet .free) (rising 0 (length (sheet .free))) ≡ map some (sheet .free) = scope-rising [] (sheet .free) 0 refl in
     let a : systemNews (sheet .system) ++ [] ≡ systemNews (sheet .system) = append-nil (systemNews (sheet .system)) in
     rw (k, a) at r
 

@@ -6,14 +6,15 @@ use mathlib.Core.Bool.{Bool, true, false, cond, _&&_, _||_}
 use mathlib.Core.List.{List, [], _∷_}
 use mathlib.Core.Option.{Option, some, none}
 use mathlib.Core.Path.{_≡_, refl, sym, ap, _∙_}
-use lib.ListN.{length, replicate, length-append, length-replicate}
+use lib.ListN.{length, getElem?, replicate, length-append, length-replicate}
 use lib.Dec.{eqb}
 use Rattle.reading.proofs.TotalLaws.{both-left}
 use Rattle.reading.specs.Syntax.{Process, nil, par, new, input, output, repl, Sheet}
 use Rattle.inference.specs.Lists.{every, any, only}
 use Rattle.inference.specs.Counts.{Count, fin, unlimited, _⊕_, atMost, repeatedly}
 use Rattle.inference.specs.Acts.{Act, sheetActs}
-use Rattle.inference.specs.Typing.{inScope, onChannel, carriesObject, inPath}
+use Rattle.inference.proofs.RowSteps.{elem-in}
+use Rattle.inference.specs.Typing.{isKnown, inScope, onChannel, carriesObject, inPath}
 use Rattle.inference.specs.Needs.{needOf, isRead, isWrite, isAccess, disclosures, weigh, total, disclosed}
 use Rattle.inference.specs.declared.Need.{Need}
 use Rattle.inference.proofs.CountLaws.{join-comm, nothing-join, at-most-trans, at-most-joined}
@@ -21,9 +22,9 @@ use Rattle.policy.specs.Syntax.{Tree}
 use Rattle.running.specs.State.{State}
 use Rattle.running.specs.Products.{systemNews, start}
 use Rattle.running.specs.Moves.{Move, step, stateAfter, runStates}
-use Rattle.running.specs.Guarantees.{threadActs, stateActs, passes, isTyped, ofComponent, NotBeyond, nextOf, nextAct, grantsNeed, isFine, nextFine, noError, sendOf, disclosuresOfAct, disclosedBy, isWithin}
-use Rattle.running.proofs.Alls.{All, done, also, all-map, all-both, all-gather, every-all}
-use Rattle.running.proofs.ProductLaws.{made-start, start-acts}
+use Rattle.running.specs.Guarantees.{scopeOf, allNamed, threadActs, stateActs, passes, isTyped, ofComponent, NotBeyond, nextOf, nextAct, grantsNeed, isFine, nextFine, noError, sendOf, disclosuresOfAct, disclosedBy, isWithin}
+use Rattle.running.proofs.Alls.{All, done, also, and-both, all-map, all-both, all-gather, every-all}
+use Rattle.running.proofs.ProductLaws.{Bound, made-start, start-acts}
 use Rattle.running.proofs.Owed.{bare, weightOf, owed, Good, good-made}
 use Rattle.running.proofs.Invariant.{weightAt, sentBy, Sound, Took, stateOwed, run-kept}
 use Rattle.running.proofs.Accepted.{any-self}
@@ -65,6 +66,21 @@ module _ (P : Act → Type 0) (typed : (a : Act) → P a → passes a ≡ true) 
 
   run-acts : All (λ a. P (bare a)) (stateActs (runStates (start sheet) ms))
   run-acts = sound-acts P (runStates (start sheet) ms) (took .sound)
+
+-- Every run name has a type.
+named-scope : (τ : List ℕ) {names : List ℕ} → Bound τ names → every isKnown (scopeOf τ names) ≡ true
+unfolding scopeOf every isKnown
+named-scope τ done = refl
+named-scope τ (also {x = n} {xs = names} h b) =
+    let k : isKnown (getElem? τ n) ≡ true = rw (← elem-in τ n h) refl in
+    and-both (isKnown (getElem? τ n)) (every isKnown (scopeOf τ names)) k (named-scope τ b)
+
+pub run-named : (sheet : Sheet) (ms : List Move) → All (λ a. passes a ≡ true) (sheetActs sheet) → allNamed (runStates (start sheet) ms) ≡ true
+unfolding allNamed
+run-named sheet ms h =
+    every-all (λ t. every isKnown (scopeOf (runStates (start sheet) ms .types) (t .names)))
+    (all-map (λ t (g : Good (λ a. passes a ≡ true) (runStates (start sheet) ms .types) t). named-scope (runStates (start sheet) ms .types) (g .bound))
+    (took (λ a. passes a ≡ true) (λ a k. k) sheet (all-map (λ a (k : passes a ≡ true). rw (bare-passes a) k) h) ms .sound .threads))
 
 -- Typed.
 pub run-typed : (sheet : Sheet) (ms : List Move) → All (λ a. passes a ≡ true) (sheetActs sheet) → isTyped (runStates (start sheet) ms) ≡ true

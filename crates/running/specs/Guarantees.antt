@@ -1,27 +1,50 @@
 -- What demand 3 says of a state: typed, not beyond the start, no next act an error, and no finite count exceeded.
-use Prim.Native.Nat.{ℕ, zero, suc, _+_}
+use Prim.Native.Nat.{ℕ, zero, suc, _+_, _<_}
 use mathlib.Core.Path.{_≡_}
-use mathlib.Core.List.{List, [], _∷_, _++_, map}
+use mathlib.Core.List.{List, [], _∷_, _++_, map, List·Memᴰ}
 use mathlib.Core.Bool.{Bool, true, false, cond, not, _&&_, _||_}
 use mathlib.Core.Option.{Option, some, none}
-use lib.ListN.{length, getD, getElem?}
+use lib.ListN.{length, getElem?}
 use lib.Dec.{eqb}
 use Rattle.reading.specs.Syntax.{Process, nil, par, new, input, output, repl, Sheet}
 use Rattle.inference.specs.Lists.{every, any, only, gather}
 use Rattle.inference.specs.Counts.{Count, fin, unlimited, _⊕_, atMost}
-use Rattle.inference.specs.Acts.{Component, Act, acts, sheetActs}
-use Rattle.inference.specs.Typing.{inScope, onChannel, carriesObject, inPath}
+use Rattle.inference.specs.Acts.{Component, Located, located, Act, acts, sheetActs}
+use Rattle.inference.specs.Typing.{isKnown, inScope, onChannel, carriesObject, inPath}
 use Rattle.inference.specs.Needs.{needOf, isRead, isWrite, isAccess, disclosures, disclosed}
 use Rattle.inference.specs.declared.Need.{Need}
 use Rattle.inference.specs.declared.Need.the-variants.{Nothing, Read, Write, Access, Disclose}
 use Rattle.policy.specs.Syntax.{Tree}
 use Rattle.policy.specs.Grants.{flagGranted, countGranted}
 use Rattle.running.specs.State.{Thread, State}
-use Rattle.running.specs.Moves.{Move, unfoldRepl, sendOut, receiveIn, communicate, environmentName, Result, refuses, takes, step, stateAfter}
+use Rattle.service.specs.Questions.{Accepted}
+use Rattle.running.specs.Products.{start}
+use Rattle.running.specs.Moves.{Move, unfoldRepl, sendOut, receiveIn, communicate, environmentName, Result, refuses, takes, step, stateAfter, runStates}
 
--- The types of a thread's names by level: "run names having their types".
-unfoldable pub scopeOf : List ℕ → List ℕ → List ℕ
-scopeOf types names = map (λ n. getD types n 0) names
+-- The types of a thread's names by level: "run names having their types". A run name never given has none, and so is not in
+-- scope.
+unfoldable pub scopeOf : List ℕ → List ℕ → List (Option ℕ)
+scopeOf types names = map (λ n. getElem? types n) names
+
+-- Every run name of every thread has a type.
+unfoldable pub allNamed : State → Bool
+allNamed s = every (λ t. every isKnown (scopeOf (s .types) (t .names))) (s .threads)
+
+-- Every thread's component, its number and its path, is a component of the sheet.
+unfoldable pub sameGroups : List ℕ → List ℕ → Bool
+sameGroups [] [] = true
+sameGroups [] (h ∷ hs) = false
+sameGroups (g ∷ gs) [] = false
+sameGroups (g ∷ gs) (h ∷ hs) = eqb g h && sameGroups gs hs
+
+unfoldable pub sameComponent : Component → Component → Bool
+sameComponent c d = eqb (c .number) (d .number) && sameGroups (c .path) (d .path)
+
+unfoldable pub isComponentOf : Sheet → Component → Bool
+isComponentOf sheet c = any (λ l. sameComponent (l .component) c) (located sheet)
+
+unfoldable pub allLocated : Sheet → State → Bool
+allLocated sheet s = every (λ t. isComponentOf sheet (t .component)) (s .threads)
 
 -- The acts of a thread's remaining process, "binders still ahead [having] their stored [types]".
 unfoldable pub threadActs : List ℕ → Thread → List Act
@@ -114,3 +137,29 @@ disclosedBy n k h s (m ∷ ms) =
 unfoldable pub isWithin : Count → ℕ → Count → Bool
 isWithin unlimited done left = true
 isWithin (fin g) done left = atMost (fin done ⊕ left) (fin g)
+
+-- The state that a run of an accepted sheet has come to after the moves `ms`.
+abbrev pub reached : Accepted → List Move → State
+reached a ms = runStates (start (a .sheet)) ms
+
+-- Demand 3, of one list of moves: what holds of the state after them.
+pub record Guaranteed (a : Accepted) (ms : List Move) : Type 0 where
+  -- every run name of every thread has a type, and every thread is one of a component of the sheet, with that component's path:
+  -- so `typed` and `no-error`, which ask of the thread's own names and path, ask of the sheet's
+  pub named : allNamed (reached a ms) ≡ true
+  pub placed : allLocated (a .sheet) (reached a ms) ≡ true
+  -- "each remaining text passes 7 to 10 throughout"
+  pub typed : isTyped (reached a ms) ≡ true
+  -- of each component: "for each kind, every flag in it was inferred from the sheet for that post, and every count is at most the one
+  -- inferred there"
+  pub not-beyond : (n : ℕ) → NotBeyond (ofComponent n (stateActs (reached a ms))) (ofComponent n (sheetActs (a .sheet)))
+  -- no thread's next act is an error: none "fails 7 to 10 under the names' types, or needs a permission that its path's grant
+  -- lacks"
+  pub no-error : noError (a .policy) (reached a ms) ≡ true
+  -- of each component, kind and group whose count is finite: "the links it has handed over since the start plus those it still
+  -- infers are at most that count"
+  pub within : (l : Located) → List·Memᴰ l (located (a .sheet)) → (kind group : ℕ) → kind < 16 → group < 64
+      → isWithin (countGranted group (a .policy) kind (l .component .path))
+      (disclosedBy (l .component .number) kind group (start (a .sheet)) ms)
+      (disclosed kind group (ofComponent (l .component .number) (stateActs (reached a ms))))
+      ≡ true
