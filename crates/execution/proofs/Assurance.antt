@@ -1,7 +1,5 @@
 -- Demand 3 as a user of the services meets it. "if `check` answers accepted, then .." is `check-assures`; "whatever `play` logs, then
--- .." is `play-assures`. Their hypotheses are the contracts of `check` and `play`; what they promise of every list of moves is
--- `Guaranteed` of the crate running (proofs/Theorem.antt): each state of each run is typed, no component infers anything beyond the
--- start, no next act is an error, and no finite count of the charter is ever exceeded.
+-- .." is `play-assures`. Their hypotheses are the contracts of `check` and `play`; what they promise is told in specs/Assurance.antt.
 use Prim.Native.Nat.{ℕ, _*_}
 use mathlib.Core.Bool.{Bool, true, false}
 use mathlib.Core.List.{List, [], _∷_, _++_}
@@ -21,15 +19,9 @@ use Rattle.running.specs.Products.{start}
 use Rattle.running.specs.Moves.{Move, unfoldRepl, sendOut, receiveIn, communicate, environmentName, Result, refuses, guard, given, word, recordOf, taken, unfoldStep, sendStep, receiveStep, communicateStep, environmentStep, step, stateAfter, recordBytes, hasRoom, runLog}
 use Rattle.running.specs.Script.{readScript}
 use Rattle.running.specs.Play.{Opened, openedFrom, opened, logged, outcomeOf, played}
-use Rattle.running.proofs.Theorem.{Guaranteed, guaranteed}
+use Rattle.running.proofs.Theorem.{guaranteed}
 use Rattle.execution.specs.Told.{Played}
-
--- A sheet and a charter for which demand 3 holds: they pass questions 1 to 18, and every list of moves, of any length, keeps its
--- promises.
-pub record Assured (sheet charter : List ℕ) : Type 0 where
-  pub accepted : Accepted
-  pub passes : judged sheet charter ≡ passed accepted
-  pub holds : (ms : List Move) → Guaranteed accepted ms
+use Rattle.execution.specs.Assurance.{Assured, AssuredRun}
 
 assured : (sheet charter : List ℕ) (a : Accepted) → judged sheet charter ≡ passed a → Assured sheet charter
 assured sheet charter a e = record { accepted = a; passes = e; holds = guaranteed sheet charter a e }
@@ -45,16 +37,6 @@ check-assures sheet charter output output′ n c = go (judged sheet charter) ref
     go : (j : Asked Accepted) → judged sheet charter ≡ j → passed n ≡ written output (interfaceFor output j) .answer → Assured sheet charter
     go (passed a) e h = assured sheet charter a e
     go (failed q) e h = never (sym h)
-
--- What `play` logs, where it answers accepted: the records of the script's moves, one after another, each on the state that the move
--- before it left, and after them the log as it was; and demand 3 for these moves and for every other list of moves.
-pub record AssuredRun (sheet charter script log log′ : List ℕ) (n : ℕ) : Type 0 where
-  pub assured : Assured sheet charter
-  pub moves : List Move
-  pub end : ℕ
-  pub reads : readScript script ≡ got moves end
-  pub count : n ≡ length moves
-  pub records : log′ ≡ runLog (start (assured .accepted .sheet)) moves ++ drop (8 * n) log
 
 -- "eight bytes a move": each record has eight, a refused move's too.
 record Eight (r : Result) : Type 0 where

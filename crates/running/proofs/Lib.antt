@@ -11,3 +11,4 @@ pub mod Accepted
 pub mod Homes
 pub mod Runs
 pub mod Theorem
+pub mod Clauses
