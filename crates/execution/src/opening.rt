@@ -9,6 +9,7 @@ use crate::runs::run;
 use products::Sizes;
 use products::start::start;
 use reading::NumberRead;
+use reading::bytes::refusal;
 use script::moves::count_moves;
 use service::Answer;
 
@@ -30,7 +31,7 @@ fn play_script(
 {
     let counted = count_moves(script);
     let NumberRead::Found(moves) = counted else {
-        return Answer::Refused(21);
+        return Answer::Refused(refusal(counted).question);
     };
     let count = moves.value;
     if log.len() / 8 < count {

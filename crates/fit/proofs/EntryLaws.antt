@@ -15,7 +15,7 @@ use Rattle.inference.specs.Rows.{isSet, cell, countOf, extentAt, pathAt, disclo
 use Rattle.interface.proofs.InterfaceLaws.{set-count}
 use Rattle.interface.proofs.WriteLaws.{rising-next, rising-done}
 use Rattle.policy.specs.Syntax.{Tree}
-use Rattle.policy.specs.Satisfies.{hasTree, pathReached, grantsOne, covered}
+use Rattle.fit.specs.Satisfies.{hasTree, pathReached, grantsOne, covered}
 use Rattle.policy.specs.declared.Trees.{Trees}
 use Rattle.policy.specs.Loads.{AllHeld, startOf}
 use Rattle.fit.specs.Givers.{giversIn, indexOf}

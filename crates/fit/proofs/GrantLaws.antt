@@ -13,7 +13,7 @@ use Rattle.reading.specs.Forms.{member}
 use Rattle.inference.specs.Lists.{every, any, rising}
 use Rattle.policy.specs.Syntax.{Permissions, Node, Nodes, none, more, Head, alone, hasBit}
 use Rattle.policy.specs.WellFormed.{groupsAt}
-use Rattle.policy.specs.Grants.{reachedAmong, reached, givenBy, joined}
+use Rattle.fit.specs.Grants.{reachedAmong, reached, givenBy, joined}
 use Rattle.policy.specs.Rows.{Flat, nodeAt, flatOf, flats, flatten}
 use Rattle.fit.specs.Givers.{reachedIn, giverIn, givenAt, joinedAt, giversIn}
 

@@ -15,7 +15,7 @@ use Rattle.reading.proofs.PathLaws.{one-more}
 use Rattle.inference.specs.Lists.{every, any}
 use Rattle.inference.specs.Counts.{Count, fin, unlimited, _⊕_}
 use Rattle.policy.specs.Syntax.{hasBit}
-use Rattle.policy.specs.Grants.{storedCount, listed}
+use Rattle.fit.specs.Grants.{storedCount, listed}
 use Rattle.policy.specs.Rows.{Flat, nodeAt, wordIn, itemsAt, permissionsOf, flatOf, flats}
 use Rattle.fit.specs.Givers.{giverIn, givenAt, totalOf, joinedAt, indexOf}
 use Rattle.policy.specs.declared.Node.{Node}

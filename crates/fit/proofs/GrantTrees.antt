@@ -15,8 +15,8 @@ use Rattle.inference.specs.Counts.{Count, atMost}
 use Rattle.inference.specs.Interface.{Entry, reading, writing, accessing, disclosing}
 use Rattle.policy.specs.Syntax.{Node, Tree, hasBit, alone}
 use Rattle.policy.specs.WellFormed.{groupsAt}
-use Rattle.policy.specs.Grants.{treeFor, reached, reachedIn, reachedFor, flagGranted, countGranted}
-use Rattle.policy.specs.Satisfies.{isTree, hasTree, pathReached, grantsOne}
+use Rattle.fit.specs.Grants.{treeFor, reached, reachedIn, reachedFor, flagGranted, countGranted}
+use Rattle.fit.specs.Satisfies.{isTree, hasTree, pathReached, grantsOne}
 use Rattle.policy.specs.Rows.{flats, flatten}
 use Rattle.fit.specs.Givers.{givenAt, joinedAt, indexOf, giversIn}
 use Rattle.policy.specs.Loads.{startOf, Holds, AllHeld, held-none, held-more}

@@ -4,7 +4,7 @@ use mathlib.Core.List.{List, [], _∷_}
 use mathlib.Core.Bool.{cond}
 use Rattle.inference.specs.Interface.{Entry, holdsAny}
 use Rattle.policy.specs.Syntax.{Tree}
-use Rattle.policy.specs.Satisfies.{hasTree, pathReached, covered}
+use Rattle.fit.specs.Satisfies.{hasTree, pathReached, covered}
 
 -- The first of questions 16 to 18 that an entry fails, or 19; an entry without a permission is none and fails none.
 unfoldable pub entryFault : List Tree → Entry → ℕ

@@ -8,7 +8,7 @@ use lib.Dec.{ltb, eqb}
 use Rattle.reading.specs.Forms.{member}
 use Rattle.inference.specs.Counts.{Count, fin, unlimited, _⊕_}
 use Rattle.policy.specs.Syntax.{Permissions, Head}
-use Rattle.policy.specs.Grants.{listed}
+use Rattle.fit.specs.Grants.{listed}
 use Rattle.policy.specs.Rows.{nodeAt, permissionsOf, Flat, flats}
 use Rattle.fit.specs.declared.Total.{Total}
 use Rattle.fit.specs.declared.Givers.{Givers}

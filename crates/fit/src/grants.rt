@@ -10,7 +10,7 @@ ghost use Rattle.reading.specs.Told.{pathOf};
 ghost use Rattle.inference.specs.Counts.{_⊕_};
 ghost use Rattle.inference.specs.Lists.{every, any};
 ghost use Rattle.policy.specs.Syntax.{hasBit};
-ghost use Rattle.policy.specs.Grants.{storedCount, listed as listedIn};
+ghost use Rattle.fit.specs.Grants.{storedCount, listed as listedIn};
 ghost use Rattle.policy.specs.Rows.{itemsAt, permissionsOf, flats};
 ghost use Rattle.fit.specs.Givers.{indexOf, giverIn, givenRows, givenAt, totalOf, joinedAt};
 use crate::Givers;

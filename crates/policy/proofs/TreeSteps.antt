@@ -1,8 +1,7 @@
 -- Reading a whole policy, tree by tree, to its end: where it reads, the table holds its trees.
 use Prim.Native.Nat.{ℕ, zero, suc, _+_, _-_, _<_, _≤_}
-use mathlib.Core.Bool.{true, false}
 use mathlib.Core.List.{List, [], _∷_, _++_, append-assoc, append-nil}
-use mathlib.Core.Path.{_≡_, refl, sym, _∙_}
+use mathlib.Core.Path.{_≡_, refl, sym, ap, _∙_}
 use native.Mathlib.Numerals.{add-one, sub-one}
 use native.Mathlib.Omega.{arith}
 use borrow.Author.Needs.{needs}
@@ -13,7 +12,9 @@ use Rattle.inference.specs.Lists.{rising}
 use Rattle.reading.proofs.Parts.{below-found}
 use Rattle.reading.specs.Read.{Read, got, refused, andThen, below}
 use Rattle.reading.specs.System.{toItsEnd}
-use Rattle.reading.specs.Told.{number}
+use Rattle.reading.specs.Told.{number, refusalOf}
+use Rattle.reading.specs.declared.End.{End}
+use Rattle.reading.specs.declared.End.the-variants as end-case
 use Rattle.reading.specs.declared.Number.{Number}
 use Rattle.reading.specs.declared.Refusal.{Refusal}
 use Rattle.reading.specs.declared.NumberRead.{NumberRead}
@@ -24,6 +25,7 @@ use Rattle.policy.specs.Syntax.{Tree, alone, heads, headsOf}
 use Rattle.policy.specs.Reading.{asEleven, readNode, readTrees, readPolicy}
 use Rattle.policy.specs.Rows.{flats, flatten}
 use Rattle.policy.specs.Loads.{nodeRead, Loaded, noTrees, withTree, treesToEnd, startOf, LoadedPolicy, unread, loaded}
+use Rattle.policy.specs.declared.PolicyRead.{PolicyRead}
 use Rattle.policy.specs.declared.Trees.{Trees}
 
 -- One tree, then the rest.
@@ -53,7 +55,6 @@ after-none (refused q p) = refl
 pub record TreesRead (c : List ℕ) (at count : ℕ) (nodes : List ℕ) (trees : Trees) (next used : ℕ) : Type 0 where
   pub policy : List Tree
   pub whole : readTrees count c 0 at ≡ after policy (readTrees (count - trees .len) c used next)
-  pub reading : trees .reads ≡ true
   pub many : trees .len ≡ length policy
   pub few : trees .len ≤ count
   pub long-kinds : length (trees .kinds) ≡ 16
@@ -76,7 +77,6 @@ none-read c at count nodes trees e =
     rw e (record {
       policy = [];
       whole = rw z (after-none (readTrees count c 0 at));
-      reading = refl;
       many = refl;
       few = omega arith;
       long-kinds = length-replicate {A = ℕ} 16 0;
@@ -88,14 +88,23 @@ none-read c at count nodes trees e =
       high = all-zero 16;
     })
 
+-- The place of a refusal that was taken out of an answer.
+same-place : (r : NumberRead) (q : Refusal) → r ≡ number-read.Refused q → refusalOf r .at ≡ q .at
+same-place r q f = ap (λ x. refusalOf x .at) f
+
+pub place-kept : (r : NumberRead) (u : Refusal) (w : PolicyRead) → u ≡ refusalOf r → w .end ≡ end-case.Refused (record { question = 11; at = u .at })
+    → w .end ≡ end-case.Refused (record { question = 11; at = refusalOf r .at })
+place-kept r u w i g = rw i at g
+
 -- A refusal anywhere is question 11.
 module _ (c : List ℕ) (at count : ℕ) where
   whole-refused : (q p : ℕ) → readTrees count c 0 at ≡ refused q p → treesToEnd count c at ≡ refused 11 p
   unfolding treesToEnd asEleven andThen
   whole-refused q p e = rw e
 
-  not-read : (nodes : List ℕ) (w : Trees) (q p : ℕ) → readTrees count c 0 at ≡ refused q p → w .reads ≡ false → LoadedPolicy c (treesToEnd count c at) nodes w
-  not-read nodes w q p e f = unread {question = 11} {at = p} (whole-refused q p e) f
+  not-read : (nodes : List ℕ) (w : PolicyRead) (q p : ℕ) → readTrees count c 0 at ≡ refused q p → w .end ≡ end-case.Refused (record { question = 11; at = p })
+      → LoadedPolicy c (treesToEnd count c at) nodes w
+  not-read nodes w q p e f = unread {why = record { question = 11; at = p }} (whole-refused q p e) f
 
   read-to : (policy : List Tree) (next : ℕ) → readTrees count c 0 at ≡ got policy next → next ≡ length c → treesToEnd count c at ≡ got policy next
   unfolding treesToEnd asEleven andThen toItsEnd
@@ -112,15 +121,16 @@ module _ (c : List ℕ) (at count : ℕ) (nodes : List ℕ) (trees : Trees) (nex
     unfolding readTrees after andThen
     policy-is = let z : count - trees .len ≡ 0 = omega arith in s .whole ∙ rw (z, append-nil (s .policy))
 
-    pub all-read : count ≤ 16 → next ≡ length c → LoadedPolicy c (treesToEnd count c at) nodes trees
+    pub all-read : count ≤ 16 → next ≡ length c → LoadedPolicy c (treesToEnd count c at) nodes (record { end = end-case.At next; trees = trees })
     unfolding startOf
     all-read l e =
         let small : trees .len ≤ 16 = omega (arith, s .few) in
-        loaded {policy = s .policy} {end = next} (read-to c at count (s .policy) next policy-is e) (s .reading) (record { few = small; rows = s .high })
+        loaded {policy = s .policy} {next = next} (read-to c at count (s .policy) next policy-is e) refl (record { few = small; rows = s .high })
         (all-held c nodes trees (s .long-kinds) (s .long-ends) small (s .high) (s .policy) 0 0 refl (omega (arith, s .many)) (s .kinds-are) (s .ends-are) (rw (s .used-is) at (s .rows-are)))
 
-    pub left-over : (w : Trees) → (next ≡ length c → ⊥) → w .reads ≡ false → LoadedPolicy c (treesToEnd count c at) nodes w
-    left-over w e f = unread {question = 11} {at = next} (read-short c at count (s .policy) next policy-is e) f
+    pub left-over : (w : PolicyRead) → (next ≡ length c → ⊥) → w .end ≡ end-case.Refused (record { question = 11; at = next })
+        → LoadedPolicy c (treesToEnd count c at) nodes w
+    left-over w e f = unread {why = record { question = 11; at = next }} (read-short c at count (s .policy) next policy-is e) f
 
   -- One tree more is read.
   module _ (h : trees .len < count) (small : count ≤ 16) (t : Tree) (m v j : ℕ) (z : below 16 c next ≡ got (t .kind) m) (y : readNode 8 c used m ≡ got (t .root) j)
@@ -151,7 +161,6 @@ module _ (c : List ℕ) (at count : ℕ) (nodes : List ℕ) (trees : Trees) (nex
     with-one nodes₁ r = record {
       policy = s .policy ++ (t ∷ []);
       whole = s .whole ∙ rest-is;
-      reading = refl;
       many = omega (arith, s .many, length-append (s .policy) (t ∷ []));
       few = omega arith;
       long-kinds = length-set (trees .kinds) (trees .len) (t .kind) ∙ s .long-kinds;
@@ -165,20 +174,22 @@ module _ (c : List ℕ) (at count : ℕ) (nodes : List ℕ) (trees : Trees) (nex
 
   -- One tree more is to be read.
   module _ (h : trees .len < count) (r : NumberRead) (e : number r ≡ below 16 c next) where
-    pub kind-refused : (q : Refusal) (w : Trees) → r ≡ number-read.Refused q → w .reads ≡ false → LoadedPolicy c (treesToEnd count c at) nodes w
+    pub kind-refused : (q : Refusal) (w : PolicyRead) → r ≡ number-read.Refused q
+        → w .end ≡ end-case.Refused (record { question = 11; at = refusalOf r .at }) → LoadedPolicy c (treesToEnd count c at) nodes w
     unfolding after andThen
     kind-refused q w f g =
         let z = sym (rw f at e) in
-        not-read c at count nodes w (q .question) (q .at) (s .whole ∙ rw (trees-step (count - trees .len) c used next (omega arith), z)) g
+        not-read c at count nodes w (q .question) (q .at) (s .whole ∙ rw (trees-step (count - trees .len) c used next (omega arith), z)) (rw (same-place r q f) at g)
 
     module _ (k : Number) (f : r ≡ number-read.Found k) (nodes₁ : List ℕ) (b : NumberRead)
         (l : Loaded c (nodeRead (readNode 8 c used (k .next))) 0 used nodes nodes₁ b) where
-      pub tree-refused : (q : Refusal) (w : Trees) → b ≡ number-read.Refused q → w .reads ≡ false → LoadedPolicy c (treesToEnd count c at) nodes₁ w
+      pub tree-refused : (q : Refusal) (w : PolicyRead) → b ≡ number-read.Refused q
+          → w .end ≡ end-case.Refused (record { question = 11; at = refusalOf b .at }) → LoadedPolicy c (treesToEnd count c at) nodes₁ w
       unfolding after andThen
       tree-refused q w g i =
           let z = sym (rw f at e) in
           let y = root-not used (readNode 8 c used (k .next)) {q = q .question} {p = q .at} (rw g at (l .answer)) in
-          not-read c at count nodes₁ w (q .question) (q .at) (s .whole ∙ rw (trees-step (count - trees .len) c used next (omega arith), z, y)) i
+          not-read c at count nodes₁ w (q .question) (q .at) (s .whole ∙ rw (trees-step (count - trees .len) c used next (omega arith), z, y)) (rw (same-place b q g) at i)
 
       pub tree-read : (n : Number) (w : Trees) → b ≡ number-read.Found n → w ≡ withTree trees (k .value) (n .value) → count ≤ 16
           → TreesRead c at count nodes₁ w (n .next) (n .value)
@@ -196,15 +207,16 @@ pub ruleset tree-steps = (needs, fewer-left, none-read, all-read, left-over, kin
 
 -- The count of trees, and then the trees.
 module _ (c : List ℕ) (r : NumberRead) (e : number r ≡ below 17 c 0) where
-  pub policy-refused : (nodes : List ℕ) (q : Refusal) (w : Trees) → r ≡ number-read.Refused q → w .reads ≡ false → LoadedPolicy c (readPolicy c) nodes w
+  pub policy-refused : (nodes : List ℕ) (q : Refusal) (w : PolicyRead) → r ≡ number-read.Refused q
+      → w .end ≡ end-case.Refused (record { question = 11; at = refusalOf r .at }) → LoadedPolicy c (readPolicy c) nodes w
   unfolding readPolicy asEleven andThen
-  policy-refused nodes q w f g = unread {question = 11} {at = q .at} refused-first g
+  policy-refused nodes q w f g = unread {why = record { question = 11; at = q .at }} refused-first (rw (same-place r q f) at g)
     where
       refused-first : readPolicy c ≡ refused 11 (q .at)
       refused-first = let z = sym (rw f at e) in rw z
 
   module _ (n : Number) (f : r ≡ number-read.Found n) where
-    pub policy-read : (nodes : List ℕ) (w : Trees) → LoadedPolicy c (treesToEnd (n .value) c (n .next)) nodes w → LoadedPolicy c (readPolicy c) nodes w
+    pub policy-read : (nodes : List ℕ) (w : PolicyRead) → LoadedPolicy c (treesToEnd (n .value) c (n .next)) nodes w → LoadedPolicy c (readPolicy c) nodes w
     unfolding readPolicy treesToEnd andThen
     policy-read nodes w l = rw trees-follow l
       where

@@ -16,6 +16,9 @@ use Rattle.policy.specs.declared.Node.{Node as Row}
 use Rattle.policy.specs.declared.Opening.{Opening}
 use Rattle.policy.specs.declared.OpeningRead.{OpeningRead}
 use Rattle.policy.specs.declared.OpeningRead.the-variants as opening-read
+use Rattle.reading.specs.declared.End.{End}
+use Rattle.reading.specs.declared.End.the-variants as end-case
+use Rattle.policy.specs.declared.PolicyRead.{PolicyRead}
 use Rattle.policy.specs.declared.Trees.{Trees}
 use Rattle.policy.specs.Syntax.{Granted, Permissions, Node, Nodes, Head, alone, headsOf, Tree}
 use Rattle.policy.specs.Reading.{asEleven, children, readPermissions, readNode, readTrees}
@@ -108,11 +111,10 @@ pub record Loaded (c : List ℕ) (read : Read Nodes) (depth used : ℕ) (nodes n
 
 -- No trees, and one tree more: its kind, and the row after its last node.
 unfoldable pub noTrees : Trees
-noTrees = record { reads = true; len = 0; kinds = replicate 16 0; ends = replicate 16 0 }
+noTrees = record { len = 0; kinds = replicate 16 0; ends = replicate 16 0 }
 
 unfoldable pub withTree : Trees → ℕ → ℕ → Trees
 withTree trees kind end = record {
-  reads = true;
   len = trees .len + 1;
   kinds = set (trees .kinds) (trees .len) kind;
   ends = set (trees .ends) (trees .len) end;
@@ -145,11 +147,12 @@ pub record Bounded (trees : Trees) : Type 0 where
   pub few : trees .len ≤ 16
   pub rows : (t : ℕ) → getD (trees .ends) t 0 ≤ 64
 
--- What the reading of a whole policy answers: it reads exactly where the definition does, and then the table holds its trees.
-pub data LoadedPolicy (c : List ℕ) (read : Read (List Tree)) (nodes : List ℕ) (trees : Trees) : Type 0 where
-  unread : {question at : ℕ} → read ≡ refused question at → trees .reads ≡ false → LoadedPolicy c read nodes trees
-  loaded : {policy : List Tree} {end : ℕ} → read ≡ got policy end → trees .reads ≡ true → Bounded trees
-      → AllHeld c nodes trees 0 policy → LoadedPolicy c read nodes trees
+-- What the reading of a whole policy answers: the refusal of the definition, question and place; or the place after it, and then the
+-- table holds its trees.
+pub data LoadedPolicy (c : List ℕ) (read : Read (List Tree)) (nodes : List ℕ) (r : PolicyRead) : Type 0 where
+  unread : {why : Refusal} → read ≡ refused (why .question) (why .at) → r .end ≡ end-case.Refused why → LoadedPolicy c read nodes r
+  loaded : {policy : List Tree} {next : ℕ} → read ≡ got policy next → r .end ≡ end-case.At next → Bounded (r .trees)
+      → AllHeld c nodes (r .trees) 0 policy → LoadedPolicy c read nodes r
 
 -- Do all trees pass question 13, 14 or 15, put to their rows?
 unfoldable pub allPass : ℕ → List Tree → Bool

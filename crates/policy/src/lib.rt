@@ -4,6 +4,7 @@ pub mod nodes;
 pub mod read;
 pub mod wellformed;
 
+use reading::End;
 use reading::Refusal;
 
 // A node's permission map and where its disclose list stands: the place of its first item and how many there are.
@@ -43,13 +44,18 @@ pub enum OpeningRead {
     Refused(Refusal),
 }
 
-// The trees of a policy: how many, and for each its kind and the table's row after its last node. Where the policy does not
-// read, `reads` is false.
+// The trees of a policy: how many, and for each its kind and the table's row after its last node.
 pub struct Trees {
-    pub reads: bool,
     pub len: usize,
     pub kinds: [usize; 16],
     pub ends: [usize; 16],
+}
+
+// What the reading of a policy answers: the place after it, or its refusal; and its trees, which are nothing where it is refused. (An
+// enum can hold no array, so they stand beside it.)
+pub struct PolicyRead {
+    pub end: End,
+    pub trees: Trees,
 }
 
 // The rows of one tree: from its root's row up to `to`.

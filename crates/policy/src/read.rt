@@ -3,7 +3,6 @@ ghost use mathlib.Core.Path.{_≡_};
 ghost use mathlib.Core.List.{List};
 ghost use Prim.Native.Nat.{ℕ, _≤_, _<_, _-_};
 ghost use lib.ListN.{length, take};
-ghost use mathlib.Core.Bool.{false};
 ghost use Rattle.reading.specs.Told.{number, refusalOf};
 ghost use Rattle.policy.specs.Reading.{twoBytes, isCount, itemAt, readList, countedList, readPermissions, readNode, readPolicy};
 ghost use Rattle.policy.specs.Loads.{
@@ -30,8 +29,10 @@ use crate::OpeningRead;
 use crate::Permissions;
 use crate::PermissionsAt;
 use crate::PermissionsRead;
+use crate::PolicyRead;
 use crate::Trees;
 use crate::nodes::store_node;
+use reading::End;
 use reading::Number;
 use reading::NumberRead;
 use reading::Refusal;
@@ -288,16 +289,21 @@ fn read_children(
     read_children(c, first.next, count - 1, level, first.value, nodes)
 }
 
-// No policy.
-fn unread() -> Trees
-    ensures { λ r. ⌜ r .reads ≡ false ⌝ }
+// A policy that does not read, by a fault at a place.
+fn unread(at: usize) -> PolicyRead
+    ensures { λ r. ⌜ r .end ≡ End.Refused (record { question = 11; at = at }) ⌝ }
 {
-    Trees {
-        reads: false,
-        len: 0,
-        kinds: [0; 16],
-        ends: [0; 16],
+    PolicyRead {
+        end: End::Refused(Refusal { question: 11, at }),
+        trees: no_trees(),
     }
+}
+
+fn not_policy(read: NumberRead) -> PolicyRead
+    ensures { λ r. ⌜ r .end ≡ End.Refused (record { question = 11; at = refusalOf read .at }) ⌝ }
+{
+    let why = refusal(read);
+    unread(why.at)
 }
 
 // One tree more: its kind, and the row after its last node.
@@ -311,7 +317,6 @@ fn with_tree(trees: Trees, kind: usize, end: usize) -> Trees
     kinds[at] = kind;
     ends[at] = end;
     Trees {
-        reads: true,
         len: at + 1,
         kinds,
         ends,
@@ -322,7 +327,6 @@ fn no_trees() -> Trees
     ensures { λ r. ⌜ r ≡ noTrees ⌝ }
 {
     Trees {
-        reads: true,
         len: 0,
         kinds: [0; 16],
         ends: [0; 16],
@@ -330,7 +334,7 @@ fn no_trees() -> Trees
 }
 
 // Reads `count` trees, one after another, to the end of the policy.
-fn read_trees(c: &[u8], at: usize, count: usize, nodes: &mut [usize]) -> Trees
+fn read_trees(c: &[u8], at: usize, count: usize, nodes: &mut [usize]) -> PolicyRead
     requires { ⌜ (count ≤ 16) × (length (now nodes) ≡ 320) × (length (now c) ≤ 4096) ⌝ }
     ensures { λ r. ⌜ LoadedPolicy (now (c .entry)) (treesToEnd count (now (c .entry)) at) (now (nodes .exit)) r ⌝ }
 {
@@ -340,27 +344,34 @@ fn read_trees(c: &[u8], at: usize, count: usize, nodes: &mut [usize]) -> Trees
     while trees.len < count {
         let first = byte_below(c, next, 16);
         let NumberRead::Found(kind) = first else {
-            return unread();
+            return not_policy(first);
         };
         let second = read_node(c, kind.next, 8, used, nodes);
         let NumberRead::Found(tree) = second else {
-            return unread();
+            return not_policy(second);
         };
         trees = with_tree(trees, kind.value, tree.value);
         next = tree.next;
         used = tree.value;
     }
-    if next == c.len() { trees } else { unread() }
+    if next == c.len() {
+        PolicyRead {
+            end: End::At(next),
+            trees,
+        }
+    } else {
+        unread(next)
+    }
 }
 
 // Reads a policy to its end.
-pub fn read_policy(c: &[u8], nodes: &mut [usize]) -> Trees
+pub fn read_policy(c: &[u8], nodes: &mut [usize]) -> PolicyRead
     requires { ⌜ (length (now nodes) ≡ 320) × (length (now c) ≤ 4096) ⌝ }
     ensures { λ r. ⌜ LoadedPolicy (now (c .entry)) (readPolicy (now (c .entry))) (now (nodes .exit)) r ⌝ }
 {
     let read = byte_below(c, 0, 17);
     let NumberRead::Found(count) = read else {
-        return unread();
+        return not_policy(read);
     };
     read_trees(c, count.next, count.value, nodes)
 }

@@ -3,7 +3,7 @@
 use Prim.Native.Nat.{ℕ, _+_, _-_, _<_, _≤_}
 use mathlib.Core.Bool.{true}
 use mathlib.Core.List.{List, [], _∷_, _++_}
-use mathlib.Core.Path.{_≡_, refl, sym, _∙_}
+use mathlib.Core.Path.{_≡_, refl, sym, ap, _∙_}
 use native.Mathlib.Nat.{add-zero, add-assoc}
 use native.Mathlib.Omega.{arith}
 use borrow.Author.Needs.{needs}
@@ -19,7 +19,7 @@ use Rattle.reading.specs.Read.{Read, got, refused, andThen}
 use Rattle.reading.specs.Syntax.{Process, System, parₛ, groupₛ, newₛ, components}
 use Rattle.reading.specs.Forms.{systemAt}
 use Rattle.reading.specs.System.{component, systemFrom, readProcess, readSystem}
-use Rattle.reading.specs.Told.{number, form, ending, ended, counted, whyOf}
+use Rattle.reading.specs.Told.{whyNone, number, form, ending, ended, counted, whyOf}
 use Rattle.reading.specs.declared.Act.{Act}
 use Rattle.reading.specs.declared.End.{End}
 use Rattle.reading.specs.declared.End.the-variants as end
@@ -112,15 +112,16 @@ unfolding component counted andThen ended components
 component-ends preceding g (got p k) e m i h = let z : m ≡ k = cc in rw z
 component-ends preceding g (refused a b) e m i h = never (sym (rw i at h))
 
-pub component-stops : (preceding g : ℕ) (x : Read Process) (e : End) (q : Refusal) → e ≡ end.Refused q → ending e ≡ ended x
-    → refused (q .question) (q .at) ≡ counted preceding (component g x)
+pub component-stops : (preceding g : ℕ) (x : Read Process) (e : End) (q w : Refusal) → e ≡ end.Refused q → w ≡ whyNone e → ending e ≡ ended x
+    → refused (w .question) (w .at) ≡ counted preceding (component g x)
 unfolding component counted andThen ended
-component-stops preceding g (got p k) e q i h = never (rw i at h)
-component-stops preceding g (refused a b) e q i h =
+component-stops preceding g (got p k) e q w i o h = never (rw i at h)
+component-stops preceding g (refused a b) e q w i o h =
     let k = rw i at h in
     let v : q .question ≡ a = cc in
-    let w : q .at ≡ b = cc in
-    rw (v, w)
+    let u : q .at ≡ b = cc in
+    let z : w ≡ q = o ∙ ap whyNone i in
+    rw (z, v, u)
 
 pub ruleset component-steps = (needs, component-ends, component-stops)
 

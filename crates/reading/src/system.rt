@@ -28,7 +28,7 @@ fn why(read: FormRead) -> Refusal
 }
 
 // Why nothing was read.
-fn why_none(end: End) -> Refusal
+pub fn why_none(end: End) -> Refusal
     ensures { λ r. ⌜ r ≡ whyNone end ⌝ }
 {
     match end {
@@ -71,13 +71,13 @@ fn read_component(s: &[u8], at: usize, nest: usize, names: usize, components: us
     ensures { λ r. ⌜ ((g : ℕ) → number r ≡ counted components (component g (readProcess nest (now (s .entry)) names at))) ⌝ }
 {
     let end = read_process(s, at, nest, names);
-    match end {
-        End::At(next) => NumberRead::Found(Number {
-            value: components + 1,
-            next,
-        }),
-        End::Refused(r) => NumberRead::Refused(r),
-    }
+    let End::At(next) = end else {
+        return NumberRead::Refused(why_none(end));
+    };
+    NumberRead::Found(Number {
+        value: components + 1,
+        next,
+    })
 }
 
 // Reads past a system. The number found is that of the components so far, those of this system included.

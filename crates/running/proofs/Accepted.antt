@@ -23,8 +23,8 @@ use Rattle.inference.specs.Interface.{Disclosure, Entry, Permission, reading, w
 use Rattle.inference.proofs.CountLaws.{join-comm, at-most-self, at-most-trans, at-most-joined}
 use Rattle.policy.specs.Syntax.{Tree}
 use Rattle.policy.specs.WellFormed.{kindsDistinct, noneAbove, sameHeads, fenced}
-use Rattle.policy.specs.Grants.{flagGranted, countGranted}
-use Rattle.policy.specs.Satisfies.{hasTree, pathReached, grantsOne, covered}
+use Rattle.fit.specs.Grants.{flagGranted, countGranted}
+use Rattle.fit.specs.Satisfies.{hasTree, pathReached, grantsOne, covered}
 use Rattle.service.specs.Questions.{Asked, passed, ask, afterReading, typed, wellFormed, satisfied, Accepted, judged}
 use Rattle.running.specs.Guarantees.{passes, grantsNeed, isFine, ofComponent}
 use Rattle.running.proofs.Alls.{All, done, also, or-first, or-second, any-member, all-both, all-right, all-head, all-each, all-gather, all-member, all-from, all-every}

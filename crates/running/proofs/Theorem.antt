@@ -9,7 +9,7 @@ use mathlib.Core.List.{List}
 use mathlib.Core.Path.{_≡_}
 use Rattle.inference.specs.Acts.{sheetActs}
 use Rattle.inference.specs.Needs.{disclosed}
-use Rattle.policy.specs.Grants.{countGranted}
+use Rattle.fit.specs.Grants.{countGranted}
 use Rattle.service.specs.Questions.{Accepted, judged, passed}
 use Rattle.running.specs.Products.{start}
 use Rattle.running.specs.Moves.{Move}

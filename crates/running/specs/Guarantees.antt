@@ -15,7 +15,7 @@ use Rattle.inference.specs.Needs.{needOf, isRead, isWrite, isAccess, disclosure
 use Rattle.inference.specs.declared.Need.{Need}
 use Rattle.inference.specs.declared.Need.the-variants.{Nothing, Read, Write, Access, Disclose}
 use Rattle.policy.specs.Syntax.{Tree}
-use Rattle.policy.specs.Grants.{flagGranted, countGranted}
+use Rattle.fit.specs.Grants.{flagGranted, countGranted}
 use Rattle.running.specs.State.{Thread, State}
 use Rattle.service.specs.Questions.{Accepted}
 use Rattle.running.specs.Products.{start}

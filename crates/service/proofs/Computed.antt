@@ -17,8 +17,8 @@ use Rattle.inference.specs.Interface.{disclosuresOf, entryOf, isEmpty, holdsAny
 use Rattle.policy.specs.Syntax.{hasBit, alone, headsOf, heads}
 use Rattle.policy.specs.Reading.{asEleven, must, twoBytes, isCount, itemAt, readList, countedList, readPermissions, children, readNode, readTrees, readPolicy}
 use Rattle.policy.specs.WellFormed.{distinct, kindsDistinct, newBelow, noneAbove, sameList, samePermissions, agree, allAgree, sameHeads, disclosedTo, groupsAt, keepsWithin, allKeep, fenced}
-use Rattle.policy.specs.Grants.{reachedAmong, reached, treeFor, reachedIn, reachedFor, givenBy, flagGranted, storedCount, listed, joined, countGranted}
-use Rattle.policy.specs.Satisfies.{isTree, hasTree, pathReached, grantsOne, covered}
+use Rattle.fit.specs.Grants.{reachedAmong, reached, treeFor, reachedIn, reachedFor, givenBy, flagGranted, storedCount, listed, joined, countGranted}
+use Rattle.fit.specs.Satisfies.{isTree, hasTree, pathReached, grantsOne, covered}
 use Rattle.service.specs.Questions.{passed, failed, ask, afterReading, typed, wellFormed, satisfied, judged}
 use Rattle.service.specs.Check.{Outcome, fitting, interfaceFor, written, checked}
 

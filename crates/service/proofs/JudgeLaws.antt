@@ -18,7 +18,7 @@ use Rattle.inference.proofs.FaultLaws.{firstNo, sheet-fault}
 use Rattle.policy.specs.Syntax.{Tree}
 use Rattle.policy.specs.Reading.{readPolicy, asEleven}
 use Rattle.policy.specs.WellFormed.{kindsDistinct, noneAbove, sameHeads, fenced}
-use Rattle.policy.specs.Satisfies.{hasTree, pathReached, covered}
+use Rattle.fit.specs.Satisfies.{hasTree, pathReached, covered}
 use Rattle.policy.specs.Loads.{policyFault}
 use Rattle.fit.specs.Faults.{entryFault, entriesFault}
 use Rattle.service.specs.Questions.{Asked, passed, failed, ask, afterReading, typed, wellFormed, satisfied, Accepted, judged}
@@ -219,7 +219,7 @@ unfolding later afterPolicy afterReading firstFailed
 later-first sheet c (got policy next) e =
     ap firstFailed (later-policy sheet policy (passed (record { sheet = sheet; policy = policy })))
     ∙ first-of-last (policyThenEntries policy (interface sheet)) (record { sheet = sheet; policy = policy }) (later-most policy (interface sheet))
-later-first sheet c (refused q at) e = policy-eleven c q at e
+later-first sheet c (refused q at) e = refl
 
 -- The first question that a sheet fails: by the reading, else by the walk's answer, else by the charter's.
 pub judged-refused : (s c : List ℕ) (q at : ℕ) → sheetOf s c ≡ refused q at → judged s c ≡ failed q

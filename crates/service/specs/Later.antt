@@ -16,7 +16,7 @@ policyThenEntries policy entries = cond (ltb (policyFault policy) 16) (policyFau
 
 unfoldable pub afterPolicy : Read (List Tree) → List Entry → ℕ
 afterPolicy (got policy next) entries = policyThenEntries policy entries
-afterPolicy (refused question at) entries = 11
+afterPolicy (refused question at) entries = question
 
 -- The first of questions 11 to 18 that fails, or 19.
 unfoldable pub laterFault : List ℕ → List Entry → ℕ

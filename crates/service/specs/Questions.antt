@@ -12,7 +12,7 @@ use Rattle.inference.specs.Interface.{Entry, interface}
 use Rattle.policy.specs.Syntax.{Tree}
 use Rattle.policy.specs.Reading.{readPolicy}
 use Rattle.policy.specs.WellFormed.{kindsDistinct, noneAbove, sameHeads, fenced}
-use Rattle.policy.specs.Satisfies.{hasTree, pathReached, covered}
+use Rattle.fit.specs.Satisfies.{hasTree, pathReached, covered}
 
 -- A call that passes with a value, or the number of the first question that fails.
 pub data Asked (A : Type 0) : Type 0 where

@@ -11,19 +11,23 @@ use fit::entries::fit;
 use inference::sheet::infer;
 use policy::read::read_policy;
 use policy::wellformed::policy_fault;
+use reading::End;
 use reading::NumberRead;
 use reading::bytes::refusal;
 use reading::system::read;
+use reading::system::why_none;
 
 // Questions 11 to 18, with a table for the charter's nodes: the first that fails, or 19.
 fn judge_with(charter: &[u8], table: &[u16], components: usize, nodes: &mut [usize]) -> usize
     requires { ⌜ (components ≤ 32) × (length (now charter) ≤ 4096) × (length (now nodes) ≡ 320) ⌝ }
     ensures { λ r. ⌜ r ≡ laterFault (now (charter .entry)) (tableEntries (now (table .entry)) components) ⌝ }
 {
-    let trees = read_policy(charter, nodes);
-    if !trees.reads {
-        return 11;
-    }
+    let policy = read_policy(charter, nodes);
+    let end = policy.end;
+    let End::At(_) = end else {
+        return why_none(end).question;
+    };
+    let trees = policy.trees;
     let fault = policy_fault(charter, nodes, trees);
     if fault < 16 {
         return fault;

@@ -1,6 +1,5 @@
 -- `read_policy`: the count of trees, and then the trees to the end.
 use Rattle.policy.proofs.TreeSteps.{policy-steps}
-use borrow.Author.Needs.{needs}
 use Rattle.policy.proofs.read.read_policy.Statement.{statement}
 use Rattle.policy.proofs.read.read_policy.Tie as tie
 
@@ -8,11 +7,11 @@ pub read-policy-spec : {M : Type 1} → statement M
 read-policy-spec =
     tie.close
     (tie.spec
-    (λ c κs. search needs)
-    (λ c. search needs)
-    (λ c. search needs)
-    (λ c κs. search needs)
+    (λ c κs. search policy-steps)
+    (λ c. search policy-steps)
     (λ c. search policy-steps)
     (λ c κs. search policy-steps)
-    (λ c. search needs)
+    (λ c. search policy-steps)
+    (λ c κs. search policy-steps)
+    (λ c. search policy-steps)
     (λ c. search policy-steps))

@@ -7,4 +7,11 @@ use Rattle.reading.proofs.system.read_component.Tie as tie
 pub read-component-spec : {M : Type 1} → statement M
 read-component-spec =
     tie.close
-    (tie.spec (λ c κs. search needs) (λ c. search needs) (λ c. search needs) (λ c. search needs) (λ c. search component-steps) (λ c. search component-steps))
+    (tie.spec
+    (λ c κs. search needs)
+    (λ c. search needs)
+    (λ c. search needs)
+    (λ c κs. search needs)
+    (λ c. search component-steps)
+    (λ c. search needs)
+    (λ c. search component-steps))

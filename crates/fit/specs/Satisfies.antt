@@ -7,9 +7,9 @@ use Rattle.reading.specs.Forms.{member}
 use Rattle.inference.specs.Lists.{every}
 use Rattle.inference.specs.Counts.{atMost}
 use Rattle.inference.specs.Interface.{Entry, Permission, reading, writing, accessing, disclosing, permissions}
 use Rattle.policy.specs.Syntax.{Tree, Node}
 use Rattle.policy.specs.WellFormed.{groupsAt}
-use Rattle.policy.specs.Grants.{treeFor, reachedFor, flagGranted, countGranted}
+use Rattle.fit.specs.Grants.{treeFor, reachedFor, flagGranted, countGranted}
 
 unfoldable pub isTree : Option Node → Bool
 isTree none = false
