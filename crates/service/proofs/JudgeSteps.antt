@@ -3,16 +3,18 @@
 use Prim.Native.Nat.{ℕ, _*_, _<_, _≤_}
 use mathlib.Core.Path.{_≡_, refl, sym, ap, ap₂, _∙_}
 use mathlib.Core.List.{List}
-use mathlib.Core.Bool.{Bool, true, false, not, _&&_}
+use mathlib.Core.Bool.{_&&_}
 use native.Mathlib.Omega.{arith}
 use lib.ListN.{length, replicate, length-replicate}
 use lib.Dec.{leb}
 use borrow.Author.Needs.{needs}
-use borrow.Author.Tests.{lt-ltb, le-ltb, not-true, not-false}
+use borrow.Author.Tests.{lt-ltb, le-ltb}
 use Rattle.reading.specs.Read.{Read, got, refused}
 use Rattle.reading.specs.Syntax.{Sheet, components}
 use Rattle.reading.specs.System.{readSheet, sheetOf}
-use Rattle.reading.specs.Told.{number, countedIn, refusalOf}
+use Rattle.reading.specs.Told.{number, countedIn, refusalOf, whyNone}
+use Rattle.reading.specs.declared.End.{End}
+use Rattle.reading.specs.declared.End.the-variants as end-case
 use Rattle.reading.specs.declared.Number.{Number}
 use Rattle.reading.specs.declared.NumberRead.{NumberRead}
 use Rattle.reading.specs.declared.NumberRead.the-variants as number-read
@@ -29,7 +31,7 @@ use Rattle.interface.proofs.StoreLaws.{sheet-table, sheet-components, clear-zer
 use Rattle.policy.specs.Syntax.{Tree}
 use Rattle.policy.specs.Reading.{readPolicy}
 use Rattle.policy.specs.Loads.{AllHeld, Bounded, LoadedPolicy, unread, loaded, policyFault}
-use Rattle.policy.specs.declared.Trees.{Trees}
+use Rattle.policy.specs.declared.PolicyRead.{PolicyRead}
 use Rattle.fit.specs.Faults.{entriesFault}
 use Rattle.service.specs.Questions.{passed, failed, Accepted, judged}
 use Rattle.service.specs.Later.{policyThenEntries, afterPolicy, laterFault}
@@ -37,50 +39,54 @@ use Rattle.service.specs.Told.{firstFailed, Reads, Ready, Judges}
 use Rattle.service.proofs.JudgeLaws.{judged-refused, judged-typing, judged-later}
 use Rattle.service.proofs.FirstLaws.{passed-reads}
 
-differ : {P : Type 0} → _≡_ {A = Bool} true false → P
-differ e = let z : _≡_ {A = ℕ} 0 1 = cc in absurd (omega arith)
+ended-otherwise : {P : Type 0} {m : ℕ} {q : Refusal} → end-case.At m ≡ end-case.Refused q → P
+ended-otherwise e = let z : _≡_ {A = ℕ} 0 1 = cc in absurd (omega arith)
 
 -- Questions 11 to 18.
-module _ (c nodes : List ℕ) (trees : Trees) where
-  reads-not : (r : Read (List Tree)) → LoadedPolicy c r nodes trees → not (trees .reads) ≡ true → (es : List Entry) → 11 ≡ afterPolicy r es
+module _ (c nodes : List ℕ) (p : PolicyRead) where
+  reads-not : (r : Read (List Tree)) → LoadedPolicy c r nodes p → (q w : Refusal) → p .end ≡ end-case.Refused q → w ≡ whyNone (p .end) → (es : List Entry)
+      → w .question ≡ afterPolicy r es
   unfolding afterPolicy
-  reads-not r (unread {question = q} {at = at} e f) h es = rw e refl
-  reads-not r (loaded e f b held) h es = differ (sym f ∙ not-true (trees .reads) h)
+  reads-not r (unread {why = why} e f) q w h k es = rw e (ap (λ (x : Refusal). x .question) (k ∙ ap whyNone f))
+  reads-not r (loaded {next = next} e f b held) q w h k es = ended-otherwise (sym f ∙ h)
 
-  pub not-read : LoadedPolicy c (readPolicy c) nodes trees → not (trees .reads) ≡ true → (es : List Entry) → 11 ≡ laterFault c es
+  pub not-read : LoadedPolicy c (readPolicy c) nodes p → (q w : Refusal) → p .end ≡ end-case.Refused q → w ≡ whyNone (p .end) → (es : List Entry)
+      → w .question ≡ laterFault c es
   unfolding laterFault
-  not-read l h es = reads-not (readPolicy c) l h es
+  not-read l q w h k es = reads-not (readPolicy c) l q w h k es
 
-  rows-bounded : (r : Read (List Tree)) → LoadedPolicy c r nodes trees → not (trees .reads) ≡ false → Bounded trees
-  rows-bounded r (unread e f) h = differ (sym (not-false (trees .reads) h) ∙ f)
-  rows-bounded r (loaded e f b held) h = b
+  rows-bounded : (r : Read (List Tree)) → LoadedPolicy c r nodes p → (m : ℕ) → p .end ≡ end-case.At m → Bounded (p .trees)
+  rows-bounded r (unread e f) m h = ended-otherwise (sym h ∙ f)
+  rows-bounded r (loaded e f b held) m h = b
 
-  pub bounded : LoadedPolicy c (readPolicy c) nodes trees → not (trees .reads) ≡ false → Bounded trees
-  bounded l h = rows-bounded (readPolicy c) l h
+  pub bounded : LoadedPolicy c (readPolicy c) nodes p → (m : ℕ) → p .end ≡ end-case.At m → Bounded (p .trees)
+  bounded l m h = rows-bounded (readPolicy c) l m h
 
-  by-policy : (r : Read (List Tree)) → LoadedPolicy c r nodes trees → not (trees .reads) ≡ false → (fault : ℕ)
-      → ((policy : List Tree) → AllHeld c nodes trees 0 policy → fault ≡ policyFault policy) → fault < 16 → (es : List Entry) → fault ≡ afterPolicy r es
+  by-policy : (r : Read (List Tree)) → LoadedPolicy c r nodes p → (m : ℕ) → p .end ≡ end-case.At m → (fault : ℕ)
+      → ((policy : List Tree) → AllHeld c nodes (p .trees) 0 policy → fault ≡ policyFault policy) → fault < 16 → (es : List Entry) → fault ≡ afterPolicy r es
   unfolding afterPolicy policyThenEntries
-  by-policy r (unread e f) h fault p lt es = differ (sym (not-false (trees .reads) h) ∙ f)
-  by-policy r (loaded {policy = policy} e f b held) h fault p lt es = rw (e, ← p policy held, lt-ltb fault 16 lt) refl
+  by-policy r (unread e f) m h fault k lt es = ended-otherwise (sym h ∙ f)
+  by-policy r (loaded {policy = policy} e f b held) m h fault k lt es = rw (e, ← k policy held, lt-ltb fault 16 lt) refl
 
-  pub policy-decides : LoadedPolicy c (readPolicy c) nodes trees → not (trees .reads) ≡ false → (fault : ℕ)
-      → ((policy : List Tree) → AllHeld c nodes trees 0 policy → fault ≡ policyFault policy) → fault < 16 → (es : List Entry) → fault ≡ laterFault c es
+  pub policy-decides : LoadedPolicy c (readPolicy c) nodes p → (m : ℕ) → p .end ≡ end-case.At m → (fault : ℕ)
+      → ((policy : List Tree) → AllHeld c nodes (p .trees) 0 policy → fault ≡ policyFault policy) → fault < 16 → (es : List Entry) → fault ≡ laterFault c es
   unfolding laterFault
-  policy-decides l h fault p lt es = by-policy (readPolicy c) l h fault p lt es
+  policy-decides l m h fault k lt es = by-policy (readPolicy c) l m h fault k lt es
 
-  by-entries : (r : Read (List Tree)) → LoadedPolicy c r nodes trees → not (trees .reads) ≡ false → (fault v : ℕ)
-      → ((policy : List Tree) → AllHeld c nodes trees 0 policy → fault ≡ policyFault policy) → 16 ≤ fault
-      → (es : List Entry) → ((policy : List Tree) → AllHeld c nodes trees 0 policy → v ≡ entriesFault policy es) → v ≡ afterPolicy r es
+  by-entries : (r : Read (List Tree)) → LoadedPolicy c r nodes p → (m : ℕ) → p .end ≡ end-case.At m → (fault v : ℕ)
+      → ((policy : List Tree) → AllHeld c nodes (p .trees) 0 policy → fault ≡ policyFault policy) → 16 ≤ fault
+      → (es : List Entry) → ((policy : List Tree) → AllHeld c nodes (p .trees) 0 policy → v ≡ entriesFault policy es) → v ≡ afterPolicy r es
   unfolding afterPolicy policyThenEntries
-  by-entries r (unread e f) h fault v p le es q = differ (sym (not-false (trees .reads) h) ∙ f)
-  by-entries r (loaded {policy = policy} e f b held) h fault v p le es q = rw (e, ← p policy held, le-ltb fault 16 le) (q policy held)
+  by-entries r (unread e f) m h fault v k le es q = ended-otherwise (sym h ∙ f)
+  by-entries r (loaded {policy = policy} e f b held) m h fault v k le es q = rw (e, ← k policy held, le-ltb fault 16 le) (q policy held)
 
-  pub entries-decide : LoadedPolicy c (readPolicy c) nodes trees → not (trees .reads) ≡ false → (fault v : ℕ)
-      → ((policy : List Tree) → AllHeld c nodes trees 0 policy → fault ≡ policyFault policy) → 16 ≤ fault
-      → (es : List Entry) → ((policy : List Tree) → AllHeld c nodes trees 0 policy → v ≡ entriesFault policy es) → v ≡ laterFault c es
+  pub entries-decide : LoadedPolicy c (readPolicy c) nodes p → (m : ℕ) → p .end ≡ end-case.At m → (fault v : ℕ)
+      → ((policy : List Tree) → AllHeld c nodes (p .trees) 0 policy → fault ≡ policyFault policy) → 16 ≤ fault
+      → (es : List Entry) → ((policy : List Tree) → AllHeld c nodes (p .trees) 0 policy → v ≡ entriesFault policy es) → v ≡ laterFault c es
   unfolding laterFault
-  entries-decide l h fault v p le es q = by-entries (readPolicy c) l h fault v p le es q
+  entries-decide l m h fault v k le es q = by-entries (readPolicy c) l m h fault v k le es q
+
+pub ruleset policy-judging = (needs, not-read, bounded, policy-decides, entries-decide)
 
 -- Questions 7 to 18 of a sheet that reads.
 pub sheet-reads : (s c : List ℕ) (sheet : Sheet) (k : ℕ) → sheetOf s c ≡ got sheet k → readSheet s ≡ got sheet k
