@@ -1,36 +1,96 @@
-/* Checks and plays example W of document 01 through the static library, and prints the answers and the bytes lent. */
+/* Checks and plays example W through the static library, and prints the entries of its interface and the records of its log. */
 #include "velimhaw.h"
+#include "w.h"
 #include <inttypes.h>
 #include <stdio.h>
 
-static const uint8_t sheet[] = {0x02, 0x02, 0x00, 0x00, 0x00, 0x01, 0x00, 0x00, 0x02, 0x00, 0x01, 0x04, 0x01, 0x06, 0x00,
-                                0x01, 0x00, 0x04, 0x02, 0x05, 0x00, 0x01, 0x00, 0x00, 0x05, 0x02, 0x00, 0x00, 0x00};
-static const uint8_t charter[] = {0x01, 0x00, 0x00, 0x08, 0x02, 0x01, 0x10, 0x01, 0x00, 0x01, 0x00, 0x00, 0x02, 0x05, 0x00};
-static const uint8_t script[] = {0x04, 0x00, 0x01, 0x05, 0x00, 0x00, 0x03, 0x00, 0x02, 0x00};
+static const velimhaw_bytes sheet = {w_sheet, sizeof w_sheet};
+static const velimhaw_bytes charter = {w_charter, sizeof w_charter};
+static const velimhaw_bytes script = {w_script, sizeof w_script};
 
-static void show(const char *service, uint64_t answer, const uint8_t *bytes, size_t each) {
-    if (answer < VELIMHAW_ACCEPTED) {
-        printf("%s: refused %" PRIu64 "\n", service, answer);
-        return;
+/* The answer of a service. Whether it accepts. */
+static bool show_answer(const char *service, uint64_t answer) {
+    if (answer >= VELIMHAW_ACCEPTED) {
+        printf("%s: accepted, %" PRIu64 "\n", service, answer - VELIMHAW_ACCEPTED);
+        return true;
     }
-    uint64_t n = answer - VELIMHAW_ACCEPTED;
-    printf("%s: accepted %" PRIu64 ",", service, n);
-    for (size_t i = 0; i < n * each; i++)
-        printf(" %02x", bytes[i]);
+    const char *line = velimhaw_question(answer);
+    printf("%s: refused %" PRIu64 ", not met: %s\n", service, answer, line != NULL ? line : "no question has this number");
+    return false;
+}
+
+static void show_disclosure(const velimhaw_disclosure *d) {
+    if (d->count == VELIMHAW_UNLIMITED)
+        printf(", disclose into group %d (unlimited)", d->group);
+    else
+        printf(", disclose into group %d (%d)", d->group, d->count);
+}
+
+static void show_entry(const velimhaw_entry *e) {
+    printf("  kind %d, path", e->kind);
+    for (int i = 0; i < e->path_length; i++)
+        printf("%c%d", i == 0 ? ' ' : '.', e->path[i]);
+    printf("%s%s%s", e->read ? ", read" : "", e->write ? ", write" : "", e->access ? ", access" : "");
+    for (int i = 0; i < e->disclose_length; i++)
+        show_disclosure(&e->disclose[i]);
     printf("\n");
 }
 
+/* What was sent or received, on what and where. */
+static void show_act(const char *act, const velimhaw_record *r) {
+    printf("  %s of name %d on channel %d at component %d", act, r->name, r->channel, r->component);
+}
+
+static void show_taken(const velimhaw_record *r) {
+    switch (r->label) {
+    case VELIMHAW_COMMUNICATION:
+        show_act("communication", r);
+        printf(" to component %d", r->receiver);
+        break;
+    case VELIMHAW_INPUT: show_act("input", r); break;
+    case VELIMHAW_OUTPUT: show_act("output", r); break;
+    case VELIMHAW_EXTRUSION: show_act("first output", r); break;
+    case VELIMHAW_ENVIRONMENT_NAME: printf("  name %d made by the environment", r->name); break;
+    case VELIMHAW_UNFOLDING: printf("  unfolding at component %d", r->component); break;
+    }
+    printf("\n");
+}
+
+static void show_record(const velimhaw_record *r) {
+    if (r->refused != 0)
+        printf("  refused %d, not met: %s\n", r->refused, velimhaw_question(r->refused));
+    else
+        show_taken(r);
+}
+
+static void check_and_show(const char *service, velimhaw_lent output) {
+    uint64_t answer = velimhaw_check(sheet, charter, output);
+    if (!show_answer(service, answer))
+        return;
+    velimhaw_bytes written = {output.bytes, (size_t)(answer - VELIMHAW_ACCEPTED)};
+    velimhaw_entry entry;
+    while (velimhaw_next_entry(&written, &entry))
+        show_entry(&entry);
+}
+
+static void play_and_show(const char *service, velimhaw_lent log) {
+    uint64_t answer = velimhaw_play(sheet, charter, script, log);
+    if (!show_answer(service, answer))
+        return;
+    velimhaw_bytes written = {log.bytes, (size_t)(answer - VELIMHAW_ACCEPTED) * VELIMHAW_RECORD_LENGTH};
+    velimhaw_record record;
+    while (velimhaw_next_record(&written, &record))
+        show_record(&record);
+}
+
 int main(void) {
-    uint8_t output[64] = {0};
-    uint8_t log[64] = {0};
-    velimhaw_bytes s = {sheet, sizeof sheet};
-    velimhaw_bytes c = {charter, sizeof charter};
-    velimhaw_bytes m = {script, sizeof script};
-    velimhaw_lent o = {output, sizeof output};
-    velimhaw_lent l = {log, sizeof log};
-    show("check", velimhaw_check(s, c, o), output, 1);
-    show("play", velimhaw_play(s, c, m, l), log, 8);
-    velimhaw_lent small = {output, 3};
-    show("check with 3 bytes", velimhaw_check(s, c, small), output, 1);
+    static uint8_t output[VELIMHAW_INTERFACE_MAX];
+    static uint8_t log[VELIMHAW_LOG_MAX];
+    velimhaw_lent whole_output = {output, sizeof output};
+    velimhaw_lent whole_log = {log, sizeof log};
+    velimhaw_lent three_bytes = {output, 3};
+    check_and_show("check", whole_output);
+    play_and_show("play", whole_log);
+    check_and_show("check with 3 bytes of output", three_bytes);
     return 0;
 }

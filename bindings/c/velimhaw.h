@@ -1,15 +1,49 @@
-/* Velimhaw's two services for C. Link target/staticlib/libvelimhaw.a, which `rt staticlib velimhaw` writes (x86-64 Linux).
+/* Velimhaw's two services for C and C++: check a sheet against a charter, play a script on an accepted sheet; and what takes the bytes
+ * they write apart. Link target/staticlib/libvelimhaw.a, which `rt staticlib velimhaw` writes (x86-64 Linux).
  *
- * An answer is one number: below VELIMHAW_ACCEPTED it is the number of the first question of document 01 that fails, and the memory
- * lent keeps its bytes; from VELIMHAW_ACCEPTED on the call was accepted, and the length written (check) or the number of moves (play) is
- * the answer less VELIMHAW_ACCEPTED. Any bytes of any length may be lent; an empty slice may have any non-null pointer. */
+ * An answer is one number. Below VELIMHAW_ACCEPTED it is the number of the first question that fails (docs/REFERENCE.md, question N;
+ * velimhaw_question gives its line), and the output or log keeps its bytes. From VELIMHAW_ACCEPTED on the call was accepted: the answer
+ * less VELIMHAW_ACCEPTED is the length written (check) or the number of moves (play), and the bytes past what was written keep theirs.
+ *
+ * Memory lent to a call:
+ * - Any bytes may be lent, of any length that memory can have; every call ends without a fault.
+ * - The output or log may not overlap any input. The inputs may overlap each other, or be the same.
+ * - No other thread may write what is lent before the call returns.
+ * - An empty slice may have any pointer but NULL; nothing is read or written through it. */
 #ifndef VELIMHAW_H
 #define VELIMHAW_H
 
+#include <stdbool.h>
 #include <stddef.h>
 #include <stdint.h>
 
+#ifdef __cplusplus
+extern "C" {
+#endif
+
 #define VELIMHAW_ACCEPTED 64u
+
+/* Lengths in bytes. Longer inputs are refused, and an output or log of its length is always long enough. */
+#define VELIMHAW_SHEET_MAX 4096u
+#define VELIMHAW_CHARTER_MAX 4096u
+#define VELIMHAW_SCRIPT_MAX 7168u     /* 1,024 moves of seven bytes, the longest */
+#define VELIMHAW_INTERFACE_MAX 18432u /* with so much output check never refuses with 19 */
+#define VELIMHAW_RECORD_LENGTH 8u
+#define VELIMHAW_LOG_MAX 8192u        /* with so much log play never refuses with 22 */
+
+/* Limits of the formats. Kinds, groups, components and names are numbered from 0. */
+#define VELIMHAW_MOVES_MAX 1024u
+#define VELIMHAW_KINDS 16u
+#define VELIMHAW_GROUPS 64u
+#define VELIMHAW_PATH_MAX 8u
+#define VELIMHAW_COMPONENTS_MAX 32u
+#define VELIMHAW_NAMES_MAX 1024u
+#define VELIMHAW_COUNT_MAX 4095u
+
+/* Values that are no number of their field. */
+#define VELIMHAW_UNLIMITED 65535u   /* a count */
+#define VELIMHAW_NO_NAME 65535u     /* a channel or name that a record does not have */
+#define VELIMHAW_NO_COMPONENT 255u  /* a component that a record does not have */
 
 typedef struct {
     const uint8_t *bytes;
@@ -21,10 +55,207 @@ typedef struct {
     size_t length;
 } velimhaw_lent;
 
-/* Checks a sheet against a charter, and writes the interface into the output. */
+/* Checks a sheet against a charter, and writes the interface, the permissions that the sheet needs, into the output. */
 uint64_t velimhaw_check(velimhaw_bytes sheet, velimhaw_bytes charter, velimhaw_lent output);
 
-/* Plays a script on a sheet that its charter accepts, and writes eight bytes a move into the log. */
+/* Plays a script on a sheet that its charter accepts, and writes a record of eight bytes for each move into the log. */
 uint64_t velimhaw_play(velimhaw_bytes sheet, velimhaw_bytes charter, velimhaw_bytes script, velimhaw_lent log);
+
+/* ---- The interface: an entry for each component and kind with a permission, by component, then rising kind. ----
+ *
+ * Bytes of an entry: kind; length of the path; path; permission map (bit 0 read, 1 write, 2 access, 4 disclose); and only if bit 4
+ * stands, how many groups, then for each a group and a count of two bytes, low byte first, groups strictly rising. */
+
+/* Links that are disclosed into a group: 1 to VELIMHAW_COUNT_MAX of them, or VELIMHAW_UNLIMITED. */
+typedef struct {
+    uint8_t group;
+    uint16_t count;
+} velimhaw_disclosure;
+
+typedef struct {
+    uint8_t kind;
+    uint8_t path_length; /* 1 to VELIMHAW_PATH_MAX */
+    uint8_t path[VELIMHAW_PATH_MAX];
+    bool read;
+    bool write;
+    bool access;
+    uint8_t disclose_length; /* 0 to VELIMHAW_GROUPS */
+    velimhaw_disclosure disclose[VELIMHAW_GROUPS];
+} velimhaw_entry;
+
+/* Takes the first byte off, if there is one and it is from least to most. */
+static inline bool velimhaw_take_byte(velimhaw_bytes *rest, unsigned least, unsigned most, uint8_t *byte) {
+    if (rest->length == 0 || rest->bytes[0] < least || rest->bytes[0] > most)
+        return false;
+    *byte = rest->bytes[0];
+    rest->bytes++;
+    rest->length--;
+    return true;
+}
+
+/* Takes a number of two bytes off, low byte first. */
+static inline bool velimhaw_take_word(velimhaw_bytes *rest, uint16_t *word) {
+    uint8_t low, high;
+    if (!velimhaw_take_byte(rest, 0, 255, &low) || !velimhaw_take_byte(rest, 0, 255, &high))
+        return false;
+    *word = (uint16_t)(low | high << 8);
+    return true;
+}
+
+static inline bool velimhaw_take_path(velimhaw_bytes *rest, velimhaw_entry *entry) {
+    if (!velimhaw_take_byte(rest, 1, VELIMHAW_PATH_MAX, &entry->path_length))
+        return false;
+    for (unsigned i = 0; i < entry->path_length; i++)
+        if (!velimhaw_take_byte(rest, 0, VELIMHAW_GROUPS - 1, &entry->path[i]))
+            return false;
+    return true;
+}
+
+/* Takes a group and its count off; the group is at least the one given. */
+static inline bool velimhaw_take_disclosure(velimhaw_bytes *rest, unsigned least, velimhaw_disclosure *taken) {
+    if (!velimhaw_take_byte(rest, least, VELIMHAW_GROUPS - 1, &taken->group) || !velimhaw_take_word(rest, &taken->count))
+        return false;
+    return (taken->count >= 1 && taken->count <= VELIMHAW_COUNT_MAX) || taken->count == VELIMHAW_UNLIMITED;
+}
+
+static inline bool velimhaw_take_disclosures(velimhaw_bytes *rest, velimhaw_entry *entry) {
+    unsigned least = 0;
+    if (!velimhaw_take_byte(rest, 1, VELIMHAW_GROUPS, &entry->disclose_length))
+        return false;
+    for (unsigned i = 0; i < entry->disclose_length; i++) {
+        if (!velimhaw_take_disclosure(rest, least, &entry->disclose[i]))
+            return false;
+        least = entry->disclose[i].group + 1u;
+    }
+    return true;
+}
+
+/* Takes a permission map off, and its list. At least one of the bits 0, 1, 2 and 4 stands, and no other. */
+static inline bool velimhaw_take_permissions(velimhaw_bytes *rest, velimhaw_entry *entry) {
+    uint8_t map;
+    if (!velimhaw_take_byte(rest, 1, 0x17, &map) || (map & 0x08) != 0)
+        return false;
+    entry->read = (map & 0x01) != 0;
+    entry->write = (map & 0x02) != 0;
+    entry->access = (map & 0x04) != 0;
+    entry->disclose_length = 0;
+    return (map & 0x10) == 0 || velimhaw_take_disclosures(rest, entry);
+}
+
+/* Takes the next entry off the bytes of an interface. False if none is left, or if the bytes do not begin with a whole entry, each
+ * field in its range; the bytes then stay as they were (a length of 0 tells the end), and what the entry holds means nothing. */
+static inline bool velimhaw_next_entry(velimhaw_bytes *interface_bytes, velimhaw_entry *entry) {
+    velimhaw_bytes rest = *interface_bytes;
+    if (!velimhaw_take_byte(&rest, 0, VELIMHAW_KINDS - 1, &entry->kind) || !velimhaw_take_path(&rest, entry) ||
+        !velimhaw_take_permissions(&rest, entry))
+        return false;
+    *interface_bytes = rest;
+    return true;
+}
+
+/* ---- The log: a record of eight bytes for each move of the script, in order. ----
+ *
+ * Bytes of a record: 0; label; channel and name, two bytes each, low byte first; component that acts; component that receives. Fields
+ * that the label does not have are all ones. Of a refused move: the number of the first question that fails, 30 to 35; seven zeros. */
+
+/* What a move did, and the fields of its record. */
+enum velimhaw_label {
+    VELIMHAW_COMMUNICATION = 1,    /* channel, name, component (it sends), receiver */
+    VELIMHAW_INPUT = 2,            /* from the environment: channel, name, component */
+    VELIMHAW_OUTPUT = 3,           /* to the environment, of a name known to it: channel, name, component */
+    VELIMHAW_EXTRUSION = 4,        /* to the environment, of a name not known to it before: channel, name, component */
+    VELIMHAW_ENVIRONMENT_NAME = 5, /* a name made by the environment: name */
+    VELIMHAW_UNFOLDING = 6         /* of a replication: component */
+};
+
+typedef struct {
+    uint8_t refused;   /* 0 if the move was taken; else the question's number, and the fields below are 0 */
+    uint8_t label;     /* an enum velimhaw_label */
+    uint16_t channel;  /* or VELIMHAW_NO_NAME */
+    uint16_t name;     /* or VELIMHAW_NO_NAME */
+    uint8_t component; /* or VELIMHAW_NO_COMPONENT */
+    uint8_t receiver;  /* or VELIMHAW_NO_COMPONENT */
+} velimhaw_record;
+
+/* A name below 1,024 if there is to be one, all ones if not. */
+static inline bool velimhaw_name_fits(uint16_t name, bool present) {
+    return present ? name < VELIMHAW_NAMES_MAX : name == VELIMHAW_NO_NAME;
+}
+
+/* A component below 32 if there is to be one, all ones if not. */
+static inline bool velimhaw_component_fits(uint8_t component, bool present) {
+    return present ? component < VELIMHAW_COMPONENTS_MAX : component == VELIMHAW_NO_COMPONENT;
+}
+
+/* Whether a record has the fields of its label, or is that of a refused move. */
+static inline bool velimhaw_record_fits(const velimhaw_record *r) {
+    if (r->refused != 0)
+        return r->refused >= 30 && r->refused <= 35 && r->label == 0 && r->channel == 0 && r->name == 0 && r->component == 0 &&
+               r->receiver == 0;
+    return r->label >= VELIMHAW_COMMUNICATION && r->label <= VELIMHAW_UNFOLDING &&
+           velimhaw_name_fits(r->channel, r->label <= VELIMHAW_EXTRUSION) &&
+           velimhaw_name_fits(r->name, r->label != VELIMHAW_UNFOLDING) &&
+           velimhaw_component_fits(r->component, r->label != VELIMHAW_ENVIRONMENT_NAME) &&
+           velimhaw_component_fits(r->receiver, r->label == VELIMHAW_COMMUNICATION);
+}
+
+/* Takes eight bytes off as a record. */
+static inline bool velimhaw_take_record(velimhaw_bytes *rest, velimhaw_record *r) {
+    return velimhaw_take_byte(rest, 0, 255, &r->refused) && velimhaw_take_byte(rest, 0, 255, &r->label) &&
+           velimhaw_take_word(rest, &r->channel) && velimhaw_take_word(rest, &r->name) &&
+           velimhaw_take_byte(rest, 0, 255, &r->component) && velimhaw_take_byte(rest, 0, 255, &r->receiver);
+}
+
+/* Takes the next record off the bytes of a log. False if none is left, or if the bytes do not begin with a record; the bytes then stay
+ * as they were (a length of 0 tells the end), and what the record holds means nothing. */
+static inline bool velimhaw_next_record(velimhaw_bytes *log_bytes, velimhaw_record *record) {
+    velimhaw_bytes rest = *log_bytes;
+    if (!velimhaw_take_record(&rest, record) || !velimhaw_record_fits(record))
+        return false;
+    *log_bytes = rest;
+    return true;
+}
+
+/* ---- The questions ---- */
+
+/* What a question asks for, in one line: 1 to 22 of a call, 30 to 35 of a move (docs/REFERENCE.md, question N). NULL for every other
+ * number. */
+static inline const char *velimhaw_question(uint64_t number) {
+    switch (number) {
+    case 1: return "sheet and charter of at most 4,096 bytes each";
+    case 2: return "a byte wherever the sheet needs one";
+    case 3: return "no byte left over after the sheet";
+    case 4: return "each code, group, kind and count of the sheet in its range";
+    case 5: return "at most 64 nested forms, 64 names in scope, 8 groups in a path and 32 components";
+    case 6: return "each group new to its path";
+    case 7: return "each used name in scope";
+    case 8: return "each name used as a channel of a channel type";
+    case 9: return "each channel carrying the type of the name sent or bound";
+    case 10: return "each used channel's outermost group in the component's path";
+    case 11: return "a charter that reads, in its ranges, to its end";
+    case 12: return "no two trees of the charter for one kind";
+    case 13: return "no node of the charter below a node of its group";
+    case 14: return "the same permissions at all nodes of one group in a tree of the charter";
+    case 15: return "below a node with nondisclose, disclosure only to groups of that node or of nodes below it";
+    case 16: return "a tree of the charter for each entry's kind";
+    case 17: return "each group of each entry's path at a node that the path reaches";
+    case 18: return "each entry covered by what the charter grants its path";
+    case 19: return "an output long enough for the interface";
+    case 20: return "a start of at most 64 threads and 1,024 names";
+    case 21: return "a script of at most 1,024 whole moves, each field in its range";
+    case 22: return "a log of at least 8 bytes a move";
+    case 30: return "a thread at each number that the move gives";
+    case 31: return "threads of the form that the move needs";
+    case 32: return "the channel, and a name received, known to the environment";
+    case 33: return "the name received of the type of the bound name";
+    case 34: return "sender and receiver on the same channel";
+    case 35: return "at most 64 threads and 1,024 names after the move";
+    default: return NULL;
+    }
+}
+
+#ifdef __cplusplus
+}
+#endif
 
 #endif

@@ -1,59 +1,20 @@
-//! Velimhaw's two services from Rust: `check` a sheet against a charter, `play` a script on an accepted sheet. The work is done by the
-//! proved static library; this package only declares its two functions and takes their answers apart.
+//! Velimhaw's two services from Rust: check a sheet against a charter, play a script on an accepted sheet. The work is done by the
+//! proved static library; this package declares its two functions, and takes their answers and the bytes they write apart.
+//!
+//! [`try_check`] and [`try_play`] answer what was written as an iterator, or the [`Refusal`]; [`check`] and [`play`] answer the plain
+//! number. Any bytes of any length may be lent. On refusal the output or log keeps its bytes, and so do on acceptance those past what
+//! is written.
+//!
+//! "Question N" is that of docs/REFERENCE.md.
 
-/// What a service answers.
-#[derive(Clone, Copy, Debug, PartialEq, Eq)]
-pub enum Answer {
-    /// The length written (check) or the number of moves (play).
-    Accepted(usize),
-    /// The number of the first question of document 01 that fails; the memory lent keeps its bytes.
-    Refused(usize),
-}
+mod entries;
+mod limits;
+mod records;
+mod refusal;
+mod services;
 
-/// A slice as C takes it: where its bytes are, and how many.
-#[repr(C)]
-struct Bytes {
-    at: *const u8,
-    length: usize,
-}
-
-#[repr(C)]
-struct Lent {
-    at: *mut u8,
-    length: usize,
-}
-
-extern "C" {
-    fn velimhaw_check(sheet: Bytes, charter: Bytes, output: Lent) -> u64;
-    fn velimhaw_play(sheet: Bytes, charter: Bytes, script: Bytes, log: Lent) -> u64;
-}
-
-fn bytes(s: &[u8]) -> Bytes {
-    Bytes { at: s.as_ptr(), length: s.len() }
-}
-
-fn lent(s: &mut [u8]) -> Lent {
-    Lent { at: s.as_mut_ptr(), length: s.len() }
-}
-
-/// Below 64: the number of a question. From 64 on: accepted.
-fn answer(code: u64) -> Answer {
-    if code < 64 {
-        Answer::Refused(code as usize)
-    } else {
-        Answer::Accepted((code - 64) as usize)
-    }
-}
-
-/// Infers the permissions that a sheet needs, accepts or refuses it against the charter, and writes the interface into the output.
-pub fn check(sheet: &[u8], charter: &[u8], output: &mut [u8]) -> Answer {
-    // SAFETY: each slice is valid for its length for the time of the call, and `output` is lent to the call alone. The function is
-    // proved for any bytes in all three, and writes nothing but `output`.
-    answer(unsafe { velimhaw_check(bytes(sheet), bytes(charter), lent(output)) })
-}
-
-/// Runs a script of moves on a sheet that its charter accepts, and writes a record of eight bytes for each move into the log.
-pub fn play(sheet: &[u8], charter: &[u8], script: &[u8], log: &mut [u8]) -> Answer {
-    // SAFETY: as for `check`; the function is proved for any bytes in all four slices, and writes nothing but `log`.
-    answer(unsafe { velimhaw_play(bytes(sheet), bytes(charter), bytes(script), lent(log)) })
-}
+pub use entries::{Disclosure, Entries, Entry};
+pub use limits::*;
+pub use records::{Record, Records};
+pub use refusal::{question, Refusal};
+pub use services::{check, play, try_check, try_play, Answer};

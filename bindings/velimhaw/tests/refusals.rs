@@ -1,0 +1,42 @@
+//! Tests the lines of the questions: each number has its own, the same as in the C header, and a refusal shows it.
+use std::collections::HashSet;
+use velimhaw::{question, Refusal};
+
+const HEADER: &str = include_str!("../../c/velimhaw.h");
+
+fn numbers() -> impl Iterator<Item = usize> {
+    (1..=22).chain(30..=35)
+}
+
+#[test]
+fn each_number_has_its_own_line() {
+    let lines: HashSet<&str> = numbers().map(|number| question(number).unwrap()).collect();
+    assert_eq!(lines.len(), 28);
+    assert!(lines.iter().all(|line| !line.is_empty() && !line.contains('\n')));
+}
+
+#[test]
+fn a_refusal_shows_its_line() {
+    for number in numbers() {
+        let shown = Refusal::new(number).to_string();
+        assert_eq!(shown, format!("refused {number}, not met: {}", question(number).unwrap()));
+    }
+    let refusal: Box<dyn std::error::Error> = Box::new(Refusal::new(18));
+    assert_eq!(refusal.to_string(), "refused 18, not met: each entry covered by what the charter grants its path");
+}
+
+#[test]
+fn other_numbers_have_no_line() {
+    for number in [0].into_iter().chain(23..30).chain(36..100).chain([usize::MAX]) {
+        assert_eq!(question(number), None);
+        assert_eq!(Refusal::new(number).to_string(), format!("refused {number}, not met: no question has this number"));
+    }
+}
+
+#[test]
+fn the_header_has_the_same_lines() {
+    for number in numbers() {
+        let case = format!("case {number}: return \"{}\";", question(number).unwrap());
+        assert!(HEADER.contains(&case), "{case}");
+    }
+}

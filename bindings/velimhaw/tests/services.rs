@@ -1,0 +1,102 @@
+//! Tests the services on example W and on refused calls: what is answered, and what the lent memory holds then.
+mod w;
+
+use velimhaw::*;
+
+const KEPT: u8 = 0xaa;
+
+#[test]
+fn check_w() {
+    let mut output = [KEPT; 16];
+    assert_eq!(check(&w::SHEET, &w::CHARTER, &mut output), Answer::Accepted(14));
+    assert_eq!(output[..14], w::INTERFACE);
+    assert_eq!(output[14..], [KEPT; 2]);
+}
+
+#[test]
+fn play_w() {
+    let mut log = [KEPT; 26];
+    assert_eq!(play(&w::SHEET, &w::CHARTER, &w::SCRIPT, &mut log), Answer::Accepted(3));
+    assert_eq!(log[..24], w::LOG);
+    assert_eq!(log[24..], [KEPT; 2]);
+}
+
+#[test]
+fn try_check_answers_the_entries() {
+    let mut output = [KEPT; INTERFACE_MAX];
+    let entries = try_check(&w::SHEET, &w::CHARTER, &mut output).unwrap();
+    assert_eq!(entries.rest(), w::INTERFACE);
+    let lines: Vec<String> = entries.map(|entry| entry.to_string()).collect();
+    assert_eq!(lines, ["0 0.1 d0:1", "0 0.2 r a"]);
+}
+
+#[test]
+fn try_play_answers_the_records() {
+    let mut log = [KEPT; LOG_MAX];
+    let records = try_play(&w::SHEET, &w::CHARTER, &w::SCRIPT, &mut log).unwrap();
+    assert_eq!(records.rest(), w::LOG);
+    assert_eq!(records.count(), 3);
+}
+
+#[test]
+fn empty_slices() {
+    assert_eq!(try_check(&[], &[], &mut []).unwrap_err(), Refusal::new(2));
+    assert_eq!(try_check(&[0, 0], &[0], &mut []).unwrap().count(), 0);
+    assert_eq!(try_play(&[0, 0], &[0], &[], &mut []).unwrap().count(), 0);
+}
+
+#[test]
+fn a_refused_check_leaves_the_output() {
+    let long = [0; SHEET_MAX + 1];
+    let cases: [(u8, &[u8], &[u8]); 4] =
+        [(1, &long, &w::CHARTER), (2, &w::SHEET[..28], &w::CHARTER), (11, &w::SHEET, &[]), (16, &w::SHEET, &[0])];
+    for (number, sheet, charter) in cases {
+        let mut output = [KEPT; 32];
+        assert_eq!(try_check(sheet, charter, &mut output).unwrap_err().number(), number.into());
+        assert_eq!(output, [KEPT; 32]);
+    }
+}
+
+#[test]
+fn a_short_output_or_log_is_left() {
+    let mut output = [KEPT; 13];
+    assert_eq!(try_check(&w::SHEET, &w::CHARTER, &mut output).unwrap_err().number(), 19);
+    assert_eq!(output, [KEPT; 13]);
+    let mut log = [KEPT; 23];
+    assert_eq!(try_play(&w::SHEET, &w::CHARTER, &w::SCRIPT, &mut log).unwrap_err().number(), 22);
+    assert_eq!(log, [KEPT; 23]);
+}
+
+#[test]
+fn a_refused_script_leaves_the_log() {
+    let mut log = [KEPT; 32];
+    assert_eq!(try_play(&w::SHEET, &w::CHARTER, &[9], &mut log).unwrap_err().number(), 21);
+    assert_eq!(log, [KEPT; 32]);
+}
+
+#[test]
+fn a_refused_move_is_a_record() {
+    let mut log = [KEPT; 8];
+    let records: Vec<Record> = try_play(&w::SHEET, &w::CHARTER, &[3, 1, 0, 0], &mut log).unwrap().collect();
+    assert_eq!(records, [Record::Refused(Refusal::new(33))]);
+}
+
+#[test]
+fn the_longest_script_is_played() {
+    let script = [5, 4, 0, 1, 2, 3, 0].repeat(MOVES_MAX);
+    let mut log = [KEPT; LOG_MAX];
+    assert_eq!(script.len(), SCRIPT_MAX);
+    let records: Vec<Record> = try_play(&[0, 0], &[0], &script, &mut log).unwrap().collect();
+    assert_eq!(records.len(), MOVES_MAX);
+    assert_eq!(records[MOVES_MAX - 1], Record::EnvironmentName { name: NAMES_MAX - 1 });
+}
+
+#[test]
+fn the_constants_of_the_header_are_these() {
+    let header = include_str!("../../c/velimhaw.h");
+    let sizes = [("SHEET_MAX", SHEET_MAX), ("CHARTER_MAX", CHARTER_MAX), ("SCRIPT_MAX", SCRIPT_MAX), ("INTERFACE_MAX", INTERFACE_MAX)];
+    let more = [("RECORD_LENGTH", RECORD_LENGTH), ("LOG_MAX", LOG_MAX), ("MOVES_MAX", MOVES_MAX), ("UNLIMITED", UNLIMITED.into())];
+    for (name, value) in sizes.into_iter().chain(more) {
+        assert!(header.contains(&format!("#define VELIMHAW_{name} {value}u")), "{name}");
+    }
+}
