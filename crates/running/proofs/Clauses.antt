@@ -36,8 +36,14 @@ w = record { free = 1040 ∷ 16 ∷ []; system = groupₛ 0 (parₛ (compₛ 1 s
 -- W's charter with permissions for node 1: W's own, and none.
 abbrev charter : Permissions → List Tree
 charter own =
-    record { kind = 0; root = record { group = 0; permissions = record { map = 8; list = [] };
-      below = more 1 own none (more 2 (record { map = 5; list = [] }) none none) } } ∷ []
+    record {
+      kind = 0;
+      root = record {
+        group = 0;
+        permissions = record { map = 8; list = [] };
+        below = more 1 own none (more 2 (record { map = 5; list = [] }) none none);
+      };
+    } ∷ []
 
 abbrev once : Permissions
 once = record { map = 16; list = record { group = 0; count = 1 } ∷ [] }
@@ -71,11 +77,11 @@ named-fails = refl
 -- wrong type; a channel whose group is not in the path.
 pub typed-fails :
     map isTyped (
-      state (sender ∷ receiver ∷ []) ∷
-      state (thread 0 (0 ∷ 1 ∷ []) (0 ∷ 7 ∷ []) sending ∷ []) ∷
-      state (thread 0 (0 ∷ 1 ∷ []) (1 ∷ 7 ∷ []) sending ∷ []) ∷
-      state (thread 0 (0 ∷ 1 ∷ []) (1 ∷ 1 ∷ []) sending ∷ []) ∷
-      state (thread 0 (1 ∷ []) (0 ∷ 1 ∷ []) sending ∷ []) ∷ [])
+    state (sender ∷ receiver ∷ []) ∷
+    state (thread 0 (0 ∷ 1 ∷ []) (0 ∷ 7 ∷ []) sending ∷ []) ∷
+    state (thread 0 (0 ∷ 1 ∷ []) (1 ∷ 7 ∷ []) sending ∷ []) ∷
+    state (thread 0 (0 ∷ 1 ∷ []) (1 ∷ 1 ∷ []) sending ∷ []) ∷
+    state (thread 0 (1 ∷ []) (0 ∷ 1 ∷ []) sending ∷ []) ∷ [])
     ≡ true ∷ false ∷ false ∷ false ∷ false ∷ []
 unfolding guarantees-computed
 typed-fails = refl
@@ -83,10 +89,10 @@ typed-fails = refl
 -- `placed`: W's threads; a thread with another path, with a wider one, and with another component's number.
 pub placed-fails :
     map (allLocated w) (
-      state (sender ∷ receiver ∷ []) ∷
-      state (thread 0 (0 ∷ 2 ∷ []) (0 ∷ 1 ∷ []) sending ∷ []) ∷
-      state (thread 0 (0 ∷ 1 ∷ 2 ∷ []) (0 ∷ 1 ∷ []) sending ∷ []) ∷
-      state (thread 1 (0 ∷ 1 ∷ []) (0 ∷ 1 ∷ []) sending ∷ []) ∷ [])
+    state (sender ∷ receiver ∷ []) ∷
+    state (thread 0 (0 ∷ 2 ∷ []) (0 ∷ 1 ∷ []) sending ∷ []) ∷
+    state (thread 0 (0 ∷ 1 ∷ 2 ∷ []) (0 ∷ 1 ∷ []) sending ∷ []) ∷
+    state (thread 1 (0 ∷ 1 ∷ []) (0 ∷ 1 ∷ []) sending ∷ []) ∷ [])
     ≡ true ∷ false ∷ false ∷ false ∷ []
 unfolding guarantees-computed
 placed-fails = refl

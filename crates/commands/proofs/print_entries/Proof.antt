@@ -1,14 +1,14 @@
 -- The loop ends because the turns run out; it promises nothing else.
 use Prim.Native.Nat.{_≤_}
 use borrow.Author.Needs.{needs}
-use Rattle.list.proofs.print_entries.Statement.{statement}
-use Rattle.list.proofs.print_entries.Tie as tie
+use Rattle.commands.proofs.print_entries.Statement.{statement}
+use Rattle.commands.proofs.print_entries.Tie as tie
 
 abbrev Inv-loop : tie.InvT-loop
-Inv-loop interface at₀ turns₀ at turns = turns ≤ 4608
+Inv-loop interface between at₀ turns₀ at turns = turns ≤ 4608
 
 abbrev μ-loop : tie.MeasureT-loop
-μ-loop interface at₀ turns₀ at turns = turns
+μ-loop interface between at₀ turns₀ at turns = turns
 
 pub print-entries-spec : {M : Type 1} → statement M
 print-entries-spec =

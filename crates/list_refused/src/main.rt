@@ -1,0 +1,4 @@
+// The program `list` on a sheet that its charter refuses with 18: what is written is `refused 18`, and nothing else.
+fn main() {
+    commands::list();
+}

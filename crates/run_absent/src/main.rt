@@ -1,0 +1,4 @@
+// The program `run` in a folder without files: each is read as empty, so that question 2 fails.
+fn main() {
+    commands::run();
+}

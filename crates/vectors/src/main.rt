@@ -1,0 +1,136 @@
+// Puts stored cases through both services, and prints for each, by its number, what `list` and `run` write: the listing's lines
+// parted by semicolons, the log's bytes in hexadecimal. What is printed is compared with the file stdout, which the script `make`
+// writes from the cases, as it does data/cases.bin: for each case three two-byte lengths, low byte first, then the bytes of the
+// sheet, the charter and the script.
+use commands::print_listing;
+use execution::play;
+use files::first;
+use files::print_refused;
+use fixtures::put;
+use fixtures::say;
+use libc::STDOUT_FILENO;
+use service::Answer;
+ghost use Prim.Native.Nat.{_<_};
+
+fn wide(b: u8) -> usize
+    ensures { λ r. ⌜ r < 256 ⌝ }
+{
+    b as usize
+}
+
+fn two_bytes(low: u8, high: u8) -> usize {
+    wide(low) + 256 * wide(high)
+}
+
+// Reads the next `n` bytes of the file, as many as there are and fit the buffer.
+fn next_bytes(fd: i32, buf: &mut [u8], n: usize) -> usize {
+    if buf.len() < n {
+        return io::read_full(fd, buf);
+    }
+    io::read_full(fd, &mut buf[..n])
+}
+
+// The hexadecimal digit of the low half of a byte.
+fn digit(b: u8) -> u8 {
+    let n = b % 16;
+    if n < 10 { 48 + n } else { 87 + n }
+}
+
+// Stores a space and a byte in hexadecimal.
+fn put_pair(text: &mut [u8], at: usize, b: u8) -> usize {
+    let space = put(text, at, 32);
+    let high = put(text, space, digit(b / 16));
+    put(text, high, digit(b))
+}
+
+// Stores bytes in hexadecimal, a space before each.
+fn put_pairs(text: &mut [u8], bytes: &[u8]) -> usize {
+    let mut next: usize = 0;
+    let mut i: usize = 0;
+    while i < bytes.len() {
+        next = put_pair(text, next, bytes[i]);
+        i += 1;
+    }
+    next
+}
+
+// Prints a log of at most 1,024 records in hexadecimal.
+fn say_log(log: &[u8]) {
+    let mut text = [0u8; 24576];
+    let n = put_pairs(&mut text, log);
+    say(first(&text, n));
+    say(b"\n");
+}
+
+fn show_listing(number: u64, sheet: &[u8], charter: &[u8]) {
+    io::print_decimal(STDOUT_FILENO, number);
+    say(b" list: ");
+    print_listing(sheet, charter, b"; ");
+}
+
+fn show_run(number: u64, sheet: &[u8], charter: &[u8], script: &[u8]) {
+    let mut log = [0u8; 8192];
+    io::print_decimal(STDOUT_FILENO, number);
+    say(b" run:");
+    let answer = play(sheet, charter, script, &mut log);
+    match answer {
+        Answer::Accepted(n) => {
+            if n <= 1024 {
+                say_log(first(&log, n * 8));
+            }
+        }
+        Answer::Refused(n) => {
+            say(b" ");
+            print_refused(n);
+        }
+    }
+}
+
+// Reads a case whose parts have these lengths, and shows it.
+fn show_case(fd: i32, number: u64, sheet_len: usize, charter_len: usize, script_len: usize) {
+    let mut sheet = [0u8; 4097];
+    let mut charter = [0u8; 4097];
+    let mut script = [0u8; 7169];
+    let s = next_bytes(fd, &mut sheet, sheet_len);
+    let c = next_bytes(fd, &mut charter, charter_len);
+    let m = next_bytes(fd, &mut script, script_len);
+    show_listing(number, first(&sheet, s), first(&charter, c));
+    show_run(
+        number,
+        first(&sheet, s),
+        first(&charter, c),
+        first(&script, m),
+    );
+}
+
+// Shows the next case of the file; whether there was one.
+fn show_next(fd: i32, number: u64) -> bool {
+    let mut h = [0u8; 6];
+    if io::read_full(fd, &mut h) < 6 {
+        return false;
+    }
+    let sheet_len = two_bytes(h[0], h[1]);
+    let charter_len = two_bytes(h[2], h[3]);
+    let script_len = two_bytes(h[4], h[5]);
+    show_case(fd, number, sheet_len, charter_len, script_len);
+    true
+}
+
+// Shows the cases of the file, at most 65,535.
+fn show_all(fd: i32) {
+    let mut number: u64 = 1;
+    while number < 65536 {
+        if !show_next(fd, number) {
+            return;
+        }
+        number += 1;
+    }
+}
+
+fn main() {
+    let fd = os::open_read(b"cases.bin");
+    if 0 <= fd {
+        show_all(fd);
+        libc::close(fd);
+    }
+}
