@@ -8,11 +8,10 @@ use borrow.Author.Needs.{needs}
 use borrow.Author.Tests.{le-leb, lt-leb}
 use lib.Dec.{leb}
 use lib.ListN.{length, getD, replicate, length-replicate}
-use Rattle.reading.proofs.Parts.{never}
 use Rattle.reading.specs.Read.{Read, got, refused}
 use Rattle.reading.specs.Syntax.{Sheet}
 use Rattle.reading.specs.System.{readSheet}
-use Rattle.reading.specs.Told.{number}
+use Rattle.reading.specs.Told.{number, refusalOf}
 use Rattle.reading.specs.declared.Number.{Number}
 use Rattle.reading.specs.declared.NumberRead.{NumberRead}
 use Rattle.reading.specs.declared.NumberRead.the-variants as number-read
@@ -27,7 +26,7 @@ use Rattle.service.proofs.FirstLaws.{Passed, first-passes, first-fails}
 use Rattle.running.specs.State.{State}
 use Rattle.running.specs.Products.{start}
 use Rattle.running.specs.Moves.{Move, hasRoom, runLog}
-use Rattle.running.specs.Script.{asTwentyOne, readScript}
+use Rattle.running.specs.Script.{readScript}
 use Rattle.running.specs.Play.{openedFrom, opened, logged, outcomeOf, played}
 use Rattle.script.specs.Told.{countedMoves}
 use Rattle.script.proofs.ScriptLaws.{script-moves, script-few}
@@ -40,26 +39,17 @@ use Rattle.execution.specs.Begins.{Reads, begun, startOf, listed, movesO
 use Rattle.execution.specs.Runs.{Going}
 
 -- Question 21.
-twenty-one : (r : Read (List Move)) {q p : ℕ} → asTwentyOne r ≡ refused q p → q ≡ 21
-unfolding asTwentyOne
-twenty-one (got ms e) h = never (sym h)
-twenty-one (refused a b) {q} {p} h = let e : 21 ≡ q = cc in sym e
-
-script-question : (script : List ℕ) {q p : ℕ} → readScript script ≡ refused q p → q ≡ 21
-unfolding readScript
-script-question script h = twenty-one _ h
-
 moves-are : (script : List ℕ) {ms : List Move} {e : ℕ} → readScript script ≡ got ms e → movesOf script ≡ ms
 unfolding movesOf listed
 moves-are script h = rw h
 
 module _ (begin : State) (script log : List ℕ) where
-  pub script-fails : (r : NumberRead) (q : Refusal) → r ≡ number-read.Refused q → number r ≡ countedMoves (readScript script)
-      → Comes (playedScript begin script log) log (answer-case.Refused 21)
+  pub script-fails : (r : NumberRead) (q w : Refusal) → r ≡ number-read.Refused q → w ≡ refusalOf r → number r ≡ countedMoves (readScript script)
+      → Comes (playedScript begin script log) log (answer-case.Refused (w .question))
   unfolding playedScript scripted logged outcomeOf afterReading
-  script-fails r q e h =
-      let f = script-refused script (ap number (sym e) ∙ h) in
-      let k : q .question ≡ 21 = script-question script f in
+  script-fails r q w e o h =
+      let f : readScript script ≡ refused (q .question) (q .at) = script-refused script (ap number (sym e) ∙ h) in
+      let k : w .question ≡ q .question = ap (λ (x : Refusal). x .question) (o ∙ ap refusalOf e) in
       record { answer = rw (f, k); lent = rw f }
 
   module _ (r : NumberRead) (n : Number) (e : r ≡ number-read.Found n) (h : number r ≡ countedMoves (readScript script)) where

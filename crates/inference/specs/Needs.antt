@@ -35,6 +35,7 @@ channelNeed sends (Channel g t) = carriedNeed sends g (shape t)
 unfoldable pub need : Bool → ℕ → Need
 need sends t = channelNeed sends (shape t)
 
+-- An act whose channel is not in scope, or is no channel, needs nothing; such an act fails 7 or 8, and is an error by itself.
 unfoldable pub needOn : Bool → Option ℕ → Need
 needOn sends none = Nothing
 needOn sends (some t) = need sends t

@@ -15,7 +15,7 @@ unfoldable pub andThen : {A B : Type 0} → Read A → (A → ℕ → Read B) �
 andThen (got a next) f = f a next
 andThen (refused question at) f = refused question at
 
--- Question 2: "is there a byte where one is due?"
+-- Question 2: "is there a byte where one is due?" (The 0 of `getD` is never met: the place is tested first.)
 unfoldable pub byteAt : List ℕ → ℕ → Read ℕ
 byteAt s at = cond (ltb at (length s)) (got (getD s at 0) (at + 1)) (refused 2 at)
 

@@ -1,7 +1,4 @@
--- Proofs of running: computed equations, worked cases, and demand 3 over the definitions.
-pub mod Computed
-pub mod Cases
-pub mod Table
+-- Proofs of running: demand 3 over the definitions, then computed equations and worked cases.
 pub mod Alls
 pub mod ProductLaws
 pub mod Owed
@@ -11,4 +8,7 @@ pub mod Accepted
 pub mod Homes
 pub mod Runs
 pub mod Theorem
+pub mod Computed
+pub mod Cases
+pub mod Table
 pub mod Clauses

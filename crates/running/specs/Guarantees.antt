@@ -73,7 +73,8 @@ pub record NotBeyond (now start : List Act) : Type 0 where
   pub accesses : (k : ℕ) → any (λ a. isAccess k (needOf a)) now ≡ true → any (λ a. isAccess k (needOf a)) start ≡ true
   pub counts : (k h : ℕ) → atMost (disclosed k h now) (disclosed k h start) ≡ true
 
--- "A thread's next act is its next receive or send (a repeat has none before its copy)": the first of its acts.
+-- "A thread's next act is its next receive or send (a repeat has none before its copy)": the first of its acts. (An input
+-- or output has a first act, so that an empty list is never met there.)
 unfoldable pub nextOf : Process → List Act → Option Act
 nextOf nil rest = none
 nextOf (par p q) rest = none

@@ -49,6 +49,8 @@ pub record Receiving : Type 0 where
   pub bound : ℕ
   pub continuation : Process
 
+-- 65,535 is never met in a run of an accepted sheet: every level that an act uses is in scope (`typed` of `Guaranteed`, question 7),
+-- and so has a run name.
 unfoldable pub runName : Thread → ℕ → ℕ
 runName t level = getD (t .names) level 65535
 
@@ -106,6 +108,7 @@ unfoldable pub hasRoom : State → Bool
 hasRoom s = leb (length (s .threads)) 64 && leb (length (s .types)) 1024
 
 -- "A record: 00; label; channel and name, two bytes each; acting post, receiver's post. Absent fields are all ones."
+-- Names are at most 1,024 (35), so that two bytes hold each.
 unfoldable pub word : ℕ → List ℕ
 word n = n % 256 ∷ n / 256 % 256 ∷ []
 
@@ -130,7 +133,8 @@ sendStep s i =
     (taken (nowKnown (a .sent) (after s (set (singles (s .threads)) i (made s 0 t (t .names) (a .continuation))) (news (a .continuation))))
     (recordOf (cond (environmentKnows s (a .sent)) 3 4) (a .channel) (a .sent) (t .component .number) 255))))
 
--- 03: "receive v from outside"; label 2.
+-- 03: "receive v from outside"; label 2. 33 never meets the type 0 of a name without one: a name known to the environment (32) has been
+-- given, with its type.
 unfoldable pub receiveStep : State → ℕ → ℕ → Result
 receiveStep s i v =
     given 30 (getElem? (s .threads) i) (λ t. given 31 (asReceiving t (t .process)) (λ a.

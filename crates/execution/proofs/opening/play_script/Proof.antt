@@ -1,4 +1,4 @@
--- `play_script`: a script that does not read fails 21, a log that is too short 22; else the run begins at the script's first byte.
+-- `play_script`: a script that does not read leaves with its refusal, a log that is too short 22; else the run begins at the script's first byte.
 use Rattle.execution.proofs.PlaySteps.{script-steps}
 use borrow.Author.Needs.{needs}
 use Rattle.execution.proofs.opening.play_script.Statement.{statement}
@@ -14,6 +14,7 @@ play-script-spec =
     (λ c κs. search needs)
     (λ c. search needs)
     (λ c. search needs)
+    (λ c κs. search needs)
     (λ c. search script-steps)
     (λ c. search script-steps)
     run-requires
