@@ -6,19 +6,19 @@ pub const W_SHEET: [u8; 29] = [
 ];
 pub const W_CHARTER: [u8; 15] = [1, 0, 0, 8, 2, 1, 0x10, 1, 0, 1, 0, 0, 2, 5, 0];
 
-/// A sheet of exactly `size` bytes: posts below group 0 that receive and send links and data of `kinds` kinds.
-pub fn sheet(size: usize, posts: usize, kinds: usize) -> Vec<u8> {
+/// A sheet of exactly `size` bytes: components below group 0 that receive and send links and data of `kinds` kinds.
+pub fn sheet(size: usize, components: usize, kinds: usize) -> Vec<u8> {
     let mut out = vec![2 * kinds as u8];
     for kind in 0..kinds as u8 {
         out.extend_from_slice(&[2, 0, 0, kind, 1, 0, kind]);
     }
     out.extend_from_slice(&[2, 0]);
-    let frames = (posts - 1) + 3 * posts;
+    let frames = (components - 1) + 3 * components;
     let bodies = size - out.len() - frames;
     let mut number = 0;
-    parallel(&mut out, posts, &mut |out| {
-        let end = bodies * (number + 1) / posts - bodies * number / posts;
-        post(out, number, end, kinds);
+    parallel(&mut out, components, &mut |out| {
+        let end = bodies * (number + 1) / components - bodies * number / components;
+        component(out, number, end, kinds);
         number += 1;
     });
     assert_eq!(out.len(), size);
@@ -35,8 +35,8 @@ fn parallel(out: &mut Vec<u8>, count: usize, part: &mut dyn FnMut(&mut Vec<u8>))
     parallel(out, count - count / 2, part);
 }
 
-/// A post whose acts take exactly `left` bytes.
-fn post(out: &mut Vec<u8>, number: usize, mut left: usize, kinds: usize) {
+/// A component whose acts take exactly `left` bytes.
+fn component(out: &mut Vec<u8>, number: usize, mut left: usize, kinds: usize) {
     out.extend_from_slice(&[4, 1 + (number % 3) as u8]);
     let mut bound = 2 * kinds as u8;
     let mut kind = number % kinds;
@@ -81,10 +81,10 @@ pub fn running_sheet(idle: usize) -> Vec<u8> {
     out
 }
 
-/// A charter that lets post 0 read and write kind 0.
+/// A charter that lets component 0 read and write kind 0.
 pub const RUNNING_CHARTER: [u8; 5] = [1, 0, 0, 3, 0];
 
-/// So many moves: copies of the send and of the receive, and their meeting, over and over.
+/// So many moves: unfoldings of the send and of the receive, and their communication, over and over.
 pub fn running_script(moves: usize, idle: usize) -> Vec<u8> {
     let at = idle as u8;
     let turn: [&[u8]; 3] = [&[1, at], &[1, at + 2], &[4, at, at + 2]];

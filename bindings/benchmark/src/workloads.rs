@@ -19,11 +19,11 @@ pub fn lent() -> Vec<u8> {
 pub fn all() -> Vec<Workload> {
     let mut all = vec![
         check("check, W", inputs::W_SHEET.to_vec(), inputs::W_CHARTER.to_vec()),
-        check("check, typical: 12 posts, 300 bytes", inputs::sheet(300, 12, 3), inputs::charter(3)),
+        check("check, typical: 12 components, 300 bytes", inputs::sheet(300, 12, 3), inputs::charter(3)),
         check("check, largest: 4,096 bytes, 64 nodes", inputs::sheet(4096, 32, 16), inputs::charter(16)),
     ];
-    for (size, posts) in [(256, 2), (1024, 8), (4096, 32)] {
-        all.push(check(&format!("check, growth: {size} bytes"), inputs::sheet(size, posts, 4), inputs::charter(4)));
+    for (size, components) in [(256, 2), (1024, 8), (4096, 32)] {
+        all.push(check(&format!("check, growth: {size} bytes"), inputs::sheet(size, components, 4), inputs::charter(4)));
     }
     for (moves, idle, threads) in [(1024, 0, "few"), (1024, 60, "64"), (512, 60, "64"), (256, 60, "64")] {
         all.push(play(&format!("play, {moves} moves, {threads} threads"), moves, idle));

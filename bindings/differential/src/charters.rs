@@ -22,7 +22,7 @@ pub fn covering(random: &mut Random, sheet: &Sheet, interface: &[Entry]) -> Char
 }
 
 fn covering_tree(random: &mut Random, sheet: &Sheet, entries: &[&Entry]) -> Node {
-    let paths: Vec<&Vec<u8>> = entries.iter().map(|entry| &sheet.paths[entry.post]).collect();
+    let paths: Vec<&Vec<u8>> = entries.iter().map(|entry| &sheet.paths[entry.component]).collect();
     let shared: Vec<u8> = paths[0].iter().copied().filter(|g| paths.iter().all(|path| path.contains(g))).collect();
     let mut grants = Grants::new();
     for (entry, path) in entries.iter().zip(&paths) {

@@ -1,4 +1,4 @@
-//! Sheets and charters around the limits of document 01: lengths, nesting, names, posts, threads, nodes.
+//! Sheets and charters around the limits of document 01: lengths, nesting, names, components, threads, nodes.
 
 use crate::random::Random;
 
@@ -8,7 +8,7 @@ pub fn edge(random: &mut Random) -> (Vec<u8>, Vec<u8>) {
     match random.below(11) {
         0 => (nested(&[3, 0, 0], 62 + step), vec![0]),
         1 => (nested(&[1], 62 + step).into_iter().chain(vec![0; 62 + step]).collect(), vec![0]),
-        2 => (posts(31 + step, &[4, 0, 0]), vec![0]),
+        2 => (components(31 + step, &[4, 0, 0]), vec![0]),
         3 => (threads(62 + step), vec![0]),
         4 => (new_names(random.between(1022, 1025)), vec![0]),
         5 => (groups(6 + step), vec![0]),
@@ -29,13 +29,13 @@ fn nested(form: &[u8], times: usize) -> Vec<u8> {
 }
 
 /// So many systems side by side.
-fn posts(count: usize, post: &[u8]) -> Vec<u8> {
+fn components(count: usize, component: &[u8]) -> Vec<u8> {
     let mut out = vec![0];
-    parallel(&mut out, count, post);
+    parallel(&mut out, count, component);
     out
 }
 
-/// So many copies of a text in parallel, as evenly nested as can be.
+/// A form so many times in parallel, as evenly nested as can be.
 pub fn parallel(out: &mut Vec<u8>, count: usize, text: &[u8]) {
     if count <= 1 {
         return out.extend_from_slice(text);
@@ -45,7 +45,7 @@ pub fn parallel(out: &mut Vec<u8>, count: usize, text: &[u8]) {
     parallel(out, count - count / 2, text);
 }
 
-/// One post with so many repeats.
+/// One component with so many repeats.
 fn threads(count: usize) -> Vec<u8> {
     let mut out = vec![0, 4, 0];
     parallel(&mut out, count, &[7, 0]);

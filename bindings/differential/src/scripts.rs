@@ -24,7 +24,7 @@ fn choose(random: &mut Random, state: &State) -> Move {
     match random.below(100) {
         0..=3 => any(random, state),
         4..=7 => near_miss(random, state).unwrap_or_else(|| any(random, state)),
-        8..=13 => Move::Outside(wanted_type(random, state)),
+        8..=13 => Move::EnvironmentName(wanted_type(random, state)),
         _ => (0..12).find_map(|_| allowed(random, state)).unwrap_or_else(|| otherwise(random, state)),
     }
 }
@@ -35,14 +35,14 @@ fn near_miss(random: &mut Random, state: &State) -> Option<Move> {
     let senders = partners(state, |j| state.threads[j].sending().is_some());
     let receiver = pick(random, &receivers)?;
     match pick(random, &senders) {
-        Some(sender) if random.chance(50) => Some(Move::Meet(sender, receiver)),
+        Some(sender) if random.chance(50) => Some(Move::Communicate(sender, receiver)),
         _ => Some(Move::Receive(receiver, random.below(state.types.len() + 1) as u16)),
     }
 }
 
-/// Where no allowed move was found: a name from outside that may help, or any move.
+/// Where no allowed move was found: a name of the environment that may help, or any move.
 fn otherwise(random: &mut Random, state: &State) -> Move {
-    if random.chance(60) { Move::Outside(wanted_type(random, state)) } else { any(random, state) }
+    if random.chance(60) { Move::EnvironmentName(wanted_type(random, state)) } else { any(random, state) }
 }
 
 /// Any move, with thread and name numbers around those that exist.
@@ -50,11 +50,11 @@ pub fn any(random: &mut Random, state: &State) -> Move {
     let i = random.below(state.threads.len() + 2) as u8;
     let j = random.below(state.threads.len() + 2) as u8;
     match random.below(5) {
-        0 => Move::Copy(i),
+        0 => Move::Unfold(i),
         1 => Move::Send(i),
         2 => Move::Receive(i, random.below(state.types.len() + 2) as u16),
-        3 => Move::Meet(i, j),
-        _ => Move::Outside(Type::new(&random.bytes(2).iter().map(|b| b % 64).collect::<Vec<_>>(), random.byte() % 16)),
+        3 => Move::Communicate(i, j),
+        _ => Move::EnvironmentName(Type::new(&random.bytes(2).iter().map(|b| b % 64).collect::<Vec<_>>(), random.byte() % 16)),
     }
 }
 
@@ -77,17 +77,17 @@ fn allowed(random: &mut Random, state: &State) -> Option<Move> {
     let thread = &state.threads[i];
     if let Some((channel, _, _)) = thread.sending() {
         let partners = partners(state, |j| state.threads[j].receiving().is_some_and(|(other, _, _)| other == channel));
-        let outside = state.is_known(channel) && (partners.is_empty() || random.chance(40));
-        return if outside { Some(Move::Send(i as u8)) } else { pick(random, &partners).map(|j| Move::Meet(i as u8, j)) };
+        let with_environment = state.is_known(channel) && (partners.is_empty() || random.chance(40));
+        return if with_environment { Some(Move::Send(i as u8)) } else { pick(random, &partners).map(|j| Move::Communicate(i as u8, j)) };
     }
     if let Some((channel, bound, _)) = thread.receiving() {
         let partners = partners(state, |j| state.threads[j].sending().is_some_and(|(other, _, _)| other == channel));
-        let meets = pick(random, &partners).map(|j| Move::Meet(j, i as u8));
-        let outside = receive(random, state, i, channel, bound);
-        return if random.chance(50) { meets.or(outside) } else { outside.or(meets) };
+        let communicates = pick(random, &partners).map(|j| Move::Communicate(j, i as u8));
+        let with_environment = receive(random, state, i, channel, bound);
+        return if random.chance(50) { communicates.or(with_environment) } else { with_environment.or(communicates) };
     }
     let crowded = state.threads.len() > 40 && random.chance(80);
-    if crowded { None } else { Some(Move::Copy(i as u8)) }
+    if crowded { None } else { Some(Move::Unfold(i as u8)) }
 }
 
 fn partners(state: &State, fits: impl Fn(usize) -> bool) -> Vec<u8> {

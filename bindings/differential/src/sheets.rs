@@ -1,11 +1,11 @@
-//! Generates sheets, mostly well-typed: repeats, new names, links received and sent on, posts in nested groups.
+//! Generates sheets, mostly well-typed: repeats, new names, links received and sent on, components in nested groups.
 
 use crate::random::Random;
 use independent::types::Type;
 
 /// How a sheet is to look.
 pub struct Plan {
-    pub posts: usize,
+    pub components: usize,
     pub acts: usize,
     pub fault_percent: usize,
 }
@@ -15,7 +15,7 @@ pub fn plan(random: &mut Random) -> Plan {
     let large = random.chance(5);
     let fault_percent = if random.chance(15) { random.between(1, 8) } else { 0 };
     Plan {
-        posts: if large { random.between(8, 32) } else { random.between(1, 5) },
+        components: if large { random.between(8, 32) } else { random.between(1, 5) },
         acts: if large { random.between(20, 120) } else { random.between(1, 12) },
         fault_percent,
     }
@@ -72,14 +72,14 @@ impl Maker<'_> {
         Type::new(&groups, self.random.pick(&self.kinds))
     }
 
-    /// The system, mostly inside one group that all posts share.
+    /// The system, mostly inside one group that all components share.
     fn top(&mut self) {
-        let posts = self.plan.posts;
+        let components = self.plan.components;
         if self.random.chance(85) {
             let root = self.groups[0];
-            self.in_group(2, root, |maker| maker.system(posts, 2));
+            self.in_group(2, root, |maker| maker.system(components, 2));
         } else {
-            self.system(posts, 1);
+            self.system(components, 1);
         }
     }
 
@@ -104,21 +104,21 @@ impl Maker<'_> {
         self.plan.fault_percent > 0 && self.random.chance(self.plan.fault_percent)
     }
 
-    /// A system with so many posts.
-    fn system(&mut self, posts: usize, level: usize) {
+    /// A system with so many components.
+    fn system(&mut self, components: usize, level: usize) {
         let choice = self.random.below(100);
-        if posts == 0 {
+        if components == 0 {
             self.out.push(0);
         } else if choice < 12 && self.path.len() < 6 && level < 30 {
             let group = self.new_group();
-            self.in_group(2, group, |maker| maker.system(posts, level + 1));
+            self.in_group(2, group, |maker| maker.system(components, level + 1));
         } else if choice < 28 && self.scope.len() < 60 && level < 30 {
-            self.new_name(|maker| maker.system(posts, level + 1));
-        } else if posts > 1 || choice > 95 {
-            let left = self.random.between(posts / 2, posts.div_ceil(2));
+            self.new_name(|maker| maker.system(components, level + 1));
+        } else if components > 1 || choice > 95 {
+            let left = self.random.between(components / 2, components.div_ceil(2));
             self.out.push(1);
             self.system(left, level + 1);
-            self.system(posts - left, level + 1);
+            self.system(components - left, level + 1);
         } else {
             let group = self.new_group();
             let acts = self.random.between(0, self.plan.acts);
@@ -173,7 +173,7 @@ impl Maker<'_> {
         self.process(acts, level + 1);
     }
 
-    /// The binder numbers of channels that the post may use; where a fault is wanted, of all channels.
+    /// The binder numbers of channels that the component may use; where a fault is wanted, of all channels.
     fn channels(&mut self) -> Vec<usize> {
         let fault = self.faulty();
         let usable = |made: &Type| made.outermost().is_some_and(|group| fault || self.path.contains(&group));

@@ -40,7 +40,7 @@ pub fn check(sheet: &Sheet, charter: &Charter, interface: &[Entry]) -> Result<()
     if !interface.iter().all(|entry| charter.tree(entry.kind).is_some()) {
         return Err(16);
     }
-    let path = |entry: &Entry| &sheet.paths[entry.post];
+    let path = |entry: &Entry| &sheet.paths[entry.component];
     let reached: Vec<_> = interface.iter().map(|entry| reached(charter, path(entry), entry.kind)).collect();
     let mut pairs = interface.iter().zip(&reached);
     if !pairs.clone().all(|(entry, groups)| groups.len() == path(entry).len()) {

@@ -1,5 +1,5 @@
-//! Demand 3 looked at in a run: after each move the state is typed, no post infers beyond the start,
-//! no next act is an error, and links handed over plus those still inferred stay within the charter.
+//! Demand 3 looked at in a run: after each move the state is typed, no component infers beyond the start,
+//! no next act is an error, and links disclosed plus those still inferred stay within the charter.
 
 use crate::cover;
 use crate::permissions::{ByKind, Count, Need, Permissions};
@@ -14,7 +14,7 @@ pub struct Watch<'a> {
     paths: &'a [Vec<u8>],
     inferred: Vec<ByKind>,
     grants: Vec<Vec<Permissions>>,
-    handed: Vec<BTreeMap<(u8, u8), u32>>,
+    disclosed: Vec<BTreeMap<(u8, u8), u32>>,
 }
 
 impl<'a> Watch<'a> {
@@ -23,19 +23,19 @@ impl<'a> Watch<'a> {
         let paths = &accepted.sheet.paths;
         let mut inferred = vec![ByKind::new(); paths.len()];
         for entry in &accepted.interface {
-            inferred[entry.post].insert(entry.kind, entry.permissions.clone());
+            inferred[entry.component].insert(entry.kind, entry.permissions.clone());
         }
         let grant = |path: &Vec<u8>| (0..16).map(|kind| cover::grant(&accepted.charter, path, kind)).collect();
         let grants = paths.iter().map(grant).collect();
-        Watch { paths, inferred, grants, handed: vec![BTreeMap::new(); paths.len()] }
+        Watch { paths, inferred, grants, disclosed: vec![BTreeMap::new(); paths.len()] }
     }
 
-    /// Notes the link that a taken move hands over, if it does.
+    /// Notes the link that a taken move discloses, if it does.
     pub fn note(&mut self, state: &State, taken: &Taken) {
-        let sends = matches!(taken.label, Label::Meeting | Label::Out | Label::OutNew);
-        let (true, Some(channel), Some(post)) = (sends, taken.channel, taken.post) else { return };
+        let sends = matches!(taken.label, Label::Communication | Label::Out | Label::OutNew);
+        let (true, Some(channel), Some(component)) = (sends, taken.channel, taken.component) else { return };
         if let Some((kind, Need::Disclose(group))) = typing::need(false, state.types[channel as usize]) {
-            *self.handed[post].entry((kind, group)).or_insert(0) += 1;
+            *self.disclosed[component].entry((kind, group)).or_insert(0) += 1;
         }
     }
 
@@ -43,48 +43,48 @@ impl<'a> Watch<'a> {
     pub fn look(&self, state: &State) -> Result<(), String> {
         let mut now = vec![ByKind::new(); self.paths.len()];
         for (number, thread) in state.threads.iter().enumerate() {
-            self.look_at_thread(thread, state, &mut now[thread.post])
+            self.look_at_thread(thread, state, &mut now[thread.component])
                 .map_err(|what| format!("thread {number}: {what}"))?;
         }
-        for (post, needs) in now.iter().enumerate() {
-            self.look_at_post(post, needs).map_err(|what| format!("post {post}: {what}"))?;
+        for (component, needs) in now.iter().enumerate() {
+            self.look_at_component(component, needs).map_err(|what| format!("component {component}: {what}"))?;
         }
         Ok(())
     }
 
     fn look_at_thread(&self, thread: &Thread, state: &State, needs: &mut ByKind) -> Result<(), String> {
         let mut scope: Vec<Type> = thread.names.iter().map(|&name| state.types[name as usize]).collect();
-        typing::check_process(thread.text, &mut scope, &self.paths[thread.post])
-            .map_err(|number| format!("its remaining text fails {number}"))?;
-        if let Some((kind, need)) = thread.text.act().and_then(|act| typing::act_need(act, &scope)) {
-            if !self.grants[thread.post][kind as usize].grants(need) {
+        typing::check_process(thread.process, &mut scope, &self.paths[thread.component])
+            .map_err(|number| format!("its remaining process fails {number}"))?;
+        if let Some((kind, need)) = thread.process.act().and_then(|act| typing::act_need(act, &scope)) {
+            if !self.grants[thread.component][kind as usize].grants(need) {
                 return Err(format!("its next act needs {need:?} of kind {kind}, which its grant lacks"));
             }
         }
-        typing::infer(thread.text, &mut scope, false, needs);
+        typing::infer(thread.process, &mut scope, false, needs);
         Ok(())
     }
 
-    fn look_at_post(&self, post: usize, needs: &ByKind) -> Result<(), String> {
+    fn look_at_component(&self, component: usize, needs: &ByKind) -> Result<(), String> {
         let nothing = Permissions::default();
         for (kind, permissions) in needs {
-            if !permissions.within(self.inferred[post].get(kind).unwrap_or(&nothing)) {
+            if !permissions.within(self.inferred[component].get(kind).unwrap_or(&nothing)) {
                 return Err(format!("infers of kind {kind} beyond the start"));
             }
         }
         let still = needs.iter().flat_map(|(&kind, p)| p.disclose.keys().map(move |&group| (kind, group)));
-        let handed = self.handed[post].keys().copied();
-        still.chain(handed).try_for_each(|(kind, group)| self.within_charter(post, kind, group, needs))
+        let disclosed = self.disclosed[component].keys().copied();
+        still.chain(disclosed).try_for_each(|(kind, group)| self.within_charter(component, kind, group, needs))
     }
 
-    /// Links handed over plus links still inferred, held against the charter's count.
-    fn within_charter(&self, post: usize, kind: u8, group: u8, needs: &ByKind) -> Result<(), String> {
-        let handed = Count::Finite(self.handed[post].get(&(kind, group)).copied().unwrap_or(0));
+    /// Links disclosed plus links still inferred, held against the charter's count.
+    fn within_charter(&self, component: usize, kind: u8, group: u8, needs: &ByKind) -> Result<(), String> {
+        let disclosed = Count::Finite(self.disclosed[component].get(&(kind, group)).copied().unwrap_or(0));
         let still = needs.get(&kind).map_or(Count::Finite(0), |permissions| permissions.count(group));
-        let granted = self.grants[post][kind as usize].count(group);
-        if handed.plus(still) <= granted {
+        let granted = self.grants[component][kind as usize].count(group);
+        if disclosed.plus(still) <= granted {
             return Ok(());
         }
-        Err(format!("kind {kind}, group {group}: handed {handed:?}, still {still:?}, granted {granted:?}"))
+        Err(format!("kind {kind}, group {group}: disclosed {disclosed:?}, still {still:?}, granted {granted:?}"))
     }
 }

@@ -112,7 +112,7 @@ pub type ByKind = BTreeMap<u8, Permissions>;
 
 /// One entry of the interface.
 pub struct Entry {
-    pub post: usize,
+    pub component: usize,
     pub kind: u8,
     pub permissions: Permissions,
 }
@@ -121,7 +121,7 @@ pub struct Entry {
 pub fn write_interface(sheet: &Sheet, interface: &[Entry]) -> Vec<u8> {
     let mut out = Vec::new();
     for entry in interface {
-        let path = &sheet.paths[entry.post];
+        let path = &sheet.paths[entry.component];
         out.push(entry.kind);
         out.push(path.len() as u8);
         out.extend_from_slice(path);

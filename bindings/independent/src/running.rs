@@ -7,15 +7,15 @@ use crate::types::Type;
 pub const MOST_THREADS: usize = 64;
 pub const MOST_NAMES: usize = 1024;
 
-/// A thread: its post, the form it stands at, and the run name of each binder already passed.
+/// A thread: its component, the form it stands at, and the run name of each binder already passed.
 #[derive(Clone)]
 pub struct Thread<'a> {
-    pub post: usize,
-    pub text: &'a Process,
+    pub component: usize,
+    pub process: &'a Process,
     pub names: Vec<u16>,
 }
 
-/// The threads in order, the type of each name given so far, and which names are known outside.
+/// The threads in order, the type of each name given so far, and which names are known to the environment.
 #[derive(Clone)]
 pub struct State<'a> {
     pub threads: Vec<Thread<'a>>,
@@ -29,18 +29,18 @@ pub struct Taken {
     pub label: Label,
     pub channel: Option<u16>,
     pub name: Option<u16>,
-    pub post: Option<usize>,
+    pub component: Option<usize>,
     pub receiver: Option<usize>,
 }
 
 #[derive(Clone, Copy, PartialEq, Eq, Debug)]
 pub enum Label {
-    Meeting = 1,
+    Communication = 1,
     In = 2,
     Out = 3,
     OutNew = 4,
-    Outside = 5,
-    Copy = 6,
+    EnvironmentName = 5,
+    Unfold = 6,
 }
 
 /// The eight bytes of a move's record.
@@ -50,14 +50,14 @@ pub fn record(answer: &Result<Taken, u32>) -> [u8; 8] {
         Ok(taken) => {
             let channel = taken.channel.unwrap_or(0xffff).to_le_bytes();
             let name = taken.name.unwrap_or(0xffff).to_le_bytes();
-            let post = |p: Option<usize>| p.map_or(0xff, |p| p as u8);
-            let (acting, receiver) = (post(taken.post), post(taken.receiver));
+            let component = |p: Option<usize>| p.map_or(0xff, |p| p as u8);
+            let (acting, receiver) = (component(taken.component), component(taken.receiver));
             [0, taken.label as u8, channel[0], channel[1], name[0], name[1], acting, receiver]
         }
     }
 }
 
-/// Splits text into threads and numbers its new names from `first` on.
+/// Splits processes into threads and numbers its new names from `first` on.
 struct Maker {
     first: usize,
     types: Vec<Type>,
@@ -81,31 +81,31 @@ impl Maker {
                 self.new_name(*made, &mut names);
                 self.system(inner, names, into);
             }
-            System::Post(number, process) => self.process(*number, process, names, into),
+            System::Component(number, process) => self.process(*number, process, names, into),
         }
     }
 
-    fn process<'a>(&mut self, post: usize, text: &'a Process, mut names: Vec<u16>, into: &mut Vec<Thread<'a>>) {
-        match text {
+    fn process<'a>(&mut self, component: usize, process: &'a Process, mut names: Vec<u16>, into: &mut Vec<Thread<'a>>) {
+        match process {
             Process::Nothing => {}
             Process::Parallel(left, right) => {
-                self.process(post, left, names.clone(), into);
-                self.process(post, right, names, into);
+                self.process(component, left, names.clone(), into);
+                self.process(component, right, names, into);
             }
             Process::New(made, then) => {
                 self.new_name(*made, &mut names);
-                self.process(post, then, names, into);
+                self.process(component, then, names, into);
             }
-            Process::Receive { .. } | Process::Send { .. } | Process::Repeat(_) => into.push(Thread { post, text, names }),
+            Process::Receive { .. } | Process::Send { .. } | Process::Repeat(_) => into.push(Thread { component, process, names }),
         }
     }
 
-    /// The products of a thread's sequel, a received name added to its names.
-    fn sequel<'a>(&mut self, thread: &Thread<'a>, then: &'a Process, received: Option<u16>) -> Vec<Thread<'a>> {
+    /// The products of a thread's continuation, a received name added to its names.
+    fn continuation<'a>(&mut self, thread: &Thread<'a>, then: &'a Process, received: Option<u16>) -> Vec<Thread<'a>> {
         let mut names = thread.names.clone();
         names.extend(received);
         let mut products = Vec::new();
-        self.process(thread.post, then, names, &mut products);
+        self.process(thread.component, then, names, &mut products);
         products
     }
 }
@@ -116,17 +116,17 @@ impl<'a> Thread<'a> {
         self.names[binder as usize]
     }
 
-    /// Channel, name sent and sequel of a thread that sends.
+    /// Channel, name sent and continuation of a thread that sends.
     pub fn sending(&self) -> Option<(u16, u16, &'a Process)> {
-        match self.text {
+        match self.process {
             Process::Send { channel, name, then } => Some((self.run_name(*channel), self.run_name(*name), then)),
             _ => None,
         }
     }
 
-    /// Channel, bound type and sequel of a thread that receives.
+    /// Channel, bound type and continuation of a thread that receives.
     pub fn receiving(&self) -> Option<(u16, Type, &'a Process)> {
-        match self.text {
+        match self.process {
             Process::Receive { channel, bound, then } => Some((self.run_name(*channel), *bound, then)),
             _ => None,
         }
@@ -134,7 +134,7 @@ impl<'a> Thread<'a> {
 
     /// The repeated process of a thread that repeats.
     pub fn repeating(&self) -> Option<&'a Process> {
-        match self.text {
+        match self.process {
             Process::Repeat(body) => Some(body),
             _ => None,
         }
@@ -157,11 +157,11 @@ impl<'a> State<'a> {
     /// Makes one move; a refused one gives its number and changes nothing.
     pub fn step(&mut self, a_move: &Move) -> Result<Taken, u32> {
         match *a_move {
-            Move::Copy(i) => self.copy(i as usize),
+            Move::Unfold(i) => self.unfold(i as usize),
             Move::Send(i) => self.send(i as usize),
             Move::Receive(i, v) => self.receive(i as usize, v),
-            Move::Meet(i, j) => self.meet(i as usize, j as usize),
-            Move::Outside(made) => self.outside(made),
+            Move::Communicate(i, j) => self.communicate(i as usize, j as usize),
+            Move::EnvironmentName(made) => self.environment_name(made),
         }
     }
 
@@ -169,13 +169,13 @@ impl<'a> State<'a> {
         self.known.get(name as usize) == Some(&true)
     }
 
-    fn copy(&mut self, i: usize) -> Result<Taken, u32> {
+    fn unfold(&mut self, i: usize) -> Result<Taken, u32> {
         let thread = self.threads.get(i).ok_or(30u32)?;
         let body = thread.repeating().ok_or(31u32)?;
         let mut maker = self.maker();
-        let products = maker.sequel(thread, body, None);
+        let products = maker.continuation(thread, body, None);
         self.room(self.threads.len() + products.len(), &maker)?;
-        let taken = Taken { label: Label::Copy, channel: None, name: None, post: Some(thread.post), receiver: None };
+        let taken = Taken { label: Label::Unfold, channel: None, name: None, component: Some(thread.component), receiver: None };
         self.threads.splice(i..i, products);
         self.give(maker.types);
         Ok(taken)
@@ -188,7 +188,7 @@ impl<'a> State<'a> {
             return Err(32);
         }
         let label = if self.is_known(name) { Label::Out } else { Label::OutNew };
-        let taken = Taken { label, channel: Some(channel), name: Some(name), post: Some(thread.post), receiver: None };
+        let taken = Taken { label, channel: Some(channel), name: Some(name), component: Some(thread.component), receiver: None };
         self.replace(i, then, None)?;
         self.known[name as usize] = true;
         Ok(taken)
@@ -203,12 +203,12 @@ impl<'a> State<'a> {
         if self.types[v as usize] != bound {
             return Err(33);
         }
-        let taken = Taken { label: Label::In, channel: Some(channel), name: Some(v), post: Some(thread.post), receiver: None };
+        let taken = Taken { label: Label::In, channel: Some(channel), name: Some(v), component: Some(thread.component), receiver: None };
         self.replace(i, then, Some(v))?;
         Ok(taken)
     }
 
-    fn meet(&mut self, i: usize, j: usize) -> Result<Taken, u32> {
+    fn communicate(&mut self, i: usize, j: usize) -> Result<Taken, u32> {
         let (Some(sender), Some(receiver)) = (self.threads.get(i), self.threads.get(j)) else { return Err(30) };
         let (Some(sent), Some(got)) = (sender.sending(), receiver.receiving()) else { return Err(31) };
         let (channel, name, after_send) = sent;
@@ -216,23 +216,23 @@ impl<'a> State<'a> {
             return Err(34);
         }
         let mut maker = self.maker();
-        let from_sender = maker.sequel(sender, after_send, None);
-        let from_receiver = maker.sequel(receiver, got.2, Some(name));
+        let from_sender = maker.continuation(sender, after_send, None);
+        let from_receiver = maker.continuation(receiver, got.2, Some(name));
         self.room(self.threads.len() - 2 + from_sender.len() + from_receiver.len(), &maker)?;
-        let posts = (Some(sender.post), Some(receiver.post));
+        let components = (Some(sender.component), Some(receiver.component));
         self.put_both(i, from_sender, j, from_receiver);
         self.give(maker.types);
-        Ok(Taken { label: Label::Meeting, channel: Some(channel), name: Some(name), post: posts.0, receiver: posts.1 })
+        Ok(Taken { label: Label::Communication, channel: Some(channel), name: Some(name), component: components.0, receiver: components.1 })
     }
 
-    fn outside(&mut self, made: Type) -> Result<Taken, u32> {
+    fn environment_name(&mut self, made: Type) -> Result<Taken, u32> {
         let name = self.types.len();
         if name >= MOST_NAMES {
             return Err(35);
         }
         self.types.push(made);
         self.known.push(true);
-        Ok(Taken { label: Label::Outside, channel: None, name: Some(name as u16), post: None, receiver: None })
+        Ok(Taken { label: Label::EnvironmentName, channel: None, name: Some(name as u16), component: None, receiver: None })
     }
 
     fn maker(&self) -> Maker {
@@ -245,10 +245,10 @@ impl<'a> State<'a> {
         if fits { Ok(()) } else { Err(35) }
     }
 
-    /// Puts the products of thread i's sequel in its place, if there is room.
+    /// Puts the products of thread i's continuation in its place, if there is room.
     fn replace(&mut self, i: usize, then: &'a Process, received: Option<u16>) -> Result<(), u32> {
         let mut maker = self.maker();
-        let products = maker.sequel(&self.threads[i], then, received);
+        let products = maker.continuation(&self.threads[i], then, received);
         self.room(self.threads.len() - 1 + products.len(), &maker)?;
         self.threads.splice(i..=i, products);
         self.give(maker.types);
@@ -262,7 +262,7 @@ impl<'a> State<'a> {
         self.threads.splice(low..=low, at_low);
     }
 
-    /// Adds new names, which are not known outside.
+    /// Adds new names, which are not known to the environment.
     fn give(&mut self, types: Vec<Type>) {
         self.types.extend(types);
         self.known.resize(self.types.len(), false);

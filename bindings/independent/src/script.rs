@@ -5,11 +5,11 @@ use crate::types::{self, Type};
 
 #[derive(Clone, Copy, PartialEq, Eq, Debug)]
 pub enum Move {
-    Copy(u8),
+    Unfold(u8),
     Send(u8),
     Receive(u8, u16),
-    Meet(u8, u8),
-    Outside(Type),
+    Communicate(u8, u8),
+    EnvironmentName(Type),
 }
 
 const UNREADABLE: u32 = 21;
@@ -32,11 +32,11 @@ pub fn read(bytes: &[u8]) -> Result<Vec<Move>, u32> {
 
 fn read_move(reader: &mut Reader) -> Result<Move, u32> {
     Ok(match reader.byte(UNREADABLE)? {
-        1 => Move::Copy(reader.byte(UNREADABLE)?),
+        1 => Move::Unfold(reader.byte(UNREADABLE)?),
         2 => Move::Send(reader.byte(UNREADABLE)?),
         3 => Move::Receive(reader.byte(UNREADABLE)?, reader.two(UNREADABLE)?),
-        4 => Move::Meet(reader.byte(UNREADABLE)?, reader.byte(UNREADABLE)?),
-        5 => Move::Outside(types::read(reader, UNREADABLE, UNREADABLE)?),
+        4 => Move::Communicate(reader.byte(UNREADABLE)?, reader.byte(UNREADABLE)?),
+        5 => Move::EnvironmentName(types::read(reader, UNREADABLE, UNREADABLE)?),
         _ => return Err(UNREADABLE),
     })
 }
@@ -45,14 +45,14 @@ impl Move {
     /// Appends the stored form.
     pub fn write(&self, out: &mut Vec<u8>) {
         match *self {
-            Move::Copy(i) => out.extend_from_slice(&[1, i]),
+            Move::Unfold(i) => out.extend_from_slice(&[1, i]),
             Move::Send(i) => out.extend_from_slice(&[2, i]),
             Move::Receive(i, v) => {
                 out.extend_from_slice(&[3, i]);
                 out.extend_from_slice(&v.to_le_bytes());
             }
-            Move::Meet(i, j) => out.extend_from_slice(&[4, i, j]),
-            Move::Outside(made) => {
+            Move::Communicate(i, j) => out.extend_from_slice(&[4, i, j]),
+            Move::EnvironmentName(made) => {
                 out.push(5);
                 made.write(out);
             }

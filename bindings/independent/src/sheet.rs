@@ -3,7 +3,7 @@
 use crate::bytes::Reader;
 use crate::types::{self, Type};
 
-/// A sheet: the types of its free names, its system, and the path of each post in sheet order.
+/// A sheet: the types of its free names, its system, and the path of each component in sheet order.
 pub struct Sheet {
     pub free: Vec<Type>,
     pub system: System,
@@ -15,7 +15,7 @@ pub enum System {
     Parallel(Box<System>, Box<System>),
     Group(u8, Box<System>),
     New(Type, Box<System>),
-    Post(usize, Process),
+    Component(usize, Process),
 }
 
 /// Names in a process are binder numbers: free names first, then each binder on the way in.
@@ -50,7 +50,7 @@ pub fn read(bytes: &[u8]) -> Result<Sheet, u32> {
     Ok(Sheet { free, system, paths: walk.paths })
 }
 
-/// The reader on its way through the forms: the groups passed so far and the posts met so far.
+/// The reader on its way through the forms: the groups passed so far and the components met so far.
 struct Walk<'a> {
     reader: Reader<'a>,
     path: Vec<u8>,
@@ -70,7 +70,7 @@ impl Walk<'_> {
             ),
             2 => self.group_form(level, names)?,
             3 => System::New(self.a_type()?, Box::new(self.system(level + 1, names + 1)?)),
-            _ => self.post(level, names)?,
+            _ => self.component(level, names)?,
         })
     }
 
@@ -81,13 +81,13 @@ impl Walk<'_> {
         Ok(System::Group(group, Box::new(inner)))
     }
 
-    fn post(&mut self, level: usize, names: usize) -> Result<System, u32> {
+    fn component(&mut self, level: usize, names: usize) -> Result<System, u32> {
         let number = self.paths.len();
         self.enter_group()?;
         self.paths.push(self.path.clone());
         let process = self.process(level + 1, names)?;
         self.path.pop();
-        Ok(System::Post(number, process))
+        Ok(System::Component(number, process))
     }
 
     /// Reads a group that has to be new to the path, and adds it.

@@ -31,7 +31,7 @@ fn refused(number: u32) -> String {
 }
 
 fn line(sheet: &Sheet, entry: &Entry) -> String {
-    let path: Vec<String> = sheet.paths[entry.post].iter().map(u8::to_string).collect();
+    let path: Vec<String> = sheet.paths[entry.component].iter().map(u8::to_string).collect();
     format!("{} {} {}\n", entry.kind, path.join("."), fields(&entry.permissions).join(" "))
 }
 

@@ -62,8 +62,8 @@ pub fn act_need(act: Act, scope: &[Type]) -> Option<(u8, Need)> {
 /// Questions 7 to 10 put to a whole sheet, one after the other.
 pub fn check_sheet(sheet: &Sheet) -> Result<(), u32> {
     let mut worst = Ok(());
-    each_post(&sheet.system, &mut sheet.free.clone(), &mut |post, process, scope| {
-        worst = earlier(worst, check_process(process, scope, &sheet.paths[post]));
+    each_component(&sheet.system, &mut sheet.free.clone(), &mut |component, process, scope| {
+        worst = earlier(worst, check_process(process, scope, &sheet.paths[component]));
     });
     worst
 }
@@ -98,32 +98,32 @@ pub fn infer(process: &Process, scope: &mut Vec<Type>, repeated: bool, into: &mu
     each_part(process, scope, &mut |part, scope| infer(part, scope, repeated, into));
 }
 
-/// The interface of a well-typed sheet: by post, then rising kind.
+/// The interface of a well-typed sheet: by component, then rising kind.
 pub fn interface(sheet: &Sheet) -> Vec<Entry> {
     let mut entries = Vec::new();
-    each_post(&sheet.system, &mut sheet.free.clone(), &mut |post, process, scope| {
+    each_component(&sheet.system, &mut sheet.free.clone(), &mut |component, process, scope| {
         let mut needs = ByKind::new();
         infer(process, scope, false, &mut needs);
-        entries.extend(needs.into_iter().map(|(kind, permissions)| Entry { post, kind, permissions }));
+        entries.extend(needs.into_iter().map(|(kind, permissions)| Entry { component, kind, permissions }));
     });
     entries
 }
 
-/// Visits each post in sheet order with the types of the names in scope at its process.
-fn each_post<'a>(system: &'a System, scope: &mut Vec<Type>, visit: &mut dyn FnMut(usize, &'a Process, &mut Vec<Type>)) {
+/// Visits each component in sheet order with the types of the names in scope at its process.
+fn each_component<'a>(system: &'a System, scope: &mut Vec<Type>, visit: &mut dyn FnMut(usize, &'a Process, &mut Vec<Type>)) {
     match system {
         System::Nothing => {}
         System::Parallel(left, right) => {
-            each_post(left, scope, visit);
-            each_post(right, scope, visit);
+            each_component(left, scope, visit);
+            each_component(right, scope, visit);
         }
-        System::Group(_, inner) => each_post(inner, scope, visit),
+        System::Group(_, inner) => each_component(inner, scope, visit),
         System::New(bound, inner) => {
             scope.push(*bound);
-            each_post(inner, scope, visit);
+            each_component(inner, scope, visit);
             scope.pop();
         }
-        System::Post(number, process) => visit(*number, process, scope),
+        System::Component(number, process) => visit(*number, process, scope),
     }
 }
 
