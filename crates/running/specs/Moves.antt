@@ -38,7 +38,8 @@ unfoldable pub given : {A : Type 0} → ℕ → Option A → (A → Result) → 
 given number none f = refuses number
 given number (some a) f = f a
 
--- A thread's next send, receive or repeat, with run names for its own: "31 right form?"
+-- The prefix of a thread (document 01: the form it stands at), a send, receive or repeat, with run names for its own: "31 right
+-- form?" What follows it is its continuation (document 01: its sequel).
 pub record Sending : Type 0 where
   pub channel : ℕ
   pub sent : ℕ
@@ -78,7 +79,7 @@ asRepeat (input x u p) = none
 asRepeat (output x y p) = none
 asRepeat (repl p) = some p
 
--- 32: known to the environment; a name never given is not.
+-- 32: known to the environment (document 01: known outside); a name never given is not.
 unfoldable pub environmentKnows : State → ℕ → Bool
 environmentKnows s n = getD (s .known) n false
 
