@@ -23,7 +23,7 @@ use Rattle.reading.proofs.Local.{place-after}
 use Rattle.reading.proofs.TreeLaws.{SheetParts}
 use Rattle.inference.specs.Lists.{only, gather, rising}
 use Rattle.inference.specs.Counts.{Count, _⊕_, repeatedly, isZero}
-use Rattle.inference.specs.Acts.{Act, Component as Owner, Located, acts, actsOf, locate, located}
+use Rattle.inference.specs.Acts.{Act, Component as Owner, componentAt, Located, acts, actsOf, locate, located}
 use Rattle.inference.specs.Needs.{needOf, disclosures, weigh, total, disclosed}
 use Rattle.inference.specs.declared.Need.{Need}
 use Rattle.inference.specs.declared.Need.the-variants.{Nothing, Read as Reading, Write, Access, Disclose}
@@ -257,13 +257,13 @@ module _ (read : ℕ → List ℕ → ℕ → ℕ → Read System) (process : �
       let z : newₛ t (x .value) ≡ p = cc in
       let w : x .place ≡ k = cc in
       rw (← z) (omega (arith, l (names + 1) path preceding next (scope ++ (some t ∷ [])) (x .value) (x .place) (x .first)))
-  located-from (Component b) next h {p} {k} e =
-      let x = parts (process next) (λ u j. got (compₛ b u) j) e in
-      let z : compₛ b (x .value) ≡ p = cc in
+  located-from (Component own) next h {p} {k} e =
+      let x = parts (process next) (λ u j. got (compₛ own u) j) e in
+      let z : compₛ own (x .value) ≡ p = cc in
       let w : x .place ≡ k = cc in
       rw (← z) (omega (
         arith,
-        open-acts (record { number = preceding; path = path ++ (b ∷ []) }) false scope (x .value),
+        open-acts (componentAt preceding path own) false scope (x .value),
         a next (x .value) (x .place) (x .first),
       ))
   located-from (Input i) next h e = never e

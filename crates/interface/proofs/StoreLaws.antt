@@ -23,7 +23,7 @@ use Rattle.reading.proofs.ReadLaws.{process-local, read-system-local}
 use Rattle.reading.proofs.Local.{place-after}
 use Rattle.reading.proofs.TreeLaws.{components-few, SheetParts}
 use Rattle.inference.specs.Lists.{gather, rising}
-use Rattle.inference.specs.Acts.{Act, Component as Owner, Located, acts, actsOf, locate, located}
+use Rattle.inference.specs.Acts.{Act, Component as Owner, componentAt, Located, acts, actsOf, locate, located}
 use Rattle.inference.specs.Interface.{interface}
 use Rattle.inference.specs.Rows.{tableEntries, rowEntries}
 use Rattle.inference.specs.Walks.{chargedAll}
@@ -84,7 +84,7 @@ module _ (read : ℕ → ℕ → Read Process) (l : (ns m : ℕ) (p : Process) (
       let w : a .place ≡ k = cc in
       omega (arith, ap actCount z, l names next (a .value) (a .place) (a .first))
   acts-from (Group g) next h e = never e
-  acts-from (Component g) next h e = never e
+  acts-from (Component own) next h e = never e
 
 pub acts-read : (nest : ℕ) (s : List ℕ) (names at : ℕ) {p : Process} {k : ℕ} → readProcess nest s names at ≡ got p k → at + actCount p ≤ k
 unfolding readProcess
@@ -115,7 +115,7 @@ GroupBelow Nil = Unit {0}
 GroupBelow Par = Unit {0}
 GroupBelow (Group g) = g < 64
 GroupBelow (New t) = Unit {0}
-GroupBelow (Component g) = g < 64
+GroupBelow (Component own) = own .group < 64
 GroupBelow (Input a) = Unit {0}
 GroupBelow (Output a) = Unit {0}
 GroupBelow Replicate = Unit {0}
@@ -165,7 +165,7 @@ located-count number path scope (parₛ l r) =
     ∙ ap₂ _+_ (located-count number path scope l) (located-count (number + components l) path scope r)
 located-count number path scope (groupₛ g p) = located-count number (path ++ (g ∷ [])) scope p
 located-count number path scope (newₛ t p) = located-count number path (scope ++ (some t ∷ [])) p
-located-count number path scope (compₛ g p) = refl
+located-count number path scope (compₛ own p) = refl
 
 module _ (read : ℕ → List ℕ → ℕ → ℕ → Read System) (process : ℕ → Read Process)
     (later : (ns : ℕ) (path : List ℕ) (preceding m : ℕ) (p : System) (k : ℕ) → read ns path preceding m ≡ got p k → m ≤ k)
@@ -175,7 +175,7 @@ module _ (read : ℕ → List ℕ → ℕ → ℕ → Read System) (process : �
     (at names : ℕ) (path : List ℕ) (preceding : ℕ) (scope : List (Option ℕ)) (fits : FitsRow path) where
   store-from : (f : Form) (next : ℕ) → FitsSystem 64 0 (length path) preceding f → GroupBelow f → {p : System} {k : ℕ}
       → systemFrom read process at names path preceding f next ≡ got p k → k ≤ 65000 → AllStorable preceding (locate preceding path scope p)
-  unfolding systemFrom component FitsSystem GroupBelow locate actsOf
+  unfolding systemFrom component FitsSystem GroupBelow locate componentAt actsOf
   store-from Nil next h g {p} e few = let z : nilₛ ≡ p = cc in rw (← z) store-none
   store-from Par next h g {p} {k} e few =
       let x = parts (read names path preceding next) (λ u m. andThen (read names path (preceding + components u) m) (λ v j. got (parₛ u v) j)) e in
@@ -197,14 +197,14 @@ module _ (read : ℕ → List ℕ → ℕ → ℕ → Read System) (process : �
       let z : newₛ t (x .value) ≡ p = cc in
       let w : x .place ≡ k = cc in
       rw (← z) (l (names + 1) path preceding next (scope ++ (some t ∷ [])) (x .value) (x .place) (x .first) fits (omega arith))
-  store-from (Component b) next h g {p} {k} e few =
-      let x = parts (process next) (λ u j. got (compₛ b u) j) e in
-      let z : compₛ b (x .value) ≡ p = cc in
+  store-from (Component own) next h g {p} {k} e few =
+      let x = parts (process next) (λ u j. got (compₛ own u) j) e in
+      let z : compₛ own (x .value) ≡ p = cc in
       let w : x .place ≡ k = cc in
-      let c : Owner = record { number = preceding; path = path ++ (b ∷ []) } in
+      let c : Owner = componentAt preceding path own in
       rw (← z) (store-more (record {
         number = refl;
-        fits = fits-more path b fits (h .1) g;
+        fits = fits-more path (own .group) fits (h .1) g;
         own = own-acts c false scope (x .value);
         few = omega (arith, open-acts c false scope (x .value), a next (x .value) (x .place) (x .first));
       })
@@ -220,7 +220,7 @@ fits-any nest names long preceding Nil h = omega arith
 fits-any nest names long preceding Par h = omega arith
 fits-any nest names long preceding (Group g) h = (omega arith, h .1)
 fits-any nest names long preceding (New t) h = (omega arith, omega arith)
-fits-any nest names long preceding (Component g) h = (omega arith, h .1, h .2)
+fits-any nest names long preceding (Component own) h = (omega arith, h .1, h .2)
 fits-any nest names long preceding (Input a) h = h
 fits-any nest names long preceding (Output a) h = h
 fits-any nest names long preceding Replicate h = h

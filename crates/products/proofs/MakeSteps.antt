@@ -20,6 +20,7 @@ use Rattle.reading.specs.declared.Form.{Form}
 use Rattle.reading.specs.declared.Form.the-variants.{Nil, Par, Group, New, Component as Head, Input, Output, Replicate}
 use Rattle.reading.specs.declared.FormRead.{FormRead}
 use Rattle.reading.specs.declared.FormRead.the-variants as form-read
+use Rattle.reading.specs.declared.OwnFields.{OwnFields}
 use Rattle.reading.specs.declared.Place.{Place as Found}
 use Rattle.reading.specs.declared.Refusal.{Refusal}
 use Rattle.reading.proofs.TotalLaws.{process-nest, new-names, process-step, process-stop}
@@ -177,9 +178,9 @@ module _ (s : List ℕ) (t : Place) (f : Form) (next : ℕ) (e : processAt s (t 
   unfolding processGrown
   form-group g h r = nothing s t tree (t .at) z made types cells (rw h at grown) r
 
-  pub form-head : (g : ℕ) → f ≡ Head g → Ready s t z made types cells → Makes s t tree z made made types types cells cells (record { next = t .at; sizes = z })
+  pub form-head : (own : OwnFields) → f ≡ Head own → Ready s t z made types cells → Makes s t tree z made made types types cells cells (record { next = t .at; sizes = z })
   unfolding processGrown
-  form-head g h r = nothing s t tree (t .at) z made types cells (rw h at grown) r
+  form-head own h r = nothing s t tree (t .at) z made types cells (rw h at grown) r
 
   at-thread : (r : Made) → IsThread (tree .tree) → ThreadMade s z t made made′ r
       → Ready s t z made types cells → Makes s t tree z made made′ types types cells cells r

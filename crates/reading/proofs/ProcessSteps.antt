@@ -22,6 +22,7 @@ use Rattle.reading.specs.declared.Form.{Form}
 use Rattle.reading.specs.declared.Form.the-variants.{Nil, Par, Group, New, Component, Input, Output, Replicate}
 use Rattle.reading.specs.declared.FormRead.{FormRead}
 use Rattle.reading.specs.declared.FormRead.the-variants as form-read
+use Rattle.reading.specs.declared.OwnFields.{OwnFields}
 use Rattle.reading.specs.declared.Place.{Place}
 use Rattle.reading.specs.declared.Refusal.{Refusal}
 
@@ -67,9 +68,9 @@ module _ (read : ℕ → ℕ → Read Process) (at names : ℕ) (f : Form) (next
   unfolding processFrom ended
   at-group g e h = rw e h
 
-  pub at-component : (g : ℕ) → f ≡ Component g → y ≡ refused 4 at → y ≡ ended (processFrom read at names f next)
+  pub at-component : (own : OwnFields) → f ≡ Component own → y ≡ refused 4 at → y ≡ ended (processFrom read at names f next)
   unfolding processFrom ended
-  at-component g e h = rw e h
+  at-component own e h = rw e h
 
 -- A parallel form whose left part is refused.
 pub at-par-left : (read : ℕ → ℕ → Read Process) (at names : ℕ) (f : Form) (next : ℕ) (l : End) (q : Refusal)

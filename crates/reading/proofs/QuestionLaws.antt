@@ -107,7 +107,7 @@ asks-system-form s at next path level binder deeper another code =
     (asks-cond (eqb code 1) (asks-limited level at asks-got)
     (asks-cond (eqb code 2) (asks-limited deeper at (asks-map (λ g. Group g) (asks-fresh s next path)))
     (asks-cond (eqb code 3) (asks-limited binder at (asks-new s next))
-    (asks-cond (eqb code 4) (asks-limited another at (asks-map (λ g. Component g) (asks-fresh s next path)))
+    (asks-cond (eqb code 4) (asks-limited another at (asks-map (λ g. Component (record { group = g })) (asks-fresh s next path)))
     (asks-early 4 at (omega arith) (omega arith))))))
 
 asks-system-at : (s : List ℕ) (at nest names : ℕ) (path : List ℕ) (preceding : ℕ) → Asks (systemAt s at nest names path preceding)
@@ -125,7 +125,7 @@ asks-process-from read h at names (Input a) next = asks-map _ (h (names + 1) nex
 asks-process-from read h at names (Output a) next = asks-map _ (h names next)
 asks-process-from read h at names Replicate next = asks-map _ (h names next)
 asks-process-from read h at names (Group g) next = asks-early 4 at (omega arith) (omega arith)
-asks-process-from read h at names (Component g) next = asks-early 4 at (omega arith) (omega arith)
+asks-process-from read h at names (Component own) next = asks-early 4 at (omega arith) (omega arith)
 
 asks-process : (nest : ℕ) (s : List ℕ) (names at : ℕ) → Asks (readProcess nest s names at)
 unfolding readProcess
@@ -144,7 +144,7 @@ asks-system-from read h process i at names path preceding Par next =
     asks-then _ (h names path preceding next) (λ l m. asks-map _ (h names path (preceding + components l) m))
 asks-system-from read h process i at names path preceding (Group g) next = asks-map _ (h names (path ++ (g ∷ [])) preceding next)
 asks-system-from read h process i at names path preceding (New t) next = asks-map _ (h (names + 1) path preceding next)
-asks-system-from read h process i at names path preceding (Component g) next = asks-map _ (i next)
+asks-system-from read h process i at names path preceding (Component own) next = asks-map _ (i next)
 asks-system-from read h process i at names path preceding (Input a) next = asks-early 4 at (omega arith) (omega arith)
 asks-system-from read h process i at names path preceding (Output a) next = asks-early 4 at (omega arith) (omega arith)
 asks-system-from read h process i at names path preceding Replicate next = asks-early 4 at (omega arith) (omega arith)

@@ -103,7 +103,7 @@ group-local at path = then-local _ _ (fresh-local at path) (λ s g next e. got-l
 
 pub component-local : (at : ℕ) (path : List ℕ) → Local (at + 1) (λ s. componentForm s at path)
 unfolding componentForm
-component-local at path = then-local _ _ (fresh-local at path) (λ s g next e. got-local (Component g) next (omega arith))
+component-local at path = then-local _ _ (fresh-local at path) (λ s g next e. got-local (Component (record { group = g })) next (omega arith))
 
 -- Forms.
 pub process-local : (at nest names : ℕ) → Local (at + 1) (λ s. processAt s at nest names)
@@ -143,7 +143,7 @@ module _ (read : List ℕ → ℕ → ℕ → Read Process) (l : (names at : ℕ
   process-from-local Par next h = then-local _ _ (l names next) (λ s p m e. map-local _ (λ q. par p q) (l names m))
   process-from-local (Group g) next h = absurd h
   process-from-local (New t) next h = map-local _ (λ p. new t p) (l (names + 1) next)
-  process-from-local (Component g) next h = absurd h
+  process-from-local (Component own) next h = absurd h
   process-from-local (Input a) next h = map-local _ (λ p. input (a .channel) (a .object) p) (l (names + 1) next)
   process-from-local (Output a) next h = map-local _ (λ p. output (a .channel) (a .object) p) (l names next)
   process-from-local Replicate next h = map-local _ (λ p. repl p) (l names next)
@@ -166,7 +166,7 @@ module _ (read : List ℕ → ℕ → List ℕ → ℕ → ℕ → Read System) 
   system-from-local Par next h = then-local _ _ (l names path preceding next) (λ s p k e. map-local _ (λ q. parₛ p q) (l names path (preceding + components p) k))
   system-from-local (Group g) next h = map-local _ (λ p. groupₛ g p) (l names (path ++ (g ∷ [])) preceding next)
   system-from-local (New t) next h = map-local _ (λ p. newₛ t p) (l (names + 1) path preceding next)
-  system-from-local (Component g) next h = map-local _ (λ p. compₛ g p) (m next)
+  system-from-local (Component own) next h = map-local _ (λ p. compₛ own p) (m next)
   system-from-local (Input a) next h = absurd h
   system-from-local (Output a) next h = absurd h
   system-from-local Replicate next h = absurd h

@@ -27,6 +27,7 @@ use Rattle.reading.specs.declared.Form.{Form}
 use Rattle.reading.specs.declared.Form.the-variants.{Nil, Par, Group, New, Component, Input, Output, Replicate}
 use Rattle.reading.specs.declared.FormRead.{FormRead}
 use Rattle.reading.specs.declared.FormRead.the-variants as form-read
+use Rattle.reading.specs.declared.OwnFields.{OwnFields}
 use Rattle.reading.specs.declared.Number.{Number}
 use Rattle.reading.specs.declared.NumberRead.{NumberRead}
 use Rattle.reading.specs.declared.NumberRead.the-variants as number-read
@@ -78,9 +79,9 @@ module _ (read : ℕ → List ℕ → ℕ → ℕ → Read System) (process : �
     unfolding systemFrom components
     at-group g q e i h = rw (e, ← i, counted-map preceding (read names q preceding next) (λ p. groupₛ g p) (λ p. refl)) h
 
-    pub at-component : (g : ℕ) → f ≡ Component g → ((h : ℕ) → y ≡ counted preceding (component h (process next))) → y ≡ told
+    pub at-component : (own : OwnFields) → f ≡ Component own → ((o : OwnFields) → y ≡ counted preceding (component o (process next))) → y ≡ told
     unfolding systemFrom
-    at-component g e h = rw e (h g)
+    at-component own e h = rw e (h own)
 
     pub at-input : (a : Act) → f ≡ Input a → y ≡ refused 4 at → y ≡ told
     unfolding systemFrom counted
@@ -106,17 +107,17 @@ module _ (read : ℕ → List ℕ → ℕ → ℕ → Read System) (process : �
       go (refused a b) h = h
 
 -- A component's process, read or not.
-pub component-ends : (preceding g : ℕ) (x : Read Process) (e : End) (m : ℕ) → e ≡ end.At m → ending e ≡ ended x
-    → got (preceding + 1) m ≡ counted preceding (component g x)
+pub component-ends : (preceding : ℕ) (own : OwnFields) (x : Read Process) (e : End) (m : ℕ) → e ≡ end.At m → ending e ≡ ended x
+    → got (preceding + 1) m ≡ counted preceding (component own x)
 unfolding component counted andThen ended components
-component-ends preceding g (got p k) e m i h = let z : m ≡ k = cc in rw z
-component-ends preceding g (refused a b) e m i h = never (sym (rw i at h))
+component-ends preceding own (got p k) e m i h = let z : m ≡ k = cc in rw z
+component-ends preceding own (refused a b) e m i h = never (sym (rw i at h))
 
-pub component-stops : (preceding g : ℕ) (x : Read Process) (e : End) (q w : Refusal) → e ≡ end.Refused q → w ≡ whyNone e → ending e ≡ ended x
-    → refused (w .question) (w .at) ≡ counted preceding (component g x)
+pub component-stops : (preceding : ℕ) (own : OwnFields) (x : Read Process) (e : End) (q w : Refusal) → e ≡ end.Refused q → w ≡ whyNone e → ending e ≡ ended x
+    → refused (w .question) (w .at) ≡ counted preceding (component own x)
 unfolding component counted andThen ended
-component-stops preceding g (got p k) e q w i o h = never (rw i at h)
-component-stops preceding g (refused a b) e q w i o h =
+component-stops preceding own (got p k) e q w i o h = never (rw i at h)
+component-stops preceding own (refused a b) e q w i o h =
     let k = rw i at h in
     let v : q .question ≡ a = cc in
     let u : q .at ≡ b = cc in
@@ -157,9 +158,9 @@ module _ (nest : ℕ) (s : List ℕ) (names : ℕ) (path : List ℕ) (preceding 
     unfolding FitsSystem
     group-entered g q h i = let k = rw h at (system-room s at nest names path preceding found) in i (lt-ltb (length path) 8 (k .1))
 
-    pub another : (g : ℕ) → p .form ≡ Component g → preceding < 32
+    pub another : (own : OwnFields) → p .form ≡ Component own → preceding < 32
     unfolding FitsSystem
-    another g h = let k = rw h at (system-room s at nest names path preceding found) in k .2
+    another own h = let k = rw h at (system-room s at nest names path preceding found) in k .2
 
 pub ruleset system-steps = (
   needs,

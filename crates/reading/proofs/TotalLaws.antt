@@ -18,6 +18,7 @@ use Rattle.reading.specs.System.{processFrom, readProcess, component, sy
 use Rattle.reading.specs.Total.{Grown, under, beside, orNothing, processGrown, processTree, systemGrown, systemTree}
 use Rattle.reading.specs.declared.Form.{Form}
 use Rattle.reading.specs.declared.Form.the-variants.{Nil, Par, Group, New, Component, Input, Output, Replicate}
+use Rattle.reading.specs.declared.OwnFields.{OwnFields}
 
 -- What a form that was found tells of the limits (FormLaws), as the walks use it.
 pub both-left : (a b : Bool) → (a && b) ≡ true → a ≡ true
@@ -50,11 +51,11 @@ module _ (s : List ℕ) (at n names : ℕ) (path : List ℕ) (preceding : ℕ) w
   unfolding FitsSystem
   group-room e = lt-ltb (length path) 8 (system-room s at n names path preceding e .1)
 
-  pub component-room : {g k : ℕ} → systemAt s at n names path preceding ≡ got (Component g) k → ltb (length path) 8 ≡ true
+  pub component-room : {own : OwnFields} {k : ℕ} → systemAt s at n names path preceding ≡ got (Component own) k → ltb (length path) 8 ≡ true
   unfolding FitsSystem
   component-room e = lt-ltb (length path) 8 (system-room s at n names path preceding e .1)
 
-  pub component-number : {g k : ℕ} → systemAt s at n names path preceding ≡ got (Component g) k → preceding < 32
+  pub component-number : {own : OwnFields} {k : ℕ} → systemAt s at n names path preceding ≡ got (Component own) k → preceding < 32
   unfolding FitsSystem
   component-number e = system-room s at n names path preceding e .2
 
@@ -119,7 +120,7 @@ process-same read grow at names (Output a) next h =
     under-same (output (a .channel) (a .object)) (read names next) (grow names next) (h names next)
 process-same read grow at names Replicate next h = under-same repl (read names next) (grow names next) (h names next)
 process-same read grow at names (Group g) next h = λ p k e. never e
-process-same read grow at names (Component g) next h = λ p k e. never e
+process-same read grow at names (Component own) next h = λ p k e. never e
 
 pub process-total : (n : ℕ) (s : List ℕ) (names at : ℕ) (p : Process) (k : ℕ) → readProcess n s names at ≡ got p k
     → processTree n s names at ≡ record { tree = p; next = k }
@@ -143,7 +144,7 @@ system-same read grow process grown at names path preceding (Group g) next h i =
     under-same (groupₛ g) (read names (path ++ (g ∷ [])) preceding next) (grow names (path ++ (g ∷ [])) preceding next) (h names (path ++ (g ∷ [])) preceding next)
 system-same read grow process grown at names path preceding (New t) next h i =
     under-same (newₛ t) (read (names + 1) path preceding next) (grow (names + 1) path preceding next) (h (names + 1) path preceding next)
-system-same read grow process grown at names path preceding (Component g) next h i = under-same (compₛ g) (process next) (grown next) (i next)
+system-same read grow process grown at names path preceding (Component own) next h i = under-same (compₛ own) (process next) (grown next) (i next)
 system-same read grow process grown at names path preceding (Input a) next h i = λ p k e. never e
 system-same read grow process grown at names path preceding (Output a) next h i = λ p k e. never e
 system-same read grow process grown at names path preceding Replicate next h i = λ p k e. never e

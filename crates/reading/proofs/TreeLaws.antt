@@ -95,7 +95,7 @@ module _ (read : ℕ → List ℕ → ℕ → ℕ → Read System)
       of-found _ (read names (path ++ (g ∷ [])) preceding next) (l names (path ++ (g ∷ [])) preceding next few) e)
   few-from (New t) next h = every-then _ (read (names + 1) path preceding next) _ (λ p k e.
       of-found _ (read (names + 1) path preceding next) (l (names + 1) path preceding next few) e)
-  few-from (Component g) next h = every-then _ (process next) _ (λ p k e. omega arith)
+  few-from (Component own) next h = every-then _ (process next) _ (λ p k e. omega arith)
   few-from (Input a) next h = absurd h
   few-from (Output a) next h = absurd h
   few-from Replicate next h = absurd h

@@ -44,7 +44,7 @@ groupForm s at path = andThen (freshGroup s at path) (λ g next. got (Group g) n
 
 -- "a post: its group"
 unfoldable pub componentForm : List ℕ → ℕ → List ℕ → Read Form
-componentForm s at path = andThen (freshGroup s at path) (λ g next. got (Component g) next)
+componentForm s at path = andThen (freshGroup s at path) (λ g next. got (Component (record { group = g })) next)
 
 -- The forms of processes by their codes: is there room for one more form (`level`), for one that binds a name (`binder`)?
 unfoldable pub processForm : List ℕ → ℕ → ℕ → Bool → Bool → ℕ → Read Form

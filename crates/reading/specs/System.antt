@@ -10,6 +10,7 @@ use Rattle.reading.specs.Types.{typeAt}
 use Rattle.reading.specs.Syntax.{Process, nil, par, new, input, output, repl, System, nilₛ, parₛ, groupₛ, newₛ, compₛ, Sheet, components}
 use Rattle.reading.specs.Forms.{processAt, systemAt}
 use Rattle.reading.specs.declared.Form.{Form}
+use Rattle.reading.specs.declared.OwnFields.{OwnFields}
 use Rattle.reading.specs.declared.Form.the-variants.{Nil, Par, Group, New, Component, Input, Output, Replicate}
 
 -- The process that begins with a form; `read names at` reads what stands at a later place, one level deeper.
@@ -21,7 +22,7 @@ processFrom read at names (Input a) next = andThen (read (names + 1) next) (λ p
 processFrom read at names (Output a) next = andThen (read names next) (λ p k. got (output (a .channel) (a .object) p) k)
 processFrom read at names Replicate next = andThen (read names next) (λ p k. got (repl p) k)
 processFrom read at names (Group g) next = refused 4 at
-processFrom read at names (Component g) next = refused 4 at
+processFrom read at names (Component own) next = refused 4 at
 
 -- The process at a place, where `nest` more forms may be nested and `names` names are in scope.
 unfoldable pub readProcess : ℕ → List ℕ → ℕ → ℕ → Read Process
@@ -29,9 +30,9 @@ readProcess zero s names at = andThen (processAt s at 0 names) (λ form next. re
 readProcess (suc n) s names at =
     andThen (processAt s at (suc n) names) (λ form next. processFrom (λ ns m. readProcess n s ns m) at names form next)
 
--- A component: its group, and its process as it is read.
-unfoldable pub component : ℕ → Read Process → Read System
-component g process = andThen process (λ p k. got (compₛ g p) k)
+-- A component: its own fields, and its process as it is read.
+unfoldable pub component : OwnFields → Read Process → Read System
+component own process = andThen process (λ p k. got (compₛ own p) k)
 
 -- The system that begins with a form. The right part of a parallel form counts on from the components of the left.
 unfoldable pub systemFrom : (ℕ → List ℕ → ℕ → ℕ → Read System) → (ℕ → Read Process) → ℕ → ℕ → List ℕ → ℕ → Form → ℕ → Read System
@@ -40,7 +41,7 @@ systemFrom read process at names path preceding Par next =
     andThen (read names path preceding next) (λ l m. andThen (read names path (preceding + components l) m) (λ r k. got (parₛ l r) k))
 systemFrom read process at names path preceding (Group g) next = andThen (read names (path ++ (g ∷ [])) preceding next) (λ p k. got (groupₛ g p) k)
 systemFrom read process at names path preceding (New t) next = andThen (read (names + 1) path preceding next) (λ p k. got (newₛ t p) k)
-systemFrom read process at names path preceding (Component g) next = component g (process next)
+systemFrom read process at names path preceding (Component own) next = component own (process next)
 systemFrom read process at names path preceding (Input a) next = refused 4 at
 systemFrom read process at names path preceding (Output a) next = refused 4 at
 systemFrom read process at names path preceding Replicate next = refused 4 at

@@ -20,6 +20,7 @@ use crate::Form;
 use crate::FormRead;
 use crate::Number;
 use crate::NumberRead;
+use crate::OwnFields;
 use crate::Path;
 use crate::Place;
 use crate::Refusal;
@@ -172,7 +173,7 @@ fn group_form(s: &[u8], at: usize, next: usize, path: Path, room: bool) -> FormR
     })
 }
 
-// A component's head: its group, new to the path.
+// A component: its own fields, of which the group is new to the path.
 fn component_form(s: &[u8], at: usize, next: usize, path: Path, room: bool) -> FormRead
     ensures { λ r. ⌜ told r ≡ limited room at (componentForm (now (s .entry)) next (pathOf path)) ⌝ }
 {
@@ -183,8 +184,9 @@ fn component_form(s: &[u8], at: usize, next: usize, path: Path, room: bool) -> F
     let NumberRead::Found(group) = read else {
         return not_read(read);
     };
+    let own = OwnFields { group: group.value };
     FormRead::Found(Place {
-        form: Form::Component(group.value),
+        form: Form::Component(own),
         next: group.next,
     })
 }

@@ -42,13 +42,18 @@ pub struct Act {
     pub object: usize,
 }
 
-// The forms of systems and processes, with their fields. A component is document 01's post.
+// The own fields of a component (document 01: a post): those that stand between its code and its process.
+pub struct OwnFields {
+    pub group: usize,
+}
+
+// The forms of systems and processes, with their fields.
 pub enum Form {
     Nil,
     Par,
     Group(usize),
     New(usize),
-    Component(usize),
+    Component(OwnFields),
     Input(Act),
     Output(Act),
     Replicate,

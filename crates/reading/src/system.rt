@@ -1,7 +1,8 @@
 // A whole encoded system: the free names, one system, and nothing after it.
 ghost use mathlib.Core.Path.{_≡_};
-ghost use Prim.Native.Nat.{ℕ, _<_};
+ghost use Prim.Native.Nat.{_<_};
 ghost use Rattle.reading.specs.System.{component, readProcess, readSystem, freeTypes, sheetOf, readSheet};
+ghost use Rattle.reading.specs.declared.OwnFields.{OwnFields};
 ghost use Rattle.reading.specs.Told.{number, ending, ended, counted, countedIn, whyNone, whyOf, pathOf};
 use crate::End;
 use crate::Form;
@@ -65,10 +66,10 @@ pub fn read_process(s: &[u8], at: usize, nest: usize, names: usize) -> End
     }
 }
 
-// Reads past a component's process and counts the component, whatever its group.
+// Reads past a component's process and counts the component, whatever its own fields.
 fn read_component(s: &[u8], at: usize, nest: usize, names: usize, components: usize) -> NumberRead
     requires { ⌜ components < 32 ⌝ }
-    ensures { λ r. ⌜ ((g : ℕ) → number r ≡ counted components (component g (readProcess nest (now (s .entry)) names at))) ⌝ }
+    ensures { λ r. ⌜ ((own : OwnFields) → number r ≡ counted components (component own (readProcess nest (now (s .entry)) names at))) ⌝ }
 {
     let end = read_process(s, at, nest, names);
     let End::At(next) = end else {
