@@ -10,8 +10,9 @@ use borrow.Author.Tests.{ltb-true, ltb-false}
 use lib.Dec.{ltb}
 use lib.ListN.{length, getD, take, set, length-append}
 use lib.Seq.{take-suc-set}
+use Rattle.reading.specs.Dialects.{current}
 use Rattle.reading.specs.Read.{got, refused, andThen, byteAt}
-use Rattle.reading.specs.Forms.{processForm, processAt}
+use Rattle.reading.specs.Forms.{processFormIn, processAtIn, processAt}
 use Rattle.reading.specs.Syntax.{Process, nil, par, new, input, output, repl}
 use Rattle.reading.specs.Told.{form}
 use Rattle.reading.specs.Total.{Grown, under, beside, processGrown, processTree}
@@ -152,11 +153,11 @@ module _ (s : List ℕ) (t : Place) (z : Sizes) (made types cells : List ℕ) wh
 
 -- A form stands within the sheet.
 inside : (s : List ℕ) (at n names : ℕ) (f : Form) (next : ℕ) → processAt s at n names ≡ got f next → at < length s
-unfolding processAt byteAt andThen
+unfolding processAtIn byteAt andThen
 inside s at n names f next e = go (ltb at (length s)) refl e
   where
     go : (b : Bool) → ltb at (length s) ≡ b
-        → andThen (cond b (got (getD s at 0) (at + 1)) (refused 2 at)) (λ code k. processForm s at k (ltb 0 n) (ltb 0 n && ltb names 64) code) ≡ got f next
+        → andThen (cond b (got (getD s at 0) (at + 1)) (refused 2 at)) (λ code k. processFormIn current s at k (ltb 0 n) (ltb 0 n && ltb names 64) code) ≡ got f next
         → at < length s
     go true h i = ltb-true at (length s) h
     go false h i = let z : _≡_ {A = ℕ} 0 1 = cc in absurd (omega arith)
