@@ -14,6 +14,7 @@ use Rattle.reading.specs.declared.Act.{Act as Fields}
 use Rattle.reading.specs.declared.Form.the-variants.{Nil, Par, Group, New, Component as Head, Input, Output, Replicate}
 use Rattle.reading.specs.declared.FormRead.{FormRead}
 use Rattle.reading.specs.declared.FormRead.the-variants as form-read
+use Rattle.reading.specs.declared.OwnFields.{OwnFields}
 use Rattle.reading.specs.declared.Place.{Place as Found}
 use Rattle.reading.specs.declared.Refusal.{Refusal}
 use Rattle.reading.proofs.TotalLaws.{input-names, process-step, process-stop}
@@ -62,9 +63,9 @@ module _ (s : List ℕ) (t : Place) (cells : List ℕ) (q : FormRead) (e : form 
       unfolding processGrown
       form-group g f = idle-nil u (k ∙ rw f at grown)
 
-      pub form-head : (g : ℕ) → p .form ≡ Head g → HasPrefix s t u prefix.Nothing
+      pub form-head : (own : OwnFields) → p .form ≡ Head own → HasPrefix s t u prefix.Nothing
       unfolding processGrown
-      form-head g f = idle-nil u (k ∙ rw f at grown)
+      form-head own f = idle-nil u (k ∙ rw f at grown)
 
       pub form-par : p .form ≡ Par → HasPrefix s t u prefix.Nothing
       unfolding processGrown beside under

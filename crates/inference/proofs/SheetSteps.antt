@@ -10,9 +10,10 @@ use lib.ListN.{length, take, set, length-set}
 use Rattle.reading.proofs.Parts.{parts, passed, never, below-found}
 use Rattle.reading.proofs.TotalLaws.{system-total}
 use Rattle.reading.proofs.TreeLaws.{free-count}
+use Rattle.reading.specs.Dialects.{current}
 use Rattle.reading.specs.Read.{Read, got, refused, andThen, below}
 use Rattle.reading.specs.Syntax.{Sheet, components}
-use Rattle.reading.specs.System.{freeTypes, header, readSystem, toItsEnd, readSheet}
+use Rattle.reading.specs.System.{freeTypesIn, freeTypes, headerIn, header, readSystem, toItsEnd, readSheetIn, readSheet}
 use Rattle.reading.specs.Told.{number}
 use Rattle.reading.specs.Total.{systemTree}
 use Rattle.reading.specs.Types.{typeAt}
@@ -46,12 +47,12 @@ load-first count s at scope h = record {
 -- One type more.
 one-read : (n : ℕ) (s : List ℕ) (at v next : ℕ) → 0 < n → typeAt s at ≡ got v next
     → freeTypes n s at ≡ andThen (freeTypes (n - 1) s next) (λ ts m. got (v ∷ ts) m)
-unfolding freeTypes andThen
+unfolding freeTypesIn andThen
 one-read zero s at v next h e = absurd (omega arith)
 one-read (suc n) s at v next h e = rw (e, sub-one (suc n))
 
 none-read : (n : ℕ) (s : List ℕ) (at q p : ℕ) → 0 < n → typeAt s at ≡ refused q p → freeTypes n s at ≡ refused q p
-unfolding freeTypes andThen
+unfolding freeTypesIn andThen
 none-read zero s at q p h e = absurd (omega arith)
 none-read (suc n) s at q p h e = rw e
 
@@ -92,7 +93,7 @@ module _ (count : ℕ) (s : List ℕ) (at : ℕ) (scope : List ℕ) (next names 
 
 pub load-last : (count : ℕ) (s : List ℕ) (at : ℕ) (scope : List ℕ) (next names : ℕ) → Loading count s at scope next names → count ≤ names
     → LoadedTypes count s at scope (record { value = names; next = next })
-unfolding andThen freeTypes
+unfolding andThen freeTypesIn
 load-last count s at scope next names o h = record { loaded = λ ts k c g. told ts k (sym (all c) ∙ g) }
   where
     all : count ≤ 64 → freeTypes count s at ≡ got (take names scope ++ []) next
@@ -107,11 +108,11 @@ load-last count s at scope next names o h = record { loaded = λ ts k c g. told 
 -- The header: as many types as its count.
 module _ (s scope : List ℕ) (r : NumberRead) (e : number r ≡ below 33 s 0) where
   pub no-header : (q : Refusal) → r ≡ number-read.Refused q → LoadedFree s scope (record { value = 0; next = 0 })
-  unfolding header andThen
+  unfolding headerIn andThen
   no-header q f = record { loaded = λ free at g. never (rw (← e, f) at g) }
 
   pub header-loaded : (c w : Number) → r ≡ number-read.Found c → LoadedTypes (c .value) s (c .next) scope w → LoadedFree s scope w
-  unfolding header andThen
+  unfolding headerIn andThen
   header-loaded c w f l = record { loaded = told }
     where
       small : c .value ≤ 64
@@ -120,7 +121,7 @@ module _ (s scope : List ℕ) (r : NumberRead) (e : number r ≡ below 33 s 0) w
       told : (free : List ℕ) (at : ℕ) → header s ≡ got free at → (w .value ≡ length free) × (w .next ≡ at) × (take (length free) scope ≡ free)
       told free at g =
           let types : freeTypes (c .value) s (c .next) ≡ got free at = rw (← e, f) at g in
-          rw (free-count (c .value) s (c .next) types) (l .loaded free at small types)
+          rw (free-count current (c .value) s (c .next) types) (l .loaded free at small types)
 
 -- The two parts of a sheet that was read.
 pub record SheetParts (s : List ℕ) (sheet : Sheet) : Type 0 where
@@ -130,7 +131,7 @@ pub record SheetParts (s : List ℕ) (sheet : Sheet) : Type 0 where
   pub body : readSystem 64 s (length (sheet .free)) [] 0 at ≡ got (sheet .system) end
 
 pub sheet-parts : (s : List ℕ) (sheet : Sheet) (end : ℕ) → readSheet s ≡ got sheet end → SheetParts s sheet
-unfolding readSheet toItsEnd
+unfolding readSheetIn toItsEnd
 sheet-parts s sheet end e =
     let h = parts (header s) (λ free at. andThen (readSystem 64 s (length free) [] 0 at) (λ system next. toItsEnd s (record { free = free; system = system }) next)) e in
     let i = parts (readSystem 64 s (length (h .value)) [] 0 (h .place)) (λ system next. toItsEnd s (record { free = h .value; system = system }) next) (h .rest) in

@@ -20,10 +20,11 @@ use Rattle.reading.specs.declared.Form.{Form}
 use Rattle.reading.specs.declared.Form.the-variants.{Nil, Par, Group, New, Component as Head, Input, Output, Replicate}
 use Rattle.reading.specs.declared.FormRead.{FormRead}
 use Rattle.reading.specs.declared.FormRead.the-variants as form-read
+use Rattle.reading.specs.declared.OwnFields.{OwnFields}
 use Rattle.reading.specs.declared.Place.{Place}
 use Rattle.reading.specs.declared.Refusal.{Refusal}
 use Rattle.inference.proofs.WalkLaws.{worst-most, worstAll-append, chargedAll-append, scope-bound, kept-below, min-cong}
-use Rattle.inference.specs.Acts.{acts, actsOf, locate}
+use Rattle.inference.specs.Acts.{componentAt, acts, actsOf, locate}
 use Rattle.inference.specs.Rows.{withPath}
 use Rattle.inference.specs.Walks.{worstAll, chargedAll, opens, Inferred, InferredAt}
 use Rattle.inference.specs.declared.SystemWalk.{SystemWalk}
@@ -55,7 +56,7 @@ module _ (n : ℕ) (s : List ℕ) (names : ℕ) (path : List ℕ) (preceding at 
       go Par q = refl
       go (Group g) q = group-room s at n names path preceding q
       go (New t) q = lt-ltb names 64 (system-names s at n names path preceding q)
-      go (Head g) q = rw (component-room s at n names path preceding q) (lt-ltb preceding 32 (component-number s at n names path preceding q))
+      go (Head own) q = rw (component-room s at n names path preceding q) (lt-ltb preceding 32 (component-number s at n names path preceding q))
       go (Input a) q = refl
       go (Output a) q = refl
       go Replicate q = refl
@@ -82,13 +83,13 @@ module _ (names : ℕ) (path : List ℕ) (preceding : ℕ) (f : Form) (h : opens
   unfolding opens
   group-opens g e = rw e at h
 
-  pub head-opens : (g : ℕ) → f ≡ Head g → ltb (length path) 8 ≡ true
+  pub head-opens : (own : OwnFields) → f ≡ Head own → ltb (length path) 8 ≡ true
   unfolding opens
-  head-opens g e = both-left (ltb (length path) 8) (ltb preceding 32) (rw e at h)
+  head-opens own e = both-left (ltb (length path) 8) (ltb preceding 32) (rw e at h)
 
-  pub head-number : (g : ℕ) → f ≡ Head g → preceding < 32
+  pub head-number : (own : OwnFields) → f ≡ Head own → preceding < 32
   unfolding opens
-  head-number g e = ltb-true preceding 32 (both-right (ltb (length path) 8) (ltb preceding 32) (rw e at h))
+  head-number own e = ltb-true preceding 32 (both-right (ltb (length path) 8) (ltb preceding 32) (rw e at h))
 
 module _ (grow : ℕ → List ℕ → ℕ → ℕ → Grown System) (process : ℕ → Grown Process) (at names : ℕ) (path : List ℕ) (preceding : ℕ) (f : Form) (next : ℕ)
     (scope scope′ table table′ : List ℕ) where
@@ -125,9 +126,9 @@ module _ (grow : ℕ → List ℕ → ℕ → ℕ → Grown System) (process : �
     unfolding systemGrown
     form-new t e h = rw e h
 
-    pub form-head : (g : ℕ) → f ≡ Head g → InferredAt preceding path (under (compₛ g) (process next)) names scope scope′ table table′ w → InferredAt preceding path grown names scope scope′ table table′ w
+    pub form-head : (own : OwnFields) → f ≡ Head own → InferredAt preceding path (under (compₛ own) (process next)) names scope scope′ table table′ w → InferredAt preceding path grown names scope scope′ table table′ w
     unfolding systemGrown
-    form-head g e h = rw e h
+    form-head own e h = rw e h
 
     pub form-group : (g : ℕ) (deeper : List ℕ) → f ≡ Group g → opens names path preceding f ≡ true
         → (ltb (length path) 8 ≡ true → deeper ≡ path ++ (g ∷ []))
@@ -158,11 +159,11 @@ module _ (t : Grown System) (names u preceding : ℕ) (path scope scope₁ scope
       }
 
 -- A component.
-module _ (t : Grown Process) (names g preceding : ℕ) (path own scope scope′ table table₁ table′ : List ℕ) (w : Walk) where
-  pub component-found : ltb (length path) 8 ≡ true → (ltb (length path) 8 ≡ true → own ≡ path ++ (g ∷ [])) → table₁ ≡ withPath table preceding own
-      → Inferred t (acts (record { number = preceding; path = own }) false (map some (take names scope)) (t .tree)) names scope scope′ table₁ table′ w
-      → InferredAt preceding path (under (compₛ g) t) names scope scope′ table table′ (record { next = w .next; fault = w .fault; components = preceding + 1 })
-  unfolding under locate components worstAll chargedAll actsOf
+module _ (t : Grown Process) (names : ℕ) (own : OwnFields) (preceding : ℕ) (path whole scope scope′ table table₁ table′ : List ℕ) (w : Walk) where
+  pub component-found : ltb (length path) 8 ≡ true → (ltb (length path) 8 ≡ true → whole ≡ path ++ (own .group ∷ [])) → table₁ ≡ withPath table preceding whole
+      → Inferred t (acts (record { number = preceding; path = whole }) false (map some (take names scope)) (t .tree)) names scope scope′ table₁ table′ w
+      → InferredAt preceding path (under (compₛ own) t) names scope scope′ table table′ (record { next = w .next; fault = w .fault; components = preceding + 1 })
+  unfolding under locate componentAt components worstAll chargedAll actsOf
   component-found o d q h = record {
     place = h .place;
     first = once (rw (d o) at (h .first)) (worst-most _);

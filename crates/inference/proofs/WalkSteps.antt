@@ -19,6 +19,7 @@ use Rattle.reading.specs.declared.Form.{Form}
 use Rattle.reading.specs.declared.Form.the-variants.{Nil, Par, Group, New, Component as Head, Input, Output, Replicate}
 use Rattle.reading.specs.declared.FormRead.{FormRead}
 use Rattle.reading.specs.declared.FormRead.the-variants as form-read
+use Rattle.reading.specs.declared.OwnFields.{OwnFields}
 use Rattle.reading.specs.declared.Place.{Place}
 use Rattle.reading.specs.declared.Refusal.{Refusal}
 use Rattle.inference.proofs.WalkLaws.{worst-append, charged-append, some-type, scope-bound, kept-below, min-cong}
@@ -57,7 +58,7 @@ module _ (n : ℕ) (s : List ℕ) (names at : ℕ) (r : FormRead) (e : form r �
       go Par q = refl
       go (Group g) q = refl
       go (New t) q = lt-ltb names 64 (new-names s at n names q)
-      go (Head g) q = refl
+      go (Head own) q = refl
       go (Input a) q = lt-ltb names 64 (input-names s at n names q)
       go (Output a) q = refl
       go Replicate q = refl
@@ -94,9 +95,9 @@ module _ (grow : ℕ → ℕ → Grown Process) (at names : ℕ) (f : Form) (nex
   unfolding processGrown
   form-group g e = nothing grown at c b names scope table (rw e)
 
-  pub form-head : (g : ℕ) → f ≡ Head g → Finds c b grown names scope scope table table (record { next = at; fault = 11 })
+  pub form-head : (own : OwnFields) → f ≡ Head own → Finds c b grown names scope scope table table (record { next = at; fault = 11 })
   unfolding processGrown
-  form-head g e = nothing grown at c b names scope table (rw e)
+  form-head own e = nothing grown at c b names scope table (rw e)
 
   module _ (w : Walk) where
     pub form-par : f ≡ Par → Finds c b (beside par (grow names next) (λ l m. grow names m)) names scope scope′ table table′ w

@@ -5,6 +5,7 @@ use mathlib.Core.List.{List, [], _∷_, _++_, map}
 use mathlib.Core.Bool.{Bool, true, false}
 use mathlib.Core.Option.{Option, some, none}
 use Rattle.reading.specs.Syntax.{Process, nil, par, new, input, output, repl, System, nilₛ, parₛ, groupₛ, newₛ, compₛ, Sheet, components}
+use Rattle.reading.specs.declared.OwnFields.{OwnFields}
 use Rattle.inference.specs.Lists.{gather}
 
 -- A component (document 01: a post): "A post's path is the groups passed on the way to it, its own last. Posts are numbered
@@ -12,6 +13,10 @@ use Rattle.inference.specs.Lists.{gather}
 pub record Component : Type 0 where
   pub number : ℕ
   pub path : List ℕ
+
+-- The component with a number, the groups passed on the way to it, and its own fields.
+unfoldable pub componentAt : ℕ → List ℕ → OwnFields → Component
+componentAt number path own = record { number = number; path = path ++ (own .group ∷ []) }
 
 -- The type of the name at a level of a scope; none past its last level. A level may have none itself: in a run, that of a
 -- name never given.
@@ -32,8 +37,7 @@ locate number path scope nilₛ = []
 locate number path scope (parₛ l r) = locate number path scope l ++ locate (number + components l) path scope r
 locate number path scope (groupₛ g p) = locate number (path ++ (g ∷ [])) scope p
 locate number path scope (newₛ t p) = locate number path (scope ++ (some t ∷ [])) p
-locate number path scope (compₛ g p) =
-    record { component = record { number = number; path = path ++ (g ∷ []) }; scope = scope; process = p } ∷ []
+locate number path scope (compₛ own p) = record { component = componentAt number path own; scope = scope; process = p } ∷ []
 
 unfoldable pub located : Sheet → List Located
 located sheet = locate 0 [] (map some (sheet .free)) (sheet .system)

@@ -20,6 +20,7 @@ use crate::walks::infer_process;
 use crate::walks::least;
 use reading::Form;
 use reading::FormRead;
+use reading::OwnFields;
 use reading::Path;
 use reading::forms::system_at;
 use reading::paths;
@@ -40,24 +41,24 @@ fn infer_component(
     s: &[u8],
     spot: Spot,
     path: Path,
-    group: usize,
+    own: OwnFields,
     component: usize,
     scope: &mut [usize],
     table: &mut [u16],
 ) -> SystemWalk
     requires { ⌜ (length (now scope) ≡ 64) × (ltb (length (pathOf path)) 8 ≡ true) × (component < 32) ⌝ }
     ensures { λ r. ⌜ InferredAt component (pathOf path)
-        (under (compₛ group) (processTree (spot .nest) (now (s .entry)) (spot .names) (spot .at)))
+        (under (compₛ own) (processTree (spot .nest) (now (s .entry)) (spot .names) (spot .at)))
         (spot .names) (now (scope .entry)) (now (scope .exit)) (now (table .entry)) (now (table .exit)) r ⌝ }
 {
-    let own = paths::with(path, group);
+    let whole = paths::with(path, own.group);
     let context = Context {
         component,
-        path: own,
+        path: whole,
         repeated: false,
     };
     let number = component + 1;
-    store_path(table, component, own);
+    store_path(table, component, whole);
     let walk = infer_process(s, spot, context, scope, table);
     SystemWalk {
         next: walk.next,
@@ -126,7 +127,7 @@ fn infer_form(
         Form::Par => infer_par(s, inner, path, components, scope, table),
         Form::Group(g) => infer_system(s, inner, paths::with(path, g), components, scope, table),
         Form::New(t) => infer_under(s, inner, t, path, components, scope, table),
-        Form::Component(g) => infer_component(s, inner, path, g, components, scope, table),
+        Form::Component(own) => infer_component(s, inner, path, own, components, scope, table),
         Form::Input(_) => SystemWalk {
             next: at,
             fault: 11,

@@ -11,10 +11,11 @@ use native.Mathlib.Decide.{ℕ-discrete}
 use lib.ListN.{length, length-append}
 use lib.Dec.{eqb}
 use borrow.Author.Tests.{eq-eqb, ne-eqb}
+use Rattle.reading.specs.Dialects.{current}
 use Rattle.reading.specs.Read.{Read, got, refused, andThen}
 use Rattle.reading.specs.Syntax.{Process, System, nilₛ, parₛ, groupₛ, newₛ, compₛ, Sheet, components}
 use Rattle.reading.specs.Forms.{systemAt}
-use Rattle.reading.specs.System.{component, systemFrom, readProcess, readSystem}
+use Rattle.reading.specs.System.{component, systemFrom, readProcess, readSystemIn, readSystem}
 use Rattle.reading.specs.declared.Form.{Form}
 use Rattle.reading.specs.declared.Form.the-variants.{Nil, Par, Group, New, Component, Input, Output, Replicate}
 use Rattle.reading.proofs.Parts.{never, parts}
@@ -23,7 +24,7 @@ use Rattle.reading.proofs.Local.{place-after}
 use Rattle.reading.proofs.TreeLaws.{SheetParts}
 use Rattle.inference.specs.Lists.{only, gather, rising}
 use Rattle.inference.specs.Counts.{Count, _⊕_, repeatedly, isZero}
-use Rattle.inference.specs.Acts.{Act, Component as Owner, Located, acts, actsOf, locate, located}
+use Rattle.inference.specs.Acts.{Act, Component as Owner, componentAt, Located, acts, actsOf, locate, located}
 use Rattle.inference.specs.Needs.{needOf, disclosures, weigh, total, disclosed}
 use Rattle.inference.specs.declared.Need.{Need}
 use Rattle.inference.specs.declared.Need.the-variants.{Nothing, Read as Reading, Write, Access, Disclose}
@@ -257,13 +258,13 @@ module _ (read : ℕ → List ℕ → ℕ → ℕ → Read System) (process : �
       let z : newₛ t (x .value) ≡ p = cc in
       let w : x .place ≡ k = cc in
       rw (← z) (omega (arith, l (names + 1) path preceding next (scope ++ (some t ∷ [])) (x .value) (x .place) (x .first)))
-  located-from (Component b) next h {p} {k} e =
-      let x = parts (process next) (λ u j. got (compₛ b u) j) e in
-      let z : compₛ b (x .value) ≡ p = cc in
+  located-from (Component own) next h {p} {k} e =
+      let x = parts (process next) (λ u j. got (compₛ own u) j) e in
+      let z : compₛ own (x .value) ≡ p = cc in
       let w : x .place ≡ k = cc in
       rw (← z) (omega (
         arith,
-        open-acts (record { number = preceding; path = path ++ (b ∷ []) }) false scope (x .value),
+        open-acts (componentAt preceding path own) false scope (x .value),
         a next (x .value) (x .place) (x .first),
       ))
   located-from (Input i) next h e = never e
@@ -272,7 +273,7 @@ module _ (read : ℕ → List ℕ → ℕ → ℕ → Read System) (process : �
 
 located-acts : (nest : ℕ) (s : List ℕ) (names : ℕ) (path : List ℕ) (preceding at : ℕ) (scope : List (Option ℕ)) (p : System) (k : ℕ)
     → readSystem nest s names path preceding at ≡ got p k → at + actsIn (locate preceding path scope p) ≤ k
-unfolding readSystem
+unfolding readSystemIn
 located-acts zero s names path preceding at scope p k e =
     let x = parts (systemAt s at 0 names path preceding) (λ f next. refused 5 at) e in never (x .rest)
 located-acts (suc n) s names path preceding at scope p k e =
@@ -281,7 +282,7 @@ located-acts (suc n) s names path preceding at scope p k e =
     located-from (λ ns q i m. readSystem n s ns q i m) (λ m. readProcess n s names m)
     (λ ns q i m sc r j f. located-acts n s ns q i m sc r j f) (λ m r j f. acts-read n s names m f) at names path preceding scope
     (x .value) (x .place)
-    (omega (arith, place-after (at + 1) (λ b. systemAt b at (suc n) names path preceding) (system-local at (suc n) names path preceding) s (x .first)))
+    (omega (arith, place-after (at + 1) (λ b. systemAt b at (suc n) names path preceding) (system-local current at (suc n) names path preceding) s (x .first)))
     (x .rest)
 
 -- The interface of a sheet that was read has at most 18,432 bytes.

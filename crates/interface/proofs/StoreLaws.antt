@@ -9,12 +9,13 @@ use native.Mathlib.Omega.{arith}
 use lib.ListN.{length, getD, replicate, length-append, length-replicate, getD-replicate, List·getD-append, List·getD-eq-default}
 use lib.Seq.{getD-append-seam}
 use lib.Dec.{eqb}
+use Rattle.reading.specs.Dialects.{current}
 use Rattle.reading.specs.Read.{Read, got, refused, andThen, byteAt, below}
 use Rattle.reading.specs.Types.{typeAt}
 use Rattle.reading.specs.Syntax.{Process, nil, par, new, input, output, repl, System, nilₛ, parₛ, groupₛ, newₛ, compₛ, Sheet, components}
 use native.Mathlib.Decide.{ℕ-discrete, decLt}
-use Rattle.reading.specs.Forms.{member, freshGroup, groupForm, componentForm, newForm, systemForm, systemAt, processAt}
-use Rattle.reading.specs.System.{processFrom, readProcess, component, systemFrom, readSystem}
+use Rattle.reading.specs.Forms.{member, freshGroupIn, groupFormIn, componentFormIn, newFormIn, systemFormIn, systemAtIn, systemAt, processAt}
+use Rattle.reading.specs.System.{processFrom, readProcessIn, readProcess, component, systemFrom, readSystemIn, readSystem}
 use Rattle.reading.specs.declared.Form.{Form}
 use Rattle.reading.specs.declared.Form.the-variants.{Nil, Par, Group, New, Component, Input, Output, Replicate}
 use Rattle.reading.proofs.Parts.{never, parts, below-found, Every, of-found, every-then, every-cond, every-limited}
@@ -23,7 +24,7 @@ use Rattle.reading.proofs.ReadLaws.{process-local, read-system-local}
 use Rattle.reading.proofs.Local.{place-after}
 use Rattle.reading.proofs.TreeLaws.{components-few, SheetParts}
 use Rattle.inference.specs.Lists.{gather, rising}
-use Rattle.inference.specs.Acts.{Act, Component as Owner, Located, acts, actsOf, locate, located}
+use Rattle.inference.specs.Acts.{Act, Component as Owner, componentAt, Located, acts, actsOf, locate, located}
 use Rattle.inference.specs.Interface.{interface}
 use Rattle.inference.specs.Rows.{tableEntries, rowEntries}
 use Rattle.inference.specs.Walks.{chargedAll}
@@ -84,16 +85,16 @@ module _ (read : ℕ → ℕ → Read Process) (l : (ns m : ℕ) (p : Process) (
       let w : a .place ≡ k = cc in
       omega (arith, ap actCount z, l names next (a .value) (a .place) (a .first))
   acts-from (Group g) next h e = never e
-  acts-from (Component g) next h e = never e
+  acts-from (Component own) next h e = never e
 
 pub acts-read : (nest : ℕ) (s : List ℕ) (names at : ℕ) {p : Process} {k : ℕ} → readProcess nest s names at ≡ got p k → at + actCount p ≤ k
-unfolding readProcess
+unfolding readProcessIn
 acts-read zero s names at e =
     let a = parts (processAt s at 0 names) (λ f next. refused 5 at) e in never (a .rest)
 acts-read (suc n) s names at e =
     let a = parts (processAt s at (suc n) names) (λ f next. processFrom (λ ns m. readProcess n s ns m) at names f next) e in
     acts-from (λ ns m. readProcess n s ns m) (λ ns m p k f. acts-read n s ns m f) at names (a .value) (a .place)
-    (omega (arith, place-after (at + 1) (λ b. processAt b at (suc n) names) (process-local at (suc n) names) s (a .first))) (a .rest)
+    (omega (arith, place-after (at + 1) (λ b. processAt b at (suc n) names) (process-local current at (suc n) names) s (a .first))) (a .rest)
 
 -- The acts of a component are its own.
 all-append : (n : ℕ) {xs ys : List Act} → AllOf n xs → AllOf n ys → AllOf n (xs ++ ys)
@@ -115,23 +116,23 @@ GroupBelow Nil = Unit {0}
 GroupBelow Par = Unit {0}
 GroupBelow (Group g) = g < 64
 GroupBelow (New t) = Unit {0}
-GroupBelow (Component g) = g < 64
+GroupBelow (Component own) = own .group < 64
 GroupBelow (Input a) = Unit {0}
 GroupBelow (Output a) = Unit {0}
 GroupBelow Replicate = Unit {0}
 
-fresh-below : (s : List ℕ) (at : ℕ) (path : List ℕ) → Every (λ g. g < 64) (freshGroup s at path)
-unfolding Every freshGroup
+fresh-below : (s : List ℕ) (at : ℕ) (path : List ℕ) → Every (λ g. g < 64) (freshGroupIn current s at path)
+unfolding Every freshGroupIn current
 fresh-below s at path = every-then _ (below 64 s at) _ (λ g next e. every-cond _ (member g path) _ _ tt (below-found 64 s at e))
 
 form-group : (s : List ℕ) (at nest names : ℕ) (path : List ℕ) (preceding : ℕ) → Every GroupBelow (systemAt s at nest names path preceding)
-unfolding Every GroupBelow systemAt systemForm groupForm componentForm newForm
+unfolding Every GroupBelow systemAtIn systemFormIn groupFormIn componentFormIn newFormIn
 form-group s at nest names path preceding = every-then P (byteAt s at) _ (λ code next _.
     every-cond P (eqb code 0) _ _ (every-limited P _ at _ (λ e. tt))
     (every-cond P (eqb code 1) _ _ (every-limited P _ at _ (λ e. tt))
-    (every-cond P (eqb code 2) _ _ (every-limited P _ at _ (λ e. every-then P (freshGroup s next path) _ (λ g m h. of-found _ (freshGroup s next path) (fresh-below s next path) h)))
+    (every-cond P (eqb code 2) _ _ (every-limited P _ at _ (λ e. every-then P (freshGroupIn current s next path) _ (λ g m h. of-found _ (freshGroupIn current s next path) (fresh-below s next path) h)))
     (every-cond P (eqb code 3) _ _ (every-limited P _ at _ (λ e. every-then P (typeAt s next) _ (λ t m h. tt)))
-    (every-cond P (eqb code 4) _ _ (every-limited P _ at _ (λ e. every-then P (freshGroup s next path) _ (λ g m h. of-found _ (freshGroup s next path) (fresh-below s next path) h))) tt)))))
+    (every-cond P (eqb code 4) _ _ (every-limited P _ at _ (λ e. every-then P (freshGroupIn current s next path) _ (λ g m h. of-found _ (freshGroupIn current s next path) (fresh-below s next path) h))) tt)))))
   where
     P : Form → Type 0
     P = GroupBelow
@@ -165,7 +166,7 @@ located-count number path scope (parₛ l r) =
     ∙ ap₂ _+_ (located-count number path scope l) (located-count (number + components l) path scope r)
 located-count number path scope (groupₛ g p) = located-count number (path ++ (g ∷ [])) scope p
 located-count number path scope (newₛ t p) = located-count number path (scope ++ (some t ∷ [])) p
-located-count number path scope (compₛ g p) = refl
+located-count number path scope (compₛ own p) = refl
 
 module _ (read : ℕ → List ℕ → ℕ → ℕ → Read System) (process : ℕ → Read Process)
     (later : (ns : ℕ) (path : List ℕ) (preceding m : ℕ) (p : System) (k : ℕ) → read ns path preceding m ≡ got p k → m ≤ k)
@@ -175,7 +176,7 @@ module _ (read : ℕ → List ℕ → ℕ → ℕ → Read System) (process : �
     (at names : ℕ) (path : List ℕ) (preceding : ℕ) (scope : List (Option ℕ)) (fits : FitsRow path) where
   store-from : (f : Form) (next : ℕ) → FitsSystem 64 0 (length path) preceding f → GroupBelow f → {p : System} {k : ℕ}
       → systemFrom read process at names path preceding f next ≡ got p k → k ≤ 65000 → AllStorable preceding (locate preceding path scope p)
-  unfolding systemFrom component FitsSystem GroupBelow locate actsOf
+  unfolding systemFrom component FitsSystem GroupBelow locate componentAt actsOf
   store-from Nil next h g {p} e few = let z : nilₛ ≡ p = cc in rw (← z) store-none
   store-from Par next h g {p} {k} e few =
       let x = parts (read names path preceding next) (λ u m. andThen (read names path (preceding + components u) m) (λ v j. got (parₛ u v) j)) e in
@@ -197,14 +198,14 @@ module _ (read : ℕ → List ℕ → ℕ → ℕ → Read System) (process : �
       let z : newₛ t (x .value) ≡ p = cc in
       let w : x .place ≡ k = cc in
       rw (← z) (l (names + 1) path preceding next (scope ++ (some t ∷ [])) (x .value) (x .place) (x .first) fits (omega arith))
-  store-from (Component b) next h g {p} {k} e few =
-      let x = parts (process next) (λ u j. got (compₛ b u) j) e in
-      let z : compₛ b (x .value) ≡ p = cc in
+  store-from (Component own) next h g {p} {k} e few =
+      let x = parts (process next) (λ u j. got (compₛ own u) j) e in
+      let z : compₛ own (x .value) ≡ p = cc in
       let w : x .place ≡ k = cc in
-      let c : Owner = record { number = preceding; path = path ++ (b ∷ []) } in
+      let c : Owner = componentAt preceding path own in
       rw (← z) (store-more (record {
         number = refl;
-        fits = fits-more path b fits (h .1) g;
+        fits = fits-more path (own .group) fits (h .1) g;
         own = own-acts c false scope (x .value);
         few = omega (arith, open-acts c false scope (x .value), a next (x .value) (x .place) (x .first));
       })
@@ -220,24 +221,24 @@ fits-any nest names long preceding Nil h = omega arith
 fits-any nest names long preceding Par h = omega arith
 fits-any nest names long preceding (Group g) h = (omega arith, h .1)
 fits-any nest names long preceding (New t) h = (omega arith, omega arith)
-fits-any nest names long preceding (Component g) h = (omega arith, h .1, h .2)
+fits-any nest names long preceding (Component own) h = (omega arith, h .1, h .2)
 fits-any nest names long preceding (Input a) h = h
 fits-any nest names long preceding (Output a) h = h
 fits-any nest names long preceding Replicate h = h
 
 store-read : (nest : ℕ) (s : List ℕ) (names : ℕ) (path : List ℕ) (preceding at : ℕ) (scope : List (Option ℕ)) (p : System) (k : ℕ)
     → readSystem nest s names path preceding at ≡ got p k → FitsRow path → k ≤ 65000 → AllStorable preceding (locate preceding path scope p)
-unfolding readSystem
+unfolding readSystemIn
 store-read zero s names path preceding at scope p k e fits few =
     let a = parts (systemAt s at 0 names path preceding) (λ f next. refused 5 at) e in never (a .rest)
 store-read (suc n) s names path preceding at scope p k e fits few =
     let a = parts (systemAt s at (suc n) names path preceding)
     (λ f next. systemFrom (λ ns q i m. readSystem n s ns q i m) (λ m. readProcess n s names m) at names path preceding f next) e in
     store-from (λ ns q i m. readSystem n s ns q i m) (λ m. readProcess n s names m)
-    (λ ns q i m r j f. omega (arith, place-after (m + 1) (λ b. readSystem n b ns q i m) (read-system-local n ns q i m) s f))
+    (λ ns q i m r j f. omega (arith, place-after (m + 1) (λ b. readSystem n b ns q i m) (read-system-local current n ns q i m) s f))
     (λ ns q i m sc r j f fi fe. store-read n s ns q i m sc r j f fi fe)
     (λ m r j f. acts-read n s names m f) at names path preceding scope fits (a .value) (a .place)
-    (fits-any (suc n) names (length path) preceding (a .value) (system-room s at (suc n) names path preceding (a .first)))
+    (fits-any (suc n) names (length path) preceding (a .value) (system-room current s at (suc n) names path preceding (a .first)))
     (of-found _ (systemAt s at (suc n) names path preceding) (form-group s at (suc n) names path preceding) (a .first)) (a .rest) few
 
 -- The components of a sheet that was read can be stored, and there are at most 32.
@@ -249,7 +250,7 @@ sheet-storable s charter sheet k h =
 
 pub sheet-components : (s charter : List ℕ) (sheet : Sheet) (k : ℕ) → SheetParts s charter sheet k → components (sheet .system) ≤ 32
 sheet-components s charter sheet k h =
-    omega (arith, components-few 64 s (length (sheet .free)) [] 0 (h .start) (omega arith) (h .body))
+    omega (arith, components-few current 64 s (length (sheet .free)) [] 0 (h .start) (omega arith) (h .body))
 
 -- The table that a sheet's walk leaves in clear memory holds the sheet's interface.
 pub sheet-table : (s charter : List ℕ) (sheet : Sheet) (k : ℕ) → SheetParts s charter sheet k

@@ -6,7 +6,7 @@ use native.Mathlib.Omega.{arith}
 use lib.ListN.{length, take, length-append}
 use lib.Seq.{take-take}
 use Rattle.reading.specs.Syntax.{Process, nil, par, new, input, output, repl, System, nilₛ, parₛ, groupₛ, newₛ, compₛ, components}
-use Rattle.inference.specs.Acts.{Component}
+use Rattle.inference.specs.Acts.{Component, componentAt}
 use Rattle.running.specs.State.{Thread}
 use Rattle.running.specs.Products.{news, threadsOf, systemNews, systemThreads}
 use Rattle.memory.specs.Threads.{unpacked}
@@ -68,4 +68,4 @@ system-crowd-counts number path names next (parₛ l r) =
     ∙ omega (arith, system-crowd-counts number path names next l, system-crowd-counts (number + components l) path names (next + length (systemNews l)) r)
 system-crowd-counts number path names next (groupₛ g p) = system-crowd-counts number (path ++ (g ∷ [])) names next p
 system-crowd-counts number path names next (newₛ t p) = system-crowd-counts number path (names ++ (next ∷ [])) (next + 1) p
-system-crowd-counts number path names next (compₛ g p) = crowd-counts (record { number = number; path = path ++ (g ∷ []) }) names next p
+system-crowd-counts number path names next (compₛ own p) = crowd-counts (componentAt number path own) names next p

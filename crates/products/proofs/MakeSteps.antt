@@ -10,8 +10,9 @@ use borrow.Author.Tests.{ltb-true, ltb-false}
 use lib.Dec.{ltb}
 use lib.ListN.{length, getD, take, set, length-append}
 use lib.Seq.{take-suc-set}
+use Rattle.reading.specs.Dialects.{current}
 use Rattle.reading.specs.Read.{got, refused, andThen, byteAt}
-use Rattle.reading.specs.Forms.{processForm, processAt}
+use Rattle.reading.specs.Forms.{processFormIn, processAtIn, processAt}
 use Rattle.reading.specs.Syntax.{Process, nil, par, new, input, output, repl}
 use Rattle.reading.specs.Told.{form}
 use Rattle.reading.specs.Total.{Grown, under, beside, processGrown, processTree}
@@ -20,6 +21,7 @@ use Rattle.reading.specs.declared.Form.{Form}
 use Rattle.reading.specs.declared.Form.the-variants.{Nil, Par, Group, New, Component as Head, Input, Output, Replicate}
 use Rattle.reading.specs.declared.FormRead.{FormRead}
 use Rattle.reading.specs.declared.FormRead.the-variants as form-read
+use Rattle.reading.specs.declared.OwnFields.{OwnFields}
 use Rattle.reading.specs.declared.Place.{Place as Found}
 use Rattle.reading.specs.declared.Refusal.{Refusal}
 use Rattle.reading.proofs.TotalLaws.{process-nest, new-names, process-step, process-stop}
@@ -151,11 +153,11 @@ module _ (s : List ℕ) (t : Place) (z : Sizes) (made types cells : List ℕ) wh
 
 -- A form stands within the sheet.
 inside : (s : List ℕ) (at n names : ℕ) (f : Form) (next : ℕ) → processAt s at n names ≡ got f next → at < length s
-unfolding processAt byteAt andThen
+unfolding processAtIn byteAt andThen
 inside s at n names f next e = go (ltb at (length s)) refl e
   where
     go : (b : Bool) → ltb at (length s) ≡ b
-        → andThen (cond b (got (getD s at 0) (at + 1)) (refused 2 at)) (λ code k. processForm s at k (ltb 0 n) (ltb 0 n && ltb names 64) code) ≡ got f next
+        → andThen (cond b (got (getD s at 0) (at + 1)) (refused 2 at)) (λ code k. processFormIn current s at k (ltb 0 n) (ltb 0 n && ltb names 64) code) ≡ got f next
         → at < length s
     go true h i = ltb-true at (length s) h
     go false h i = let z : _≡_ {A = ℕ} 0 1 = cc in absurd (omega arith)
@@ -177,9 +179,9 @@ module _ (s : List ℕ) (t : Place) (f : Form) (next : ℕ) (e : processAt s (t 
   unfolding processGrown
   form-group g h r = nothing s t tree (t .at) z made types cells (rw h at grown) r
 
-  pub form-head : (g : ℕ) → f ≡ Head g → Ready s t z made types cells → Makes s t tree z made made types types cells cells (record { next = t .at; sizes = z })
+  pub form-head : (own : OwnFields) → f ≡ Head own → Ready s t z made types cells → Makes s t tree z made made types types cells cells (record { next = t .at; sizes = z })
   unfolding processGrown
-  form-head g h r = nothing s t tree (t .at) z made types cells (rw h at grown) r
+  form-head own h r = nothing s t tree (t .at) z made types cells (rw h at grown) r
 
   at-thread : (r : Made) → IsThread (tree .tree) → ThreadMade s z t made made′ r
       → Ready s t z made types cells → Makes s t tree z made made′ types types cells cells r

@@ -11,6 +11,7 @@ use Rattle.reading.specs.declared.Act.{Act as Fields}
 use Rattle.reading.specs.declared.Form.the-variants.{Nil, Par, Group, New, Component as Head, Input, Output, Replicate}
 use Rattle.reading.specs.declared.FormRead.{FormRead}
 use Rattle.reading.specs.declared.FormRead.the-variants as form-read
+use Rattle.reading.specs.declared.OwnFields.{OwnFields}
 use Rattle.reading.specs.declared.Place.{Place}
 use Rattle.reading.specs.declared.Refusal.{Refusal}
 use Rattle.reading.proofs.ProcessSteps.{process-deeper, process-falls, new-fits, input-fits}
@@ -38,9 +39,9 @@ module _ (s : List ℕ) (at n names : ℕ) (q : FormRead) (e : form q ≡ proces
     unfolding processGrown
     skip-group g f = sym (rw f at grown)
 
-    pub skip-head : (g : ℕ) → p .form ≡ Head g → at ≡ after
+    pub skip-head : (own : OwnFields) → p .form ≡ Head own → at ≡ after
     unfolding processGrown
-    skip-head g f = sym (rw f at grown)
+    skip-head own f = sym (rw f at grown)
 
     pub skip-par : (m r : ℕ) → p .form ≡ Par → m ≡ processTree (n - 1) s names (p .next) .next → r ≡ processTree (n - 1) s names m .next → r ≡ after
     unfolding processGrown beside under

@@ -12,9 +12,10 @@ use lib.Seq.{take-suc-set}
 use Rattle.reading.proofs.Parts.{parts, never, below-found}
 use Rattle.reading.proofs.TotalLaws.{system-total}
 use Rattle.reading.proofs.TreeLaws.{free-count}
+use Rattle.reading.specs.Dialects.{current}
 use Rattle.reading.specs.Read.{got, refused, andThen, below}
 use Rattle.reading.specs.Syntax.{Sheet}
-use Rattle.reading.specs.System.{freeTypes, header, readSheet}
+use Rattle.reading.specs.System.{freeTypesIn, freeTypes, headerIn, readSheet}
 use Rattle.reading.specs.Told.{number}
 use Rattle.reading.specs.Total.{systemTree}
 use Rattle.reading.specs.Types.{typeAt}
@@ -118,14 +119,14 @@ record FirstType (n : ℕ) (s : List ℕ) (ts : List ℕ) (end v next : ℕ) : T
 
 first-type : (n : ℕ) (s : List ℕ) (at : ℕ) (ts : List ℕ) (end v next : ℕ) → 0 < n → typeAt s at ≡ got v next → freeTypes n s at ≡ got ts end
     → FirstType n s ts end v next
-unfolding freeTypes andThen
+unfolding freeTypesIn andThen
 first-type zero s at ts end v next h e f = absurd (omega arith)
 first-type (suc n) s at ts end v next h e f =
     let p = parts (freeTypes n s next) (λ us m. got (v ∷ us) m) (rw e at f) in
     record { others = p .value; split = cc; left = rw (sub-one (suc n)) (p .first ∙ cc) }
 
 no-type : (n : ℕ) (s : List ℕ) (at : ℕ) (ts : List ℕ) (end q p : ℕ) {P : Type 0} → 0 < n → typeAt s at ≡ refused q p → freeTypes n s at ≡ got ts end → P
-unfolding freeTypes andThen
+unfolding freeTypesIn andThen
 no-type zero s at ts end q p h e f = absurd (omega arith)
 no-type (suc n) s at ts end q p h e f = never (rw e at f)
 
@@ -214,7 +215,7 @@ module _ (count : ℕ) (s : List ℕ) (at : ℕ) (types₀ cells₀ : List ℕ) 
 pub give-last : (count : ℕ) (s : List ℕ) (at : ℕ) (types₀ cells₀ : List ℕ) (next given : ℕ) (types cells : List ℕ) (z : Sizes)
     → Giving count s at types₀ cells₀ next given types cells z → count ≤ given
     → GivenTypes count s at types₀ types cells₀ cells (record { next = next; sizes = z })
-unfolding freeTypes
+unfolding freeTypesIn
 give-last count s at types₀ cells₀ next given types cells z o h = record {
   given = λ room c ts end all.
       let b = o .so-far room c ts end all in
@@ -229,22 +230,22 @@ give-last count s at types₀ cells₀ next given types cells z o h = record {
 -- The header.
 pub header-given : (s : List ℕ) (c : Number) (types types′ cells cells′ : List ℕ) (r : Made) → c ≡ freeCount s
     → GivenTypes (c .value) s (c .next) types types′ cells cells′ r → GivenFree s types types′ cells cells′ r
-unfolding freeCount orZero header
+unfolding freeCount orZero headerIn
 header-given s c types types′ cells cells′ r e g = record {
   given = λ room free at h.
       let p = parts (below 33 s 0) (λ n next. freeTypes n s next) h in
       let is : c ≡ record { value = p .value; next = p .place } = rw (p .first) at e in
-      let number : length free ≡ p .value = free-count (p .value) s (p .place) (p .rest) in
+      let number : length free ≡ p .value = free-count current (p .value) s (p .place) (p .rest) in
       let few : p .value ≤ 64 = omega (arith, below-found 33 s 0 (p .first)) in
       rw (← number) at ((rw is at g) .given room few free at (p .rest));
 }
 
 -- As many names are free as the header counts.
 free-counted : (s : List ℕ) (sheet : Sheet) → SheetParts s sheet → (freeCount s .value ≡ length (sheet .free)) × (length (sheet .free) ≤ 32)
-unfolding freeCount orZero header
+unfolding freeCount orZero headerIn
 free-counted s sheet h =
     let p = parts (below 33 s 0) (λ n next. freeTypes n s next) (h .free-types) in
-    let number : length (sheet .free) ≡ p .value = free-count (p .value) s (p .place) (p .rest) in
+    let number : length (sheet .free) ≡ p .value = free-count current (p .value) s (p .place) (p .rest) in
     (rw (p .first) (sym number), omega (arith, below-found 33 s 0 (p .first)))
 
 -- What the walk over the system makes of the sheet.

@@ -17,9 +17,11 @@ use Rattle.reading.specs.declared.Form.{Form}
 use Rattle.reading.specs.declared.Form.the-variants.{Nil, Par, Group, New, Component as Head, Input, Output, Replicate}
 use Rattle.reading.specs.declared.FormRead.{FormRead}
 use Rattle.reading.specs.declared.FormRead.the-variants as form-read
+use Rattle.reading.specs.declared.OwnFields.{OwnFields}
 use Rattle.reading.specs.declared.Place.{Place as Found}
 use Rattle.reading.specs.declared.Refusal.{Refusal}
 use Rattle.reading.proofs.TotalLaws.{system-nest, system-names, group-room, component-number, system-step, system-stop}
+use Rattle.inference.specs.Acts.{componentAt}
 use Rattle.running.specs.Products.{systemNews, systemThreads}
 use Rattle.memory.specs.Chains.{chain}
 use Rattle.memory.specs.declared.Thread.{Thread as Place}
@@ -64,8 +66,8 @@ module _ (s : List ℕ) (at n names : ℕ) (path : List ℕ) (components : ℕ) 
     pub new-fits : (u : ℕ) → f ≡ New u → names < 64
     new-fits u h = system-names s at n names path components (rw h at e)
 
-    pub head-fits : (g : ℕ) → f ≡ Head g → components < 32
-    head-fits g h = component-number s at n names path components (rw h at e)
+    pub head-fits : (own : OwnFields) → f ≡ Head own → components < 32
+    head-fits own h = component-number s at n names path components (rw h at e)
 
 pub no-form : (s : List ℕ) (t : Place) (path : List ℕ) (z : Sizes) (made types cells : List ℕ) (r : FormRead) (q : Refusal)
     → form r ≡ systemAt s (t .at) (t .nest) (t .names) path (t .component) → r ≡ form-read.Refused q → t .component ≤ 32 → Ready s t z made types cells
@@ -130,12 +132,12 @@ module _ (s : List ℕ) (t : Place) (path : List ℕ) (f : Form) (next : ℕ) (e
     unfolding systemGrown
     form-new u h m few = within _ (rw h at grown) (m few)
 
-    pub form-head : (g : ℕ) → f ≡ Head g
-        → ((k : ℕ) → Ready s inner z made types cells
-        → MakesSystem s inner (under (compₛ k) (processTree (t .nest - 1) s (t .names) next)) z made made′ types types′ cells cells′ r)
+    pub form-head : (own : OwnFields) → f ≡ Head own
+        → ((o : OwnFields) → Ready s inner z made types cells
+        → MakesSystem s inner (under (compₛ o) (processTree (t .nest - 1) s (t .names) next)) z made made′ types types′ cells cells′ r)
         → t .component ≤ 32 → Ready s t z made types cells → MakesSystem s t tree z made made′ types types′ cells cells′ r
     unfolding systemGrown
-    form-head g h m few = within _ (rw h at grown) (m g)
+    form-head own h m few = within _ (rw h at grown) (m own)
 
     under-group : (g : ℕ) (u : Grown System) → MakesSystem s inner u z made made′ types types′ cells cells′ r
         → MakesSystem s inner (under (groupₛ g) u) z made made′ types types′ cells cells′ r
@@ -161,10 +163,10 @@ module _ (s : List ℕ) (t : Place) (path : List ℕ) (f : Form) (next : ℕ) (e
 -- A component: its process.
 module _ (s : List ℕ) (t : Place) (tree : Grown Process) (z : Sizes) (made made′ types types′ cells cells′ : List ℕ) (r : Made) where
   pub component-made : t .component < 32 → (Ready s t z made types cells → Makes s t tree z made made′ types types′ cells cells′ r)
-      → (g : ℕ) → Ready s t z made types cells
-      → MakesSystem s t (under (compₛ g) tree) z made made′ types types′ cells cells′ (record { next = r .next; components = t .component + 1; sizes = r .sizes })
-  unfolding under components systemCrowd systemNews systemThreads
-  component-made h makes g ready =
+      → (own : OwnFields) → Ready s t z made types cells
+      → MakesSystem s t (under (compₛ own) tree) z made made′ types types′ cells cells′ (record { next = r .next; components = t .component + 1; sizes = r .sizes })
+  unfolding under components systemCrowd systemNews systemThreads componentAt
+  component-made h makes own ready =
       let m = makes ready in
       record {
         place = m .place;
@@ -172,7 +174,7 @@ module _ (s : List ℕ) (t : Place) (tree : Grown Process) (z : Sizes) (made mad
         few-components = omega arith;
         grows = m .grows;
         given = m .given;
-        products = λ few given path ts p. m .products few given (record { number = t .component; path = path ++ (g ∷ []) }) refl ts p;
+        products = λ few given path ts p. m .products few given (componentAt (t .component) path own) refl ts p;
       }
 
 -- One system after another.

@@ -33,7 +33,7 @@ systemCrowd nilₛ = 0
 systemCrowd (parₛ l r) = systemCrowd l + systemCrowd r
 systemCrowd (groupₛ g p) = systemCrowd p
 systemCrowd (newₛ t p) = systemCrowd p
-systemCrowd (compₛ g p) = crowd p
+systemCrowd (compₛ own p) = crowd p
 
 -- A name of a type is given: the sizes with it, and the tables. Where no name or cell is left, the names count as too many.
 unfoldable pub sizesGiven : Sizes → Sizes

@@ -1,10 +1,11 @@
 // What a system makes at once, in sheet order: what its components' processes make, and its own new names. The walk recurses over
 // nested forms, the permitted nesting falling at each call.
 ghost use mathlib.Core.Path.{_≡_};
-ghost use Prim.Native.Nat.{ℕ, _+_, _<_, _≤_};
+ghost use Prim.Native.Nat.{_+_, _<_, _≤_};
 ghost use Rattle.reading.specs.Read.{got};
 ghost use Rattle.reading.specs.Forms.{systemAt};
 ghost use Rattle.reading.specs.Syntax.{parₛ, newₛ, compₛ, components};
+ghost use Rattle.reading.specs.declared.OwnFields.{OwnFields};
 ghost use Rattle.reading.specs.Told.{pathOf};
 ghost use Rattle.reading.specs.Total.{under, beside, processTree, systemTree};
 ghost use Rattle.products.specs.Makes.{Ready, MakesSystem};
@@ -108,8 +109,8 @@ fn make_component(
     cells: &mut [usize],
 ) -> MadeSystem
     requires { ⌜ t .component < 32 ⌝ }
-    ensures { λ r. ⌜ ((g : ℕ) → Ready (now (s .entry)) t sizes (now (made .entry)) (now (types .entry)) (now (cells .entry))
-        → MakesSystem (now (s .entry)) t (under (compₛ g) (processTree (t .nest) (now (s .entry)) (t .names) (t .at))) sizes
+    ensures { λ r. ⌜ ((own : OwnFields) → Ready (now (s .entry)) t sizes (now (made .entry)) (now (types .entry)) (now (cells .entry))
+        → MakesSystem (now (s .entry)) t (under (compₛ own) (processTree (t .nest) (now (s .entry)) (t .names) (t .at))) sizes
         (now (made .entry)) (now (made .exit)) (now (types .entry)) (now (types .exit)) (now (cells .entry)) (now (cells .exit)) r) ⌝ }
 {
     let process = make_process(s, t, sizes, made, types, cells);

@@ -9,8 +9,9 @@ use lib.Dec.{ltb, eqb}
 use lib.ListN.{length}
 use Rattle.reading.proofs.Parts.{Every, of-found, every-then, every-cond, every-limited}
 use Rattle.reading.specs.Read.{got, byteAt}
-use Rattle.reading.specs.Types.{typeAt}
-use Rattle.reading.specs.Forms.{newForm, inputForm, outputForm, freshGroup, groupForm, componentForm, processForm, processAt, systemForm, systemAt}
+use Rattle.reading.specs.Types.{typeAtIn}
+use Rattle.reading.specs.Forms.{newFormIn, inputFormIn, outputForm, freshGroupIn, groupFormIn, componentFormIn, processFormIn, processAtIn, systemFormIn, systemAtIn}
+use Rattle.reading.specs.declared.Dialect.{Dialect}
 use Rattle.reading.specs.declared.Form.{Form}
 use Rattle.reading.specs.declared.Form.the-variants.{Nil, Par, Group, New, Component, Input, Output, Replicate}
 
@@ -24,7 +25,7 @@ FitsProcess nest names Nil = 0 < nest
 FitsProcess nest names Par = 0 < nest
 FitsProcess nest names (Group g) = ⊥
 FitsProcess nest names (New t) = (0 < nest) × (names < 64)
-FitsProcess nest names (Component g) = ⊥
+FitsProcess nest names (Component own) = ⊥
 FitsProcess nest names (Input a) = (0 < nest) × (names < 64)
 FitsProcess nest names (Output a) = 0 < nest
 FitsProcess nest names Replicate = 0 < nest
@@ -35,7 +36,7 @@ FitsSystem nest names long preceding Nil = 0 < nest
 FitsSystem nest names long preceding Par = 0 < nest
 FitsSystem nest names long preceding (Group g) = (0 < nest) × (long < 8)
 FitsSystem nest names long preceding (New t) = (0 < nest) × (names < 64)
-FitsSystem nest names long preceding (Component g) = (0 < nest) × (long < 8) × (preceding < 32)
+FitsSystem nest names long preceding (Component own) = (0 < nest) × (long < 8) × (preceding < 32)
 FitsSystem nest names long preceding (Input a) = ⊥
 FitsSystem nest names long preceding (Output a) = ⊥
 FitsSystem nest names long preceding Replicate = ⊥
@@ -43,14 +44,14 @@ FitsSystem nest names long preceding Replicate = ⊥
 both-below : (a b c d : ℕ) → (ltb a b && ltb c d) ≡ true → (a < b) × (c < d)
 both-below a b c d e = let h = both-true (ltb a b) (ltb c d) e in (ltb-true a b (h .0), ltb-true c d (h .1))
 
-module _ (s : List ℕ) (at nest names : ℕ) where
-  process-every : Every (FitsProcess nest names) (processAt s at nest names)
-  unfolding Every FitsProcess processAt processForm newForm inputForm outputForm
+module _ (d : Dialect) (s : List ℕ) (at nest names : ℕ) where
+  process-every : Every (FitsProcess nest names) (processAtIn d s at nest names)
+  unfolding Every FitsProcess processAtIn processFormIn newFormIn inputFormIn outputForm
   process-every = every-then P (byteAt s at) _ (λ code next _.
       every-cond P (eqb code 0) _ _ (every-limited P _ at _ (λ e. ltb-true 0 nest e))
       (every-cond P (eqb code 1) _ _ (every-limited P _ at _ (λ e. ltb-true 0 nest e))
-      (every-cond P (eqb code 3) _ _ (every-limited P _ at _ (λ e. every-then P (typeAt s next) _ (λ t m _. both-below 0 nest names 64 e)))
-      (every-cond P (eqb code 5) _ _ (every-limited P _ at _ (λ e. every-then P (byteAt s next) _ (λ x m _. every-then P (typeAt s m) _ (λ t k _. both-below 0 nest names 64 e))))
+      (every-cond P (eqb code 3) _ _ (every-limited P _ at _ (λ e. every-then P (typeAtIn d s next) _ (λ t m _. both-below 0 nest names 64 e)))
+      (every-cond P (eqb code 5) _ _ (every-limited P _ at _ (λ e. every-then P (byteAt s next) _ (λ x m _. every-then P (typeAtIn d s m) _ (λ t k _. both-below 0 nest names 64 e))))
       (every-cond P (eqb code 6) _ _ (every-limited P _ at _ (λ e. every-then P (byteAt s next) _ (λ x m _. every-then P (byteAt s m) _ (λ t k _. ltb-true 0 nest e))))
       (every-cond P (eqb code 7) _ _ (every-limited P _ at _ (λ e. ltb-true 0 nest e)) tt))))))
     where
@@ -58,24 +59,24 @@ module _ (s : List ℕ) (at nest names : ℕ) where
       P = FitsProcess nest names
 
   -- Nothing is read as a form of a process for which there is no room.
-  pub process-room : {f : Form} {next : ℕ} → processAt s at nest names ≡ got f next → FitsProcess nest names f
-  process-room e = of-found (FitsProcess nest names) (processAt s at nest names) process-every e
+  pub process-room : {f : Form} {next : ℕ} → processAtIn d s at nest names ≡ got f next → FitsProcess nest names f
+  process-room e = of-found (FitsProcess nest names) (processAtIn d s at nest names) process-every e
 
-module _ (s : List ℕ) (at nest names : ℕ) (path : List ℕ) (preceding : ℕ) where
+module _ (d : Dialect) (s : List ℕ) (at nest names : ℕ) (path : List ℕ) (preceding : ℕ) where
   fits : Form → Type 0
   fits = FitsSystem nest names (length path) preceding
 
-  group-every : (next : ℕ) → (0 < nest) × (length path < 8) → Every fits (groupForm s next path)
-  unfolding fits Every FitsSystem groupForm
-  group-every next h = every-then fits (freshGroup s next path) _ (λ g m _. h)
+  group-every : (next : ℕ) → (0 < nest) × (length path < 8) → Every fits (groupFormIn d s next path)
+  unfolding fits Every FitsSystem groupFormIn
+  group-every next h = every-then fits (freshGroupIn d s next path) _ (λ g m _. h)
 
-  component-every : (next : ℕ) → (0 < nest) × (length path < 8) × (preceding < 32) → Every fits (componentForm s next path)
-  unfolding fits Every FitsSystem componentForm
-  component-every next h = every-then fits (freshGroup s next path) _ (λ g m _. h)
+  component-every : (next : ℕ) → (0 < nest) × (length path < 8) × (preceding < 32) → Every fits (componentFormIn d s next path)
+  unfolding fits Every FitsSystem componentFormIn
+  component-every next h = every-then fits (freshGroupIn d s next path) _ (λ g m _. h)
 
-  new-every : (next : ℕ) → (0 < nest) × (names < 64) → Every fits (newForm s next)
-  unfolding fits Every FitsSystem newForm
-  new-every next h = every-then fits (typeAt s next) _ (λ t m _. h)
+  new-every : (next : ℕ) → (0 < nest) × (names < 64) → Every fits (newFormIn d s next)
+  unfolding fits Every FitsSystem newFormIn
+  new-every next h = every-then fits (typeAtIn d s next) _ (λ t m _. h)
 
   all-three : ((ltb 0 nest && ltb (length path) 8) && ltb preceding 32) ≡ true → (0 < nest) × (length path < 8) × (preceding < 32)
   all-three e =
@@ -83,8 +84,8 @@ module _ (s : List ℕ) (at nest names : ℕ) (path : List ℕ) (preceding : ℕ
       let g = both-below 0 nest (length path) 8 (h .0) in
       (g .0, g .1, ltb-true preceding 32 (h .1))
 
-  system-every : Every fits (systemAt s at nest names path preceding)
-  unfolding fits Every FitsSystem systemAt systemForm
+  system-every : Every fits (systemAtIn d s at nest names path preceding)
+  unfolding fits Every FitsSystem systemAtIn systemFormIn
   system-every = every-then fits (byteAt s at) _ (λ code next _.
       every-cond fits (eqb code 0) _ _ (every-limited fits _ at _ (λ e. ltb-true 0 nest e))
       (every-cond fits (eqb code 1) _ _ (every-limited fits _ at _ (λ e. ltb-true 0 nest e))
@@ -92,10 +93,10 @@ module _ (s : List ℕ) (at nest names : ℕ) (path : List ℕ) (preceding : ℕ
       (every-cond fits (eqb code 3) _ _ (every-limited fits _ at _ (λ e. new-every next (both-below 0 nest names 64 e)))
       (every-cond fits (eqb code 4) _ _ (every-limited fits _ at _ (λ e. component-every next (all-three e))) tt)))))
 
-  pub system-room : {f : Form} {next : ℕ} → systemAt s at nest names path preceding ≡ got f next
+  pub system-room : {f : Form} {next : ℕ} → systemAtIn d s at nest names path preceding ≡ got f next
       → FitsSystem nest names (length path) preceding f
   unfolding fits
-  system-room e = of-found fits (systemAt s at nest names path preceding) system-every e
+  system-room e = of-found fits (systemAtIn d s at nest names path preceding) system-every e
 
 pub process-level : (nest names : ℕ) (f : Form) → FitsProcess nest names f → 0 < nest
 unfolding FitsProcess
@@ -103,7 +104,7 @@ process-level nest names Nil h = h
 process-level nest names Par h = h
 process-level nest names (Group g) h = absurd h
 process-level nest names (New t) h = h .0
-process-level nest names (Component g) h = absurd h
+process-level nest names (Component own) h = absurd h
 process-level nest names (Input a) h = h .0
 process-level nest names (Output a) h = h
 process-level nest names Replicate h = h
@@ -114,7 +115,7 @@ system-level nest names long preceding Nil h = h
 system-level nest names long preceding Par h = h
 system-level nest names long preceding (Group g) h = h .0
 system-level nest names long preceding (New t) h = h .0
-system-level nest names long preceding (Component g) h = h .0
+system-level nest names long preceding (Component own) h = h .0
 system-level nest names long preceding (Input a) h = absurd h
 system-level nest names long preceding (Output a) h = absurd h
 system-level nest names long preceding Replicate h = absurd h

@@ -6,7 +6,8 @@ use mathlib.Core.Path.{_≡_}
 use borrow.Author.Tests.{ne-eqb}
 use Rattle.reading.proofs.Steps.{steps}
 use Rattle.reading.specs.Read.{Read, got, refused}
-use Rattle.reading.specs.Forms.{limited, newForm, inputForm, outputForm, groupForm, componentForm, processForm, systemForm}
+use Rattle.reading.specs.Forms.{limited, newFormIn, inputFormIn, outputForm, groupFormIn, componentFormIn, processFormIn, systemFormIn}
+use Rattle.reading.specs.declared.Dialect.{Dialect}
 use Rattle.reading.specs.declared.Form.{Form}
 use Rattle.reading.specs.declared.Form.the-variants.{Nil, Par, Replicate}
 
@@ -20,38 +21,38 @@ flag-false b m x z e h p = rw (← e, h) p
 pub ruleset flag-steps = (steps, flag-true, flag-false)
 
 -- Processes: `b` is the code's flag for a form that binds a name.
-module _ (s : List ℕ) (at next : ℕ) (level binder : Bool) (code : ℕ) where
+module _ (d : Dialect) (s : List ℕ) (at next : ℕ) (level binder : Bool) (code : ℕ) where
   abbrev pub process : Read Form
-  process = processForm s at next level binder code
+  process = processFormIn d s at next level binder code
 
   module _ {y : Read Form} where
     pub process-nil : code ≡ 0 → y ≡ limited level at (got Nil next) → y ≡ process
-    unfolding processForm
+    unfolding processFormIn
     process-nil e h = rw e h
 
     pub process-par : code ≡ 1 → y ≡ limited level at (got Par next) → y ≡ process
-    unfolding processForm
+    unfolding processFormIn
     process-par e h = rw e h
 
-    pub process-new : (b : Bool) → code ≡ 3 → b ≡ binder → y ≡ limited b at (newForm s next) → y ≡ process
-    unfolding processForm
+    pub process-new : (b : Bool) → code ≡ 3 → b ≡ binder → y ≡ limited b at (newFormIn d s next) → y ≡ process
+    unfolding processFormIn
     process-new b e f h = rw (e, ← f) h
 
-    pub process-input : (b : Bool) → code ≡ 5 → b ≡ binder → y ≡ limited b at (inputForm s next) → y ≡ process
-    unfolding processForm
+    pub process-input : (b : Bool) → code ≡ 5 → b ≡ binder → y ≡ limited b at (inputFormIn d s next) → y ≡ process
+    unfolding processFormIn
     process-input b e f h = rw (e, ← f) h
 
     pub process-output : code ≡ 6 → y ≡ limited level at (outputForm s next) → y ≡ process
-    unfolding processForm
+    unfolding processFormIn
     process-output e h = rw e h
 
     pub process-replicate : code ≡ 7 → y ≡ limited level at (got Replicate next) → y ≡ process
-    unfolding processForm
+    unfolding processFormIn
     process-replicate e h = rw e h
 
     pub process-other : (code ≡ 0 → ⊥) → (code ≡ 1 → ⊥) → (code ≡ 3 → ⊥) → (code ≡ 5 → ⊥) → (code ≡ 6 → ⊥) → (code ≡ 7 → ⊥)
         → y ≡ refused 4 at → y ≡ process
-    unfolding processForm
+    unfolding processFormIn
     process-other a b c d e f h = rw (ne-eqb code 0 a, ne-eqb code 1 b, ne-eqb code 3 c, ne-eqb code 5 d, ne-eqb code 6 e, ne-eqb code 7 f) h
 
 pub ruleset process-forms = (
@@ -65,37 +66,37 @@ pub ruleset process-forms = (
   process-other,
 )
 
--- Systems: `b` is the code's flag for a form that binds a name, `r` and `d` those for room in the path, `a` that for a component.
-module _ (s : List ℕ) (at next : ℕ) (path : List ℕ) (level binder room more : Bool) (code : ℕ) where
+-- Systems: `b` is the code's flag for a form that binds a name, `r` and `o` those for room in the path, `a` that for a component.
+module _ (d : Dialect) (s : List ℕ) (at next : ℕ) (path : List ℕ) (level binder room more : Bool) (code : ℕ) where
   abbrev pub system : Read Form
-  system = systemForm s at next path level binder (level && room) ((level && room) && more) code
+  system = systemFormIn d s at next path level binder (level && room) ((level && room) && more) code
 
   module _ {y : Read Form} where
     pub system-nil : code ≡ 0 → y ≡ limited level at (got Nil next) → y ≡ system
-    unfolding systemForm
+    unfolding systemFormIn
     system-nil e h = rw e h
 
     pub system-par : code ≡ 1 → y ≡ limited level at (got Par next) → y ≡ system
-    unfolding systemForm
+    unfolding systemFormIn
     system-par e h = rw e h
 
-    pub system-group : (r d : Bool) → code ≡ 2 → r ≡ room → d ≡ (level && r) → y ≡ limited d at (groupForm s next path)
+    pub system-group : (r o : Bool) → code ≡ 2 → r ≡ room → o ≡ (level && r) → y ≡ limited o at (groupFormIn d s next path)
         → y ≡ system
-    unfolding systemForm
-    system-group r d e f g h = rw (e, ← f, ← g) h
+    unfolding systemFormIn
+    system-group r o e f g h = rw (e, ← f, ← g) h
 
-    pub system-new : (b : Bool) → code ≡ 3 → b ≡ binder → y ≡ limited b at (newForm s next) → y ≡ system
-    unfolding systemForm
+    pub system-new : (b : Bool) → code ≡ 3 → b ≡ binder → y ≡ limited b at (newFormIn d s next) → y ≡ system
+    unfolding systemFormIn
     system-new b e f h = rw (e, ← f) h
 
-    pub system-component : (r d a : Bool) → code ≡ 4 → r ≡ room → d ≡ (level && r) → a ≡ (d && more)
-        → y ≡ limited a at (componentForm s next path) → y ≡ system
-    unfolding systemForm
-    system-component r d a e f g i h = rw (e, ← f, ← g, ← i) h
+    pub system-component : (r o a : Bool) → code ≡ 4 → r ≡ room → o ≡ (level && r) → a ≡ (o && more)
+        → y ≡ limited a at (componentFormIn d s next path) → y ≡ system
+    unfolding systemFormIn
+    system-component r o a e f g i h = rw (e, ← f, ← g, ← i) h
 
     pub system-other : (code ≡ 0 → ⊥) → (code ≡ 1 → ⊥) → (code ≡ 2 → ⊥) → (code ≡ 3 → ⊥) → (code ≡ 4 → ⊥) → y ≡ refused 4 at
         → y ≡ system
-    unfolding systemForm
+    unfolding systemFormIn
     system-other a b c d e h = rw (ne-eqb code 0 a, ne-eqb code 1 b, ne-eqb code 2 c, ne-eqb code 3 d, ne-eqb code 4 e) h
 
 pub ruleset system-forms = (steps, system-nil, system-par, system-group, system-new, system-component, system-other)

@@ -11,6 +11,7 @@ pub mod TreeLaws
 pub mod ProcessSteps
 pub mod SystemSteps
 pub mod SheetSteps
+pub mod CurrentSteps
 pub mod Local
 pub mod ReadLaws
 pub mod TotalLaws

@@ -12,9 +12,10 @@ use Rattle.reading.proofs.TreeLaws.{process-step, process-stop}
 use Rattle.reading.proofs.Parts.{never}
 use Rattle.reading.specs.Read.{Read, got, refused, andThen}
 use Rattle.reading.specs.Syntax.{Process, par, new, input, output, repl}
-use Rattle.reading.specs.Forms.{processAt}
-use Rattle.reading.specs.System.{processFrom, readProcess}
+use Rattle.reading.specs.Forms.{processAtIn}
+use Rattle.reading.specs.System.{processFrom, readProcessIn}
 use Rattle.reading.specs.Told.{form, ending, ended, whyOf}
+use Rattle.reading.specs.declared.Dialect.{Dialect}
 use Rattle.reading.specs.declared.Act.{Act}
 use Rattle.reading.specs.declared.End.{End}
 use Rattle.reading.specs.declared.End.the-variants as end
@@ -22,6 +23,7 @@ use Rattle.reading.specs.declared.Form.{Form}
 use Rattle.reading.specs.declared.Form.the-variants.{Nil, Par, Group, New, Component, Input, Output, Replicate}
 use Rattle.reading.specs.declared.FormRead.{FormRead}
 use Rattle.reading.specs.declared.FormRead.the-variants as form-read
+use Rattle.reading.specs.declared.OwnFields.{OwnFields}
 use Rattle.reading.specs.declared.Place.{Place}
 use Rattle.reading.specs.declared.Refusal.{Refusal}
 
@@ -67,9 +69,9 @@ module _ (read : ℕ → ℕ → Read Process) (at names : ℕ) (f : Form) (next
   unfolding processFrom ended
   at-group g e h = rw e h
 
-  pub at-component : (g : ℕ) → f ≡ Component g → y ≡ refused 4 at → y ≡ ended (processFrom read at names f next)
+  pub at-component : (own : OwnFields) → f ≡ Component own → y ≡ refused 4 at → y ≡ ended (processFrom read at names f next)
   unfolding processFrom ended
-  at-component g e h = rw e h
+  at-component own e h = rw e h
 
 -- A parallel form whose left part is refused.
 pub at-par-left : (read : ℕ → ℕ → Read Process) (at names : ℕ) (f : Form) (next : ℕ) (l : End) (q : Refusal)
@@ -83,34 +85,34 @@ at-par-left read at names f next l q e i h = rw (e, i) (go (read names next) (rw
     go (refused q p) h = h
 
 -- What the code knows of the form at a place.
-module _ (nest : ℕ) (s : List ℕ) (names at : ℕ) (r : FormRead) where
-  pub process-refused : (q w : Refusal) → r ≡ form-read.Refused q → form r ≡ processAt s at nest names → w ≡ whyOf r
-      → refused (w .question) (w .at) ≡ ended (readProcess nest s names at)
+module _ (d : Dialect) (nest : ℕ) (s : List ℕ) (names at : ℕ) (r : FormRead) where
+  pub process-refused : (q w : Refusal) → r ≡ form-read.Refused q → form r ≡ processAtIn d s at nest names → w ≡ whyOf r
+      → refused (w .question) (w .at) ≡ ended (readProcessIn d nest s names at)
   unfolding ended
-  process-refused q w f e h = rw (process-stop nest s names at {q = q .question} {p = q .at} (rw f at (sym e)), h, f)
+  process-refused q w f e h = rw (process-stop d nest s names at {q = q .question} {p = q .at} (rw f at (sym e)), h, f)
 
-  module _ (p : Place) (f : r ≡ form-read.Found p) (e : form r ≡ processAt s at nest names) where
-    found : processAt s at nest names ≡ got (p .form) (p .next)
+  module _ (p : Place) (f : r ≡ form-read.Found p) (e : form r ≡ processAtIn d s at nest names) where
+    found : processAtIn d s at nest names ≡ got (p .form) (p .next)
     found = rw f at (sym e)
 
     pub process-found : {y : Read (Unit {0})}
-        → y ≡ ended (processFrom (λ ns m. readProcess (nest - 1) s ns m) at names (p .form) (p .next))
-        → y ≡ ended (readProcess nest s names at)
-    process-found h = rw (process-step nest s names at found) h
+        → y ≡ ended (processFrom (λ ns m. readProcessIn d (nest - 1) s ns m) at names (p .form) (p .next))
+        → y ≡ ended (readProcessIn d nest s names at)
+    process-found h = rw (process-step d nest s names at found) h
 
     pub process-deeper : 1 ≤ nest
-    process-deeper = process-level nest names (p .form) (process-room s at nest names found)
+    process-deeper = process-level nest names (p .form) (process-room d s at nest names found)
 
     pub process-falls : (t : ℕ) → nest ≡ t → nest - 1 < t
     process-falls t h = omega (arith, process-deeper)
 
     pub new-fits : (t : ℕ) → p .form ≡ New t → Fits w64 (names + 1)
     unfolding FitsProcess
-    new-fits t h = let k = rw h at (process-room s at nest names found) in record { fits = omega arith }
+    new-fits t h = let k = rw h at (process-room d s at nest names found) in record { fits = omega arith }
 
     pub input-fits : (a : Act) → p .form ≡ Input a → Fits w64 (names + 1)
     unfolding FitsProcess
-    input-fits a h = let k = rw h at (process-room s at nest names found) in record { fits = omega arith }
+    input-fits a h = let k = rw h at (process-room d s at nest names found) in record { fits = omega arith }
 
 pub ruleset process-steps = (
   needs,

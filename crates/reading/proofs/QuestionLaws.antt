@@ -7,11 +7,13 @@ use mathlib.Core.Path.{_≡_}
 use native.Mathlib.Omega.{arith}
 use lib.Dec.{ltb, leb, eqb}
 use lib.ListN.{length}
+use Rattle.reading.specs.Dialects.{current}
 use Rattle.reading.specs.Read.{Read, got, refused, andThen, byteAt, below}
-use Rattle.reading.specs.Types.{channel, groupsThenKind, typeAt}
+use Rattle.reading.specs.Types.{channel, groupsThenKindIn, typeAtIn}
 use Rattle.reading.specs.Syntax.{Process, System, components}
-use Rattle.reading.specs.Forms.{member, limited, newForm, inputForm, outputForm, freshGroup, groupForm, componentForm, processForm, processAt, systemForm, systemAt}
-use Rattle.reading.specs.System.{processFrom, readProcess, component, systemFrom, readSystem, freeTypes, header, toItsEnd, readSheet, sheetOf}
+use Rattle.reading.specs.Forms.{member, limited, newFormIn, inputFormIn, outputForm, freshGroupIn, groupFormIn, componentFormIn, processFormIn, processAtIn, systemFormIn, systemAtIn}
+use Rattle.reading.specs.System.{processFrom, readProcessIn, component, systemFrom, readSystemIn, freeTypesIn, headerIn, toItsEnd, readSheetIn, sheetOfIn, sheetOf}
+use Rattle.reading.specs.declared.Dialect.{Dialect}
 use Rattle.reading.specs.declared.Form.{Form}
 use Rattle.reading.specs.declared.Form.the-variants.{Nil, Par, Group, New, Component, Input, Output, Replicate}
 
@@ -56,63 +58,63 @@ asks-below : (n : ℕ) (s : List ℕ) (at : ℕ) → Asks (below n s at)
 unfolding below
 asks-below n s at = asks-then _ (asks-byte s at) (λ b k. asks-cond (ltb b n) asks-got (asks-early 4 at (omega arith) (omega arith)))
 
-asks-groups : (n : ℕ) (s : List ℕ) (at : ℕ) → Asks (groupsThenKind n s at)
-unfolding groupsThenKind
-asks-groups zero s at = asks-below 16 s at
-asks-groups (suc n) s at = asks-then _ (asks-below 64 s at) (λ g k. asks-map (channel g) (asks-groups n s k))
+asks-groups : (d : Dialect) (n : ℕ) (s : List ℕ) (at : ℕ) → Asks (groupsThenKindIn d n s at)
+unfolding groupsThenKindIn
+asks-groups d zero s at = asks-below (d .kinds) s at
+asks-groups d (suc n) s at = asks-then _ (asks-below (d .groups) s at) (λ g k. asks-map (channel g) (asks-groups d n s k))
 
-asks-type : (s : List ℕ) (at : ℕ) → Asks (typeAt s at)
-unfolding typeAt
-asks-type s at = asks-then _ (asks-below 5 s at) (λ n k. asks-groups n s k)
+asks-type : (d : Dialect) (s : List ℕ) (at : ℕ) → Asks (typeAtIn d s at)
+unfolding typeAtIn
+asks-type d s at = asks-then _ (asks-below 5 s at) (λ n k. asks-groups d n s k)
 
 -- Forms.
-asks-new : (s : List ℕ) (at : ℕ) → Asks (newForm s at)
-unfolding newForm
-asks-new s at = asks-map (λ t. New t) (asks-type s at)
+asks-new : (d : Dialect) (s : List ℕ) (at : ℕ) → Asks (newFormIn d s at)
+unfolding newFormIn
+asks-new d s at = asks-map (λ t. New t) (asks-type d s at)
 
-asks-input : (s : List ℕ) (at : ℕ) → Asks (inputForm s at)
-unfolding inputForm
-asks-input s at = asks-then _ (asks-byte s at) (λ x k. asks-map (λ t. Input (record { channel = x; object = t })) (asks-type s k))
+asks-input : (d : Dialect) (s : List ℕ) (at : ℕ) → Asks (inputFormIn d s at)
+unfolding inputFormIn
+asks-input d s at = asks-then _ (asks-byte s at) (λ x k. asks-map (λ t. Input (record { channel = x; object = t })) (asks-type d s k))
 
 asks-output : (s : List ℕ) (at : ℕ) → Asks (outputForm s at)
 unfolding outputForm
 asks-output s at = asks-then _ (asks-byte s at) (λ x k. asks-map (λ y. Output (record { channel = x; object = y })) (asks-byte s k))
 
-asks-fresh : (s : List ℕ) (at : ℕ) (path : List ℕ) → Asks (freshGroup s at path)
-unfolding freshGroup
-asks-fresh s at path =
-    asks-then _ (asks-below 64 s at) (λ g k. asks-cond (member g path) (asks-early 6 at (omega arith) (omega arith)) asks-got)
+asks-fresh : (d : Dialect) (s : List ℕ) (at : ℕ) (path : List ℕ) → Asks (freshGroupIn d s at path)
+unfolding freshGroupIn
+asks-fresh d s at path =
+    asks-then _ (asks-below (d .groups) s at) (λ g k. asks-cond (member g path) (asks-early 6 at (omega arith) (omega arith)) asks-got)
 
-asks-process-form : (s : List ℕ) (at next : ℕ) (level binder : Bool) (code : ℕ) → Asks (processForm s at next level binder code)
-unfolding processForm
-asks-process-form s at next level binder code =
+asks-process-form : (d : Dialect) (s : List ℕ) (at next : ℕ) (level binder : Bool) (code : ℕ) → Asks (processFormIn d s at next level binder code)
+unfolding processFormIn
+asks-process-form d s at next level binder code =
     asks-cond (eqb code 0) (asks-limited level at asks-got)
     (asks-cond (eqb code 1) (asks-limited level at asks-got)
-    (asks-cond (eqb code 3) (asks-limited binder at (asks-new s next))
-    (asks-cond (eqb code 5) (asks-limited binder at (asks-input s next))
+    (asks-cond (eqb code 3) (asks-limited binder at (asks-new d s next))
+    (asks-cond (eqb code 5) (asks-limited binder at (asks-input d s next))
     (asks-cond (eqb code 6) (asks-limited level at (asks-output s next))
     (asks-cond (eqb code 7) (asks-limited level at asks-got)
     (asks-early 4 at (omega arith) (omega arith)))))))
 
-asks-process-at : (s : List ℕ) (at nest names : ℕ) → Asks (processAt s at nest names)
-unfolding processAt
-asks-process-at s at nest names =
-    asks-then _ (asks-byte s at) (λ code next. asks-process-form s at next (ltb 0 nest) (ltb 0 nest && ltb names 64) code)
+asks-process-at : (d : Dialect) (s : List ℕ) (at nest names : ℕ) → Asks (processAtIn d s at nest names)
+unfolding processAtIn
+asks-process-at d s at nest names =
+    asks-then _ (asks-byte s at) (λ code next. asks-process-form d s at next (ltb 0 nest) (ltb 0 nest && ltb names 64) code)
 
-asks-system-form : (s : List ℕ) (at next : ℕ) (path : List ℕ) (level binder deeper another : Bool) (code : ℕ)
-    → Asks (systemForm s at next path level binder deeper another code)
-unfolding systemForm groupForm componentForm
-asks-system-form s at next path level binder deeper another code =
+asks-system-form : (d : Dialect) (s : List ℕ) (at next : ℕ) (path : List ℕ) (level binder deeper another : Bool) (code : ℕ)
+    → Asks (systemFormIn d s at next path level binder deeper another code)
+unfolding systemFormIn groupFormIn componentFormIn
+asks-system-form d s at next path level binder deeper another code =
     asks-cond (eqb code 0) (asks-limited level at asks-got)
     (asks-cond (eqb code 1) (asks-limited level at asks-got)
-    (asks-cond (eqb code 2) (asks-limited deeper at (asks-map (λ g. Group g) (asks-fresh s next path)))
-    (asks-cond (eqb code 3) (asks-limited binder at (asks-new s next))
-    (asks-cond (eqb code 4) (asks-limited another at (asks-map (λ g. Component g) (asks-fresh s next path)))
+    (asks-cond (eqb code 2) (asks-limited deeper at (asks-map (λ g. Group g) (asks-fresh d s next path)))
+    (asks-cond (eqb code 3) (asks-limited binder at (asks-new d s next))
+    (asks-cond (eqb code 4) (asks-limited another at (asks-map (λ g. Component (record { group = g })) (asks-fresh d s next path)))
     (asks-early 4 at (omega arith) (omega arith))))))
 
-asks-system-at : (s : List ℕ) (at nest names : ℕ) (path : List ℕ) (preceding : ℕ) → Asks (systemAt s at nest names path preceding)
-unfolding systemAt
-asks-system-at s at nest names path preceding = asks-then _ (asks-byte s at) (λ code next. asks-system-form s at next path _ _ _ _ code)
+asks-system-at : (d : Dialect) (s : List ℕ) (at nest names : ℕ) (path : List ℕ) (preceding : ℕ) → Asks (systemAtIn d s at nest names path preceding)
+unfolding systemAtIn
+asks-system-at d s at nest names path preceding = asks-then _ (asks-byte s at) (λ code next. asks-system-form d s at next path _ _ _ _ code)
 
 -- Processes.
 asks-process-from : (read : ℕ → ℕ → Read Process) → ((names at : ℕ) → Asks (read names at)) → (at names : ℕ) (f : Form) (next : ℕ)
@@ -125,14 +127,14 @@ asks-process-from read h at names (Input a) next = asks-map _ (h (names + 1) nex
 asks-process-from read h at names (Output a) next = asks-map _ (h names next)
 asks-process-from read h at names Replicate next = asks-map _ (h names next)
 asks-process-from read h at names (Group g) next = asks-early 4 at (omega arith) (omega arith)
-asks-process-from read h at names (Component g) next = asks-early 4 at (omega arith) (omega arith)
+asks-process-from read h at names (Component own) next = asks-early 4 at (omega arith) (omega arith)
 
-asks-process : (nest : ℕ) (s : List ℕ) (names at : ℕ) → Asks (readProcess nest s names at)
-unfolding readProcess
-asks-process zero s names at = asks-then _ (asks-process-at s at 0 names) (λ f k. asks-early 5 at (omega arith) (omega arith))
-asks-process (suc n) s names at =
-    asks-then _ (asks-process-at s at (suc n) names) (λ f next.
-    asks-process-from (λ ns m. readProcess n s ns m) (λ ns m. asks-process n s ns m) at names f next)
+asks-process : (d : Dialect) (nest : ℕ) (s : List ℕ) (names at : ℕ) → Asks (readProcessIn d nest s names at)
+unfolding readProcessIn
+asks-process d zero s names at = asks-then _ (asks-process-at d s at 0 names) (λ f k. asks-early 5 at (omega arith) (omega arith))
+asks-process d (suc n) s names at =
+    asks-then _ (asks-process-at d s at (suc n) names) (λ f next.
+    asks-process-from (λ ns m. readProcessIn d n s ns m) (λ ns m. asks-process d n s ns m) at names f next)
 
 -- Systems.
 asks-system-from : (read : ℕ → List ℕ → ℕ → ℕ → Read System) → ((names : ℕ) (path : List ℕ) (preceding at : ℕ) → Asks (read names path preceding at))
@@ -144,46 +146,49 @@ asks-system-from read h process i at names path preceding Par next =
     asks-then _ (h names path preceding next) (λ l m. asks-map _ (h names path (preceding + components l) m))
 asks-system-from read h process i at names path preceding (Group g) next = asks-map _ (h names (path ++ (g ∷ [])) preceding next)
 asks-system-from read h process i at names path preceding (New t) next = asks-map _ (h (names + 1) path preceding next)
-asks-system-from read h process i at names path preceding (Component g) next = asks-map _ (i next)
+asks-system-from read h process i at names path preceding (Component own) next = asks-map _ (i next)
 asks-system-from read h process i at names path preceding (Input a) next = asks-early 4 at (omega arith) (omega arith)
 asks-system-from read h process i at names path preceding (Output a) next = asks-early 4 at (omega arith) (omega arith)
 asks-system-from read h process i at names path preceding Replicate next = asks-early 4 at (omega arith) (omega arith)
 
-asks-system : (nest : ℕ) (s : List ℕ) (names : ℕ) (path : List ℕ) (preceding at : ℕ) → Asks (readSystem nest s names path preceding at)
-unfolding readSystem
-asks-system zero s names path preceding at =
-    asks-then _ (asks-system-at s at 0 names path preceding) (λ f k. asks-early 5 at (omega arith) (omega arith))
-asks-system (suc n) s names path preceding at =
-    asks-then _ (asks-system-at s at (suc n) names path preceding) (λ f next.
-    asks-system-from (λ ns p k m. readSystem n s ns p k m) (λ ns p k m. asks-system n s ns p k m)
-    (λ m. readProcess n s names m) (λ m. asks-process n s names m) at names path preceding f next)
+asks-system : (d : Dialect) (nest : ℕ) (s : List ℕ) (names : ℕ) (path : List ℕ) (preceding at : ℕ) → Asks (readSystemIn d nest s names path preceding at)
+unfolding readSystemIn
+asks-system d zero s names path preceding at =
+    asks-then _ (asks-system-at d s at 0 names path preceding) (λ f k. asks-early 5 at (omega arith) (omega arith))
+asks-system d (suc n) s names path preceding at =
+    asks-then _ (asks-system-at d s at (suc n) names path preceding) (λ f next.
+    asks-system-from (λ ns p k m. readSystemIn d n s ns p k m) (λ ns p k m. asks-system d n s ns p k m)
+    (λ m. readProcessIn d n s names m) (λ m. asks-process d n s names m) at names path preceding f next)
 
 -- Sheets.
-asks-types : (n : ℕ) (s : List ℕ) (at : ℕ) → Asks (freeTypes n s at)
-unfolding freeTypes
-asks-types zero s at = asks-got
-asks-types (suc n) s at = asks-then _ (asks-type s at) (λ t k. asks-map (λ ts. t ∷ ts) (asks-types n s k))
+asks-types : (d : Dialect) (n : ℕ) (s : List ℕ) (at : ℕ) → Asks (freeTypesIn d n s at)
+unfolding freeTypesIn
+asks-types d zero s at = asks-got
+asks-types d (suc n) s at = asks-then _ (asks-type d s at) (λ t k. asks-map (λ ts. t ∷ ts) (asks-types d n s k))
 
-asks-header : (s : List ℕ) → Asks (header s)
-unfolding header
-asks-header s = asks-then _ (asks-below 33 s 0) (λ n k. asks-types n s k)
+asks-header : (d : Dialect) (s : List ℕ) → Asks (headerIn d s)
+unfolding headerIn
+asks-header d s = asks-then _ (asks-below 33 s 0) (λ n k. asks-types d n s k)
 
-asks-sheet : (s : List ℕ) → Asks (readSheet s)
-unfolding readSheet toItsEnd
-asks-sheet s =
-    asks-then _ (asks-header s) (λ free at.
-    asks-then _ (asks-system 64 s (length free) [] 0 at) (λ system next.
+asks-sheet : (d : Dialect) (s : List ℕ) → Asks (readSheetIn d s)
+unfolding readSheetIn toItsEnd
+asks-sheet d s =
+    asks-then _ (asks-header d s) (λ free at.
+    asks-then _ (asks-system d 64 s (length free) [] 0 at) (λ system next.
     asks-cond (eqb next (length s)) asks-got (asks-early 3 next (omega arith) (omega arith))))
 
-asks-sheet-of : (s charter : List ℕ) → Asks (sheetOf s charter)
-unfolding sheetOf
-asks-sheet-of s charter =
-    asks-cond (leb (length s) 4096 && leb (length charter) 4096) (asks-sheet s) (asks-early 1 4096 (omega arith) (omega arith))
+asks-sheet-of : (d : Dialect) (s charter : List ℕ) → Asks (sheetOfIn d s charter)
+unfolding sheetOfIn
+asks-sheet-of d s charter =
+    asks-cond (leb (length s) 4096 && leb (length charter) 4096) (asks-sheet d s) (asks-early 1 4096 (omega arith) (omega arith))
 
 early : {A : Type 0} {r : Read A} {q p : ℕ} → Asks r → r ≡ refused q p → Early q
 early asks-got e = let z : _≡_ {A = ℕ} 0 1 = cc in absurd (omega arith)
 early {q = q} (asks-refused {q = m} h) e = let i : m ≡ q = cc in rw i at h
 
 -- A sheet that does not read fails one of questions 1 to 6.
+pub sheet-question-in : (d : Dialect) (s charter : List ℕ) {q p : ℕ} → sheetOfIn d s charter ≡ refused q p → Early q
+sheet-question-in d s charter e = early (asks-sheet-of d s charter) e
+
 pub sheet-question : (s charter : List ℕ) {q p : ℕ} → sheetOf s charter ≡ refused q p → Early q
-sheet-question s charter e = early (asks-sheet-of s charter) e
+sheet-question s charter e = sheet-question-in current s charter e

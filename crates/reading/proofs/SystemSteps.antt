@@ -17,9 +17,10 @@ use Rattle.reading.proofs.Parts.{never}
 use Rattle.reading.proofs.TreeLaws.{system-step, system-stop}
 use Rattle.reading.specs.Read.{Read, got, refused, andThen}
 use Rattle.reading.specs.Syntax.{Process, System, parₛ, groupₛ, newₛ, components}
-use Rattle.reading.specs.Forms.{systemAt}
-use Rattle.reading.specs.System.{component, systemFrom, readProcess, readSystem}
+use Rattle.reading.specs.Forms.{systemAtIn}
+use Rattle.reading.specs.System.{component, systemFrom, readProcessIn, readSystemIn}
 use Rattle.reading.specs.Told.{whyNone, number, form, ending, ended, counted, whyOf}
+use Rattle.reading.specs.declared.Dialect.{Dialect}
 use Rattle.reading.specs.declared.Act.{Act}
 use Rattle.reading.specs.declared.End.{End}
 use Rattle.reading.specs.declared.End.the-variants as end
@@ -27,6 +28,7 @@ use Rattle.reading.specs.declared.Form.{Form}
 use Rattle.reading.specs.declared.Form.the-variants.{Nil, Par, Group, New, Component, Input, Output, Replicate}
 use Rattle.reading.specs.declared.FormRead.{FormRead}
 use Rattle.reading.specs.declared.FormRead.the-variants as form-read
+use Rattle.reading.specs.declared.OwnFields.{OwnFields}
 use Rattle.reading.specs.declared.Number.{Number}
 use Rattle.reading.specs.declared.NumberRead.{NumberRead}
 use Rattle.reading.specs.declared.NumberRead.the-variants as number-read
@@ -78,9 +80,9 @@ module _ (read : ℕ → List ℕ → ℕ → ℕ → Read System) (process : �
     unfolding systemFrom components
     at-group g q e i h = rw (e, ← i, counted-map preceding (read names q preceding next) (λ p. groupₛ g p) (λ p. refl)) h
 
-    pub at-component : (g : ℕ) → f ≡ Component g → ((h : ℕ) → y ≡ counted preceding (component h (process next))) → y ≡ told
+    pub at-component : (own : OwnFields) → f ≡ Component own → ((o : OwnFields) → y ≡ counted preceding (component o (process next))) → y ≡ told
     unfolding systemFrom
-    at-component g e h = rw e (h g)
+    at-component own e h = rw e (h own)
 
     pub at-input : (a : Act) → f ≡ Input a → y ≡ refused 4 at → y ≡ told
     unfolding systemFrom counted
@@ -106,17 +108,17 @@ module _ (read : ℕ → List ℕ → ℕ → ℕ → Read System) (process : �
       go (refused a b) h = h
 
 -- A component's process, read or not.
-pub component-ends : (preceding g : ℕ) (x : Read Process) (e : End) (m : ℕ) → e ≡ end.At m → ending e ≡ ended x
-    → got (preceding + 1) m ≡ counted preceding (component g x)
+pub component-ends : (preceding : ℕ) (own : OwnFields) (x : Read Process) (e : End) (m : ℕ) → e ≡ end.At m → ending e ≡ ended x
+    → got (preceding + 1) m ≡ counted preceding (component own x)
 unfolding component counted andThen ended components
-component-ends preceding g (got p k) e m i h = let z : m ≡ k = cc in rw z
-component-ends preceding g (refused a b) e m i h = never (sym (rw i at h))
+component-ends preceding own (got p k) e m i h = let z : m ≡ k = cc in rw z
+component-ends preceding own (refused a b) e m i h = never (sym (rw i at h))
 
-pub component-stops : (preceding g : ℕ) (x : Read Process) (e : End) (q w : Refusal) → e ≡ end.Refused q → w ≡ whyNone e → ending e ≡ ended x
-    → refused (w .question) (w .at) ≡ counted preceding (component g x)
+pub component-stops : (preceding : ℕ) (own : OwnFields) (x : Read Process) (e : End) (q w : Refusal) → e ≡ end.Refused q → w ≡ whyNone e → ending e ≡ ended x
+    → refused (w .question) (w .at) ≡ counted preceding (component own x)
 unfolding component counted andThen ended
-component-stops preceding g (got p k) e q w i o h = never (rw i at h)
-component-stops preceding g (refused a b) e q w i o h =
+component-stops preceding own (got p k) e q w i o h = never (rw i at h)
+component-stops preceding own (refused a b) e q w i o h =
     let k = rw i at h in
     let v : q .question ≡ a = cc in
     let u : q .at ≡ b = cc in
@@ -126,40 +128,40 @@ component-stops preceding g (refused a b) e q w i o h =
 pub ruleset component-steps = (needs, component-ends, component-stops)
 
 -- What the code knows of the form at a place.
-module _ (nest : ℕ) (s : List ℕ) (names : ℕ) (path : List ℕ) (preceding at : ℕ) (r : FormRead) where
-  pub system-refused : (q w : Refusal) → r ≡ form-read.Refused q → form r ≡ systemAt s at nest names path preceding
+module _ (d : Dialect) (nest : ℕ) (s : List ℕ) (names : ℕ) (path : List ℕ) (preceding at : ℕ) (r : FormRead) where
+  pub system-refused : (q w : Refusal) → r ≡ form-read.Refused q → form r ≡ systemAtIn d s at nest names path preceding
       → w ≡ whyOf r
-      → refused (w .question) (w .at) ≡ counted preceding (readSystem nest s names path preceding at)
+      → refused (w .question) (w .at) ≡ counted preceding (readSystemIn d nest s names path preceding at)
   unfolding counted
-  system-refused q w f e h = rw (system-stop nest s names path preceding at {q = q .question} {p = q .at} (rw f at (sym e)), h, f)
+  system-refused q w f e h = rw (system-stop d nest s names path preceding at {q = q .question} {p = q .at} (rw f at (sym e)), h, f)
 
-  module _ (p : Place) (f : r ≡ form-read.Found p) (e : form r ≡ systemAt s at nest names path preceding) where
-    found : systemAt s at nest names path preceding ≡ got (p .form) (p .next)
+  module _ (p : Place) (f : r ≡ form-read.Found p) (e : form r ≡ systemAtIn d s at nest names path preceding) where
+    found : systemAtIn d s at nest names path preceding ≡ got (p .form) (p .next)
     found = rw f at (sym e)
 
     pub system-found : {y : Read ℕ}
-        → y ≡ told (λ ns p k m. readSystem (nest - 1) s ns p k m) (λ m. readProcess (nest - 1) s names m) at names path preceding (p .form) (p .next)
-        → y ≡ counted preceding (readSystem nest s names path preceding at)
-    system-found h = rw (system-step nest s names path preceding at found) h
+        → y ≡ told (λ ns p k m. readSystemIn d (nest - 1) s ns p k m) (λ m. readProcessIn d (nest - 1) s names m) at names path preceding (p .form) (p .next)
+        → y ≡ counted preceding (readSystemIn d nest s names path preceding at)
+    system-found h = rw (system-step d nest s names path preceding at found) h
 
     pub system-deeper : 1 ≤ nest
-    system-deeper = system-level nest names (length path) preceding (p .form) (system-room s at nest names path preceding found)
+    system-deeper = system-level nest names (length path) preceding (p .form) (system-room d s at nest names path preceding found)
 
     pub system-falls : (t : ℕ) → nest ≡ t → nest - 1 < t
     system-falls t h = omega (arith, system-deeper)
 
     pub new-fits : (t : ℕ) → p .form ≡ New t → Fits w64 (names + 1)
     unfolding FitsSystem
-    new-fits t h = let k = rw h at (system-room s at nest names path preceding found) in record { fits = omega arith }
+    new-fits t h = let k = rw h at (system-room d s at nest names path preceding found) in record { fits = omega arith }
 
     pub group-entered : (g : ℕ) (q : List ℕ) → p .form ≡ Group g → (ltb (length path) 8 ≡ true → q ≡ path ++ (g ∷ []))
         → q ≡ path ++ (g ∷ [])
     unfolding FitsSystem
-    group-entered g q h i = let k = rw h at (system-room s at nest names path preceding found) in i (lt-ltb (length path) 8 (k .1))
+    group-entered g q h i = let k = rw h at (system-room d s at nest names path preceding found) in i (lt-ltb (length path) 8 (k .1))
 
-    pub another : (g : ℕ) → p .form ≡ Component g → preceding < 32
+    pub another : (own : OwnFields) → p .form ≡ Component own → preceding < 32
     unfolding FitsSystem
-    another g h = let k = rw h at (system-room s at nest names path preceding found) in k .2
+    another own h = let k = rw h at (system-room d s at nest names path preceding found) in k .2
 
 pub ruleset system-steps = (
   needs,

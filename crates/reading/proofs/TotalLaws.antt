@@ -13,11 +13,13 @@ use Rattle.reading.proofs.FormLaws.{both-true, FitsProcess, FitsSystem,
 use Rattle.reading.proofs.Parts.{parts, never}
 use Rattle.reading.specs.Read.{Read, got, refused, andThen}
 use Rattle.reading.specs.Syntax.{Process, nil, par, new, input, output, repl, System, nilₛ, parₛ, groupₛ, newₛ, compₛ, components}
+use Rattle.reading.specs.Dialects.{current}
 use Rattle.reading.specs.Forms.{processAt, systemAt}
-use Rattle.reading.specs.System.{processFrom, readProcess, component, systemFrom, readSystem}
+use Rattle.reading.specs.System.{processFrom, readProcessIn, readProcess, component, systemFrom, readSystemIn, readSystem}
 use Rattle.reading.specs.Total.{Grown, under, beside, orNothing, processGrown, processTree, systemGrown, systemTree}
 use Rattle.reading.specs.declared.Form.{Form}
 use Rattle.reading.specs.declared.Form.the-variants.{Nil, Par, Group, New, Component, Input, Output, Replicate}
+use Rattle.reading.specs.declared.OwnFields.{OwnFields}
 
 -- What a form that was found tells of the limits (FormLaws), as the walks use it.
 pub both-left : (a b : Bool) → (a && b) ≡ true → a ≡ true
@@ -28,35 +30,35 @@ both-right a b e = both-true a b e .1
 
 module _ (s : List ℕ) (at n names : ℕ) where
   pub process-nest : {f : Form} {k : ℕ} → processAt s at n names ≡ got f k → 0 < n
-  process-nest {f} e = process-level n names f (process-room s at n names e)
+  process-nest {f} e = process-level n names f (process-room current s at n names e)
 
   pub new-names : {t k : ℕ} → processAt s at n names ≡ got (New t) k → names < 64
   unfolding FitsProcess
-  new-names e = process-room s at n names e .1
+  new-names e = process-room current s at n names e .1
 
   pub input-names : {a : _} {k : ℕ} → processAt s at n names ≡ got (Input a) k → names < 64
   unfolding FitsProcess
-  input-names e = process-room s at n names e .1
+  input-names e = process-room current s at n names e .1
 
 module _ (s : List ℕ) (at n names : ℕ) (path : List ℕ) (preceding : ℕ) where
   pub system-nest : {f : Form} {k : ℕ} → systemAt s at n names path preceding ≡ got f k → 0 < n
-  system-nest {f} e = system-level n names (length path) preceding f (system-room s at n names path preceding e)
+  system-nest {f} e = system-level n names (length path) preceding f (system-room current s at n names path preceding e)
 
   pub system-names : {t k : ℕ} → systemAt s at n names path preceding ≡ got (New t) k → names < 64
   unfolding FitsSystem
-  system-names e = system-room s at n names path preceding e .1
+  system-names e = system-room current s at n names path preceding e .1
 
   pub group-room : {g k : ℕ} → systemAt s at n names path preceding ≡ got (Group g) k → ltb (length path) 8 ≡ true
   unfolding FitsSystem
-  group-room e = lt-ltb (length path) 8 (system-room s at n names path preceding e .1)
+  group-room e = lt-ltb (length path) 8 (system-room current s at n names path preceding e .1)
 
-  pub component-room : {g k : ℕ} → systemAt s at n names path preceding ≡ got (Component g) k → ltb (length path) 8 ≡ true
+  pub component-room : {own : OwnFields} {k : ℕ} → systemAt s at n names path preceding ≡ got (Component own) k → ltb (length path) 8 ≡ true
   unfolding FitsSystem
-  component-room e = lt-ltb (length path) 8 (system-room s at n names path preceding e .1)
+  component-room e = lt-ltb (length path) 8 (system-room current s at n names path preceding e .1)
 
-  pub component-number : {g k : ℕ} → systemAt s at n names path preceding ≡ got (Component g) k → preceding < 32
+  pub component-number : {own : OwnFields} {k : ℕ} → systemAt s at n names path preceding ≡ got (Component own) k → preceding < 32
   unfolding FitsSystem
-  component-number e = system-room s at n names path preceding e .2
+  component-number e = system-room current s at n names path preceding e .2
 
 -- One step down the tree.
 pub process-step : (n : ℕ) (s : List ℕ) (names at : ℕ) (f : Form) (k : ℕ) → processAt s at n names ≡ got f k
@@ -119,11 +121,11 @@ process-same read grow at names (Output a) next h =
     under-same (output (a .channel) (a .object)) (read names next) (grow names next) (h names next)
 process-same read grow at names Replicate next h = under-same repl (read names next) (grow names next) (h names next)
 process-same read grow at names (Group g) next h = λ p k e. never e
-process-same read grow at names (Component g) next h = λ p k e. never e
+process-same read grow at names (Component own) next h = λ p k e. never e
 
 pub process-total : (n : ℕ) (s : List ℕ) (names at : ℕ) (p : Process) (k : ℕ) → readProcess n s names at ≡ got p k
     → processTree n s names at ≡ record { tree = p; next = k }
-unfolding readProcess processTree orNothing
+unfolding readProcessIn processTree orNothing
 process-total zero s names at p k e = never (parts (processAt s at 0 names) (λ form next. refused 5 at) e .rest)
 process-total (suc n) s names at p k e =
     let h = parts (processAt s at (suc n) names) (λ form next. processFrom (λ ns m. readProcess n s ns m) at names form next) e in
@@ -143,14 +145,14 @@ system-same read grow process grown at names path preceding (Group g) next h i =
     under-same (groupₛ g) (read names (path ++ (g ∷ [])) preceding next) (grow names (path ++ (g ∷ [])) preceding next) (h names (path ++ (g ∷ [])) preceding next)
 system-same read grow process grown at names path preceding (New t) next h i =
     under-same (newₛ t) (read (names + 1) path preceding next) (grow (names + 1) path preceding next) (h (names + 1) path preceding next)
-system-same read grow process grown at names path preceding (Component g) next h i = under-same (compₛ g) (process next) (grown next) (i next)
+system-same read grow process grown at names path preceding (Component own) next h i = under-same (compₛ own) (process next) (grown next) (i next)
 system-same read grow process grown at names path preceding (Input a) next h i = λ p k e. never e
 system-same read grow process grown at names path preceding (Output a) next h i = λ p k e. never e
 system-same read grow process grown at names path preceding Replicate next h i = λ p k e. never e
 
 pub system-total : (n : ℕ) (s : List ℕ) (names : ℕ) (path : List ℕ) (preceding at : ℕ) (p : System) (k : ℕ)
     → readSystem n s names path preceding at ≡ got p k → systemTree n s names path preceding at ≡ record { tree = p; next = k }
-unfolding readSystem systemTree orNothing
+unfolding readSystemIn systemTree orNothing
 system-total zero s names path preceding at p k e = never (parts (systemAt s at 0 names path preceding) (λ form next. refused 5 at) e .rest)
 system-total (suc n) s names path preceding at p k e =
     let h = parts (systemAt s at (suc n) names path preceding) (λ form next.

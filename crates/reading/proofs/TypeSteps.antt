@@ -9,28 +9,30 @@ use mir.Val.{Fits}
 use Rattle.reading.proofs.Parts.{below-found}
 use Rattle.reading.proofs.Steps.{steps}
 use Rattle.reading.proofs.TypeLaws.{few-groups}
+use Rattle.reading.specs.Dialects.{NoWider}
 use Rattle.reading.specs.Read.{Read, got, andThen, below}
 use Rattle.reading.specs.Told.{number}
-use Rattle.reading.specs.Types.{channel, groupsThenKind}
+use Rattle.reading.specs.Types.{channel, groupsThenKindIn}
+use Rattle.reading.specs.declared.Dialect.{Dialect}
 use Rattle.reading.specs.declared.Number.{Number}
 use Rattle.reading.specs.declared.NumberRead.{NumberRead}
 use Rattle.reading.specs.declared.NumberRead.the-variants as number-read
 
-pub no-group : {y : Read ℕ} (n : ℕ) (s : List ℕ) (at : ℕ) → n ≡ 0 → y ≡ below 16 s at → y ≡ groupsThenKind n s at
-unfolding groupsThenKind
-no-group n s at e h = rw e h
+pub no-group : (d : Dialect) {y : Read ℕ} (n : ℕ) (s : List ℕ) (at : ℕ) → n ≡ 0 → y ≡ below (d .kinds) s at → y ≡ groupsThenKindIn d n s at
+unfolding groupsThenKindIn
+no-group d n s at e h = rw e h
 
-pub group-first : {y : Read ℕ} (n : ℕ) (s : List ℕ) (at : ℕ) → (n ≡ 0 → ⊥)
-    → y ≡ andThen (below 64 s at) (λ g next. andThen (groupsThenKind (n - 1) s next) (λ t m. got (16 + (t * 64 + g)) m))
-    → y ≡ groupsThenKind n s at
-unfolding groupsThenKind channel
-group-first zero s at h e = absurd (h refl)
-group-first (suc n) s at h e = rw (sub-one (suc n)) at e
+pub group-first : (d : Dialect) {y : Read ℕ} (n : ℕ) (s : List ℕ) (at : ℕ) → (n ≡ 0 → ⊥)
+    → y ≡ andThen (below (d .groups) s at) (λ g next. andThen (groupsThenKindIn d (n - 1) s next) (λ t m. got (16 + (t * 64 + g)) m))
+    → y ≡ groupsThenKindIn d n s at
+unfolding groupsThenKindIn channel
+group-first d zero s at h e = absurd (h refl)
+group-first d (suc n) s at h e = rw (sub-one (suc n)) at e
 
 -- The carried type's number, the group's, the count of groups, and the sums that the code makes of them.
-carried-small : (n : ℕ) (s : List ℕ) (m : ℕ) (r : NumberRead) (t : Number) → n ≤ 4 → number r ≡ groupsThenKind (n - 1) s m
+carried-small : (d : Dialect) → NoWider d → (n : ℕ) (s : List ℕ) (m : ℕ) (r : NumberRead) (t : Number) → n ≤ 4 → number r ≡ groupsThenKindIn d (n - 1) s m
     → r ≡ number-read.Found t → t .value < 17 * 64 ^ 4
-carried-small n s m r t h e f = few-groups (n - 1) s m {t = t .value} {m = t .next} (omega arith) (rw f at (sym e))
+carried-small d w n s m r t h e f = few-groups d w (n - 1) s m {t = t .value} {m = t .next} (omega arith) (rw f at (sym e))
 
 small : (n : ℕ) (s : List ℕ) (at : ℕ) (q : NumberRead) (g : Number) → q ≡ number-read.Found g → number q ≡ below n s at
     → g .value < n
@@ -40,16 +42,17 @@ pub count-fits : (s : List ℕ) (at : ℕ) (q : NumberRead) (g : Number) → q �
     → g .value ≤ 4
 count-fits s at q g f e = omega (arith, small 5 s at q g f e)
 
-pub scaled : (n : ℕ) (s : List ℕ) (m : ℕ) (r : NumberRead) (t : Number) → r ≡ number-read.Found t
-    → number r ≡ groupsThenKind (n - 1) s m → n ≤ 4 → Fits w64 (t .value * 64)
-scaled n s m r t f e h = record { fits = omega (arith, carried-small n s m r t h e f) }
+pub scaled : (d : Dialect) (n : ℕ) (s : List ℕ) (m : ℕ) (r : NumberRead) (t : Number) → r ≡ number-read.Found t
+    → number r ≡ groupsThenKindIn d (n - 1) s m → n ≤ 4 → NoWider d → Fits w64 (t .value * 64)
+scaled d n s m r t f e h w = record { fits = omega (arith, carried-small d w n s m r t h e f) }
 
-module _ (n : ℕ) (s : List ℕ) (at m : ℕ) (q r : NumberRead) (g t : Number) (f : r ≡ number-read.Found t)
-    (e : number r ≡ groupsThenKind (n - 1) s m) (h : n ≤ 4) (k : q ≡ number-read.Found g) (i : number q ≡ below 64 s at) where
+module _ (d : Dialect) (n : ℕ) (s : List ℕ) (at m : ℕ) (q r : NumberRead) (g t : Number) (f : r ≡ number-read.Found t)
+    (e : number r ≡ groupsThenKindIn d (n - 1) s m) (h : n ≤ 4) (k : q ≡ number-read.Found g) (i : number q ≡ below (d .groups) s at)
+    (w : NoWider d) where
   pub with-group : Fits w64 (t .value * 64 + g .value)
-  with-group = record { fits = omega (arith, carried-small n s m r t h e f, small 64 s at q g k i) }
+  with-group = record { fits = omega (arith, carried-small d w n s m r t h e f, w .groups, small (d .groups) s at q g k i) }
 
   pub whole : Fits w64 (16 + (t .value * 64 + g .value))
-  whole = record { fits = omega (arith, carried-small n s m r t h e f, small 64 s at q g k i) }
+  whole = record { fits = omega (arith, carried-small d w n s m r t h e f, w .groups, small (d .groups) s at q g k i) }
 
 pub ruleset type-steps = (steps, no-group, group-first, count-fits, scaled, with-group, whole)

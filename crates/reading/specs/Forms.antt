@@ -1,11 +1,14 @@
--- "What stands at a place is a form, its fields and the place after it. Each other code byte is refused."
+-- "What stands at a place is a form, its fields and the place after it. Each other code byte is refused." In any dialect
+-- (`..In`), and in the current one.
 use Prim.Native.Nat.{ℕ, _+_}
 use mathlib.Core.List.{List, [], _∷_}
 use mathlib.Core.Bool.{Bool, true, false, cond, _&&_, _||_}
 use lib.ListN.{length}
 use lib.Dec.{ltb, eqb}
 use Rattle.reading.specs.Read.{Read, got, refused, andThen, byteAt, below}
-use Rattle.reading.specs.Types.{typeAt}
+use Rattle.reading.specs.Dialects.{current}
+use Rattle.reading.specs.Types.{typeAtIn}
+use Rattle.reading.specs.declared.Dialect.{Dialect}
 use Rattle.reading.specs.declared.Form.{Form}
 use Rattle.reading.specs.declared.Form.the-variants.{Nil, Par, Group, New, Component, Input, Output, Replicate}
 
@@ -19,14 +22,14 @@ limited true at r = r
 limited false at r = refused 5 at
 
 -- "new name, its type"
-unfoldable pub newForm : List ℕ → ℕ → Read Form
-newForm s at = andThen (typeAt s at) (λ t next. got (New t) next)
+unfoldable pub newFormIn : Dialect → List ℕ → ℕ → Read Form
+newFormIn d s at = andThen (typeAtIn d s at) (λ t next. got (New t) next)
 
 -- "receive: channel, type of the bound name"
-unfoldable pub inputForm : List ℕ → ℕ → Read Form
-inputForm s at =
+unfoldable pub inputFormIn : Dialect → List ℕ → ℕ → Read Form
+inputFormIn d s at =
     andThen (byteAt s at) (λ x next.
-    andThen (typeAt s next) (λ t m. got (Input (record { channel = x; object = t })) m))
+    andThen (typeAtIn d s next) (λ t m. got (Input (record { channel = x; object = t })) m))
 
 -- "send: channel, name sent"
 unfoldable pub outputForm : List ℕ → ℕ → Read Form
@@ -35,48 +38,55 @@ outputForm s at =
     andThen (byteAt s next) (λ y m. got (Output (record { channel = x; object = y })) m))
 
 -- Question 6: "group new to its path?"
-unfoldable pub freshGroup : List ℕ → ℕ → List ℕ → Read ℕ
-freshGroup s at path = andThen (below 64 s at) (λ g next. cond (member g path) (refused 6 at) (got g next))
+unfoldable pub freshGroupIn : Dialect → List ℕ → ℕ → List ℕ → Read ℕ
+freshGroupIn d s at path = andThen (below (d .groups) s at) (λ g next. cond (member g path) (refused 6 at) (got g next))
 
 -- "group"
-unfoldable pub groupForm : List ℕ → ℕ → List ℕ → Read Form
-groupForm s at path = andThen (freshGroup s at path) (λ g next. got (Group g) next)
+unfoldable pub groupFormIn : Dialect → List ℕ → ℕ → List ℕ → Read Form
+groupFormIn d s at path = andThen (freshGroupIn d s at path) (λ g next. got (Group g) next)
 
 -- "a post: its group"
-unfoldable pub componentForm : List ℕ → ℕ → List ℕ → Read Form
-componentForm s at path = andThen (freshGroup s at path) (λ g next. got (Component g) next)
+unfoldable pub componentFormIn : Dialect → List ℕ → ℕ → List ℕ → Read Form
+componentFormIn d s at path = andThen (freshGroupIn d s at path) (λ g next. got (Component (record { group = g })) next)
 
 -- The forms of processes by their codes: is there room for one more form (`level`), for one that binds a name (`binder`)?
-unfoldable pub processForm : List ℕ → ℕ → ℕ → Bool → Bool → ℕ → Read Form
-processForm s at next level binder code =
+unfoldable pub processFormIn : Dialect → List ℕ → ℕ → ℕ → Bool → Bool → ℕ → Read Form
+processFormIn d s at next level binder code =
     cond (eqb code 0) (limited level at (got Nil next))
     (cond (eqb code 1) (limited level at (got Par next))
-    (cond (eqb code 3) (limited binder at (newForm s next))
-    (cond (eqb code 5) (limited binder at (inputForm s next))
+    (cond (eqb code 3) (limited binder at (newFormIn d s next))
+    (cond (eqb code 5) (limited binder at (inputFormIn d s next))
     (cond (eqb code 6) (limited level at (outputForm s next))
     (cond (eqb code 7) (limited level at (got Replicate next))
     (refused 4 at))))))
 
 -- What stands at a place of a process, where `nest` more forms may be nested and `names` names are in scope: "at most 64
 -- forms nested, 64 names in scope".
-unfoldable pub processAt : List ℕ → ℕ → ℕ → ℕ → Read Form
-processAt s at nest names =
-    andThen (byteAt s at) (λ code next. processForm s at next (ltb 0 nest) (ltb 0 nest && ltb names 64) code)
+unfoldable pub processAtIn : Dialect → List ℕ → ℕ → ℕ → ℕ → Read Form
+processAtIn d s at nest names =
+    andThen (byteAt s at) (λ code next. processFormIn d s at next (ltb 0 nest) (ltb 0 nest && ltb names 64) code)
 
 -- The forms of systems by their codes; `deeper`: is there room for one more group in the path, `another`: and for one more
 -- component?
-unfoldable pub systemForm : List ℕ → ℕ → ℕ → List ℕ → Bool → Bool → Bool → Bool → ℕ → Read Form
-systemForm s at next path level binder deeper another code =
+unfoldable pub systemFormIn : Dialect → List ℕ → ℕ → ℕ → List ℕ → Bool → Bool → Bool → Bool → ℕ → Read Form
+systemFormIn d s at next path level binder deeper another code =
     cond (eqb code 0) (limited level at (got Nil next))
     (cond (eqb code 1) (limited level at (got Par next))
-    (cond (eqb code 2) (limited deeper at (groupForm s next path))
-    (cond (eqb code 3) (limited binder at (newForm s next))
-    (cond (eqb code 4) (limited another at (componentForm s next path))
+    (cond (eqb code 2) (limited deeper at (groupFormIn d s next path))
+    (cond (eqb code 3) (limited binder at (newFormIn d s next))
+    (cond (eqb code 4) (limited another at (componentFormIn d s next path))
     (refused 4 at)))))
 
 -- What stands at a place of a system, with the path so far and the number of components so far: "8 groups in a path, 32 posts".
-unfoldable pub systemAt : List ℕ → ℕ → ℕ → ℕ → List ℕ → ℕ → Read Form
-systemAt s at nest names path components =
+unfoldable pub systemAtIn : Dialect → List ℕ → ℕ → ℕ → ℕ → List ℕ → ℕ → Read Form
+systemAtIn d s at nest names path components =
     andThen (byteAt s at) (λ code next.
-    systemForm s at next path (ltb 0 nest) (ltb 0 nest && ltb names 64) (ltb 0 nest && ltb (length path) 8)
+    systemFormIn d s at next path (ltb 0 nest) (ltb 0 nest && ltb names 64) (ltb 0 nest && ltb (length path) 8)
     ((ltb 0 nest && ltb (length path) 8) && ltb components 32) code)
+
+-- The same in the current dialect.
+abbrev pub processAt : List ℕ → ℕ → ℕ → ℕ → Read Form
+processAt = processAtIn current
+
+abbrev pub systemAt : List ℕ → ℕ → ℕ → ℕ → List ℕ → ℕ → Read Form
+systemAt = systemAtIn current

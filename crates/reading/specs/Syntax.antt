@@ -2,6 +2,7 @@
 -- are 0, 1, ..; each binder on the way in takes the next number. Types are numbers (Types.antt).
 use Prim.Native.Nat.{ℕ, _+_}
 use mathlib.Core.List.{List}
+use Rattle.reading.specs.declared.OwnFields.{OwnFields}
 
 pub data Process : Type 0 where
   nil : Process
@@ -20,8 +21,8 @@ pub data System : Type 0 where
   parₛ : System → System → System
   groupₛ : ℕ → System → System
   newₛ : ℕ → System → System
-  -- a component (document 01: a post): its group and its process
-  compₛ : ℕ → Process → System
+  -- a component (document 01: a post): its own fields and its process
+  compₛ : OwnFields → Process → System
 
 -- A sheet: the types of the free names, and one system.
 pub record Sheet : Type 0 where
@@ -34,4 +35,4 @@ components nilₛ = 0
 components (parₛ l r) = components l + components r
 components (groupₛ g p) = components p
 components (newₛ t p) = components p
-components (compₛ g p) = 1
+components (compₛ own p) = 1

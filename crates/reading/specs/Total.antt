@@ -34,7 +34,7 @@ processGrown grow at names (Input a) next = under (input (a .channel) (a .object
 processGrown grow at names (Output a) next = under (output (a .channel) (a .object)) (grow names next)
 processGrown grow at names Replicate next = under repl (grow names next)
 processGrown grow at names (Group g) next = record { tree = nil; next = at }
-processGrown grow at names (Component g) next = record { tree = nil; next = at }
+processGrown grow at names (Component own) next = record { tree = nil; next = at }
 
 -- The process at a place, where `nest` more forms may be nested and `names` names are in scope.
 unfoldable pub processTree : ℕ → List ℕ → ℕ → ℕ → Grown Process
@@ -49,7 +49,7 @@ systemGrown grow process at names path preceding Par next =
     beside parₛ (grow names path preceding next) (λ l m. grow names path (preceding + components l) m)
 systemGrown grow process at names path preceding (Group g) next = under (groupₛ g) (grow names (path ++ (g ∷ [])) preceding next)
 systemGrown grow process at names path preceding (New t) next = under (newₛ t) (grow (names + 1) path preceding next)
-systemGrown grow process at names path preceding (Component g) next = under (compₛ g) (process next)
+systemGrown grow process at names path preceding (Component own) next = under (compₛ own) (process next)
 systemGrown grow process at names path preceding (Input a) next = record { tree = nilₛ; next = at }
 systemGrown grow process at names path preceding (Output a) next = record { tree = nilₛ; next = at }
 systemGrown grow process at names path preceding Replicate next = record { tree = nilₛ; next = at }

@@ -6,6 +6,8 @@ use mathlib.Core.List.{List}
 use mathlib.Core.Bool.{cond}
 use lib.Dec.{ltb}
 use Rattle.reading.specs.Read.{Read, got, andThen, below}
+use Rattle.reading.specs.Dialects.{current}
+use Rattle.reading.specs.declared.Dialect.{Dialect}
 use Rattle.reading.specs.declared.Shape.{Shape}
 use Rattle.reading.specs.declared.Shape.the-variants.{Plain, Channel}
 
@@ -23,11 +25,15 @@ unfoldable pub shape : ℕ → Shape
 shape t = cond (ltb t 16) (Plain t) (Channel ((t - 16) % 64) ((t - 16) / 64))
 
 -- "the groups with the outermost first, the kind"
-unfoldable pub groupsThenKind : ℕ → List ℕ → ℕ → Read ℕ
-groupsThenKind zero s at = below 16 s at
-groupsThenKind (suc n) s at =
-    andThen (below 64 s at) (λ g next. andThen (groupsThenKind n s next) (λ t m. got (channel g t) m))
+unfoldable pub groupsThenKindIn : Dialect → ℕ → List ℕ → ℕ → Read ℕ
+groupsThenKindIn d zero s at = below (d .kinds) s at
+groupsThenKindIn d (suc n) s at =
+    andThen (below (d .groups) s at) (λ g next. andThen (groupsThenKindIn d n s next) (λ t m. got (channel g t) m))
 
 -- "Stored: the count of groups (0 to 4), the groups with the outermost first, the kind."
-unfoldable pub typeAt : List ℕ → ℕ → Read ℕ
-typeAt s at = andThen (below 5 s at) (λ n next. groupsThenKind n s next)
+unfoldable pub typeAtIn : Dialect → List ℕ → ℕ → Read ℕ
+typeAtIn d s at = andThen (below 5 s at) (λ n next. groupsThenKindIn d n s next)
+
+-- The same in the current dialect.
+abbrev pub typeAt : List ℕ → ℕ → Read ℕ
+typeAt = typeAtIn current

@@ -3,31 +3,37 @@ ghost use mathlib.Core.Path.{_≡_};
 ghost use mathlib.Core.Bool.{_&&_};
 ghost use lib.Dec.{ltb};
 ghost use Rattle.reading.specs.Read.{got, refused};
+ghost use Rattle.reading.specs.Dialects.{NoWider};
 ghost use Rattle.reading.specs.Forms.{
   limited,
-  newForm,
-  inputForm,
+  newFormIn,
+  inputFormIn,
   outputForm,
-  freshGroup,
-  groupForm,
-  componentForm,
+  freshGroupIn,
+  groupFormIn,
+  componentFormIn,
+  processAtIn,
+  systemAtIn,
   processAt,
   systemAt,
 };
 ghost use Rattle.reading.specs.Told.{number, form as told, refusalOf, pathOf};
 use crate::Act;
+use crate::Dialect;
 use crate::Form;
 use crate::FormRead;
 use crate::Number;
 use crate::NumberRead;
+use crate::OwnFields;
 use crate::Path;
 use crate::Place;
 use crate::Refusal;
 use crate::bytes::byte_at;
 use crate::bytes::byte_below;
 use crate::bytes::refusal;
+use crate::dialects::current;
 use crate::paths;
-use crate::types::type_at;
+use crate::types::type_at_in;
 
 fn both(a: bool, b: bool) -> bool
     ensures { λ r. ⌜ r ≡ (a && b) ⌝ }
@@ -74,13 +80,14 @@ fn bare(form: Form, at: usize, next: usize, room: bool) -> FormRead
 }
 
 // A new name: its type.
-fn new_form(s: &[u8], at: usize, next: usize, room: bool) -> FormRead
-    ensures { λ r. ⌜ told r ≡ limited room at (newForm (now (s .entry)) next) ⌝ }
+fn new_form(dialect: Dialect, s: &[u8], at: usize, next: usize, room: bool) -> FormRead
+    requires { ⌜ NoWider dialect ⌝ }
+    ensures { λ r. ⌜ told r ≡ limited room at (newFormIn dialect (now (s .entry)) next) ⌝ }
 {
     if !room {
         return too_many(at);
     }
-    let read = type_at(s, next);
+    let read = type_at_in(dialect, s, next);
     let NumberRead::Found(t) = read else {
         return not_read(read);
     };
@@ -91,8 +98,9 @@ fn new_form(s: &[u8], at: usize, next: usize, room: bool) -> FormRead
 }
 
 // An input: the channel, then the type of the bound name.
-fn input_form(s: &[u8], at: usize, next: usize, room: bool) -> FormRead
-    ensures { λ r. ⌜ told r ≡ limited room at (inputForm (now (s .entry)) next) ⌝ }
+fn input_form(dialect: Dialect, s: &[u8], at: usize, next: usize, room: bool) -> FormRead
+    requires { ⌜ NoWider dialect ⌝ }
+    ensures { λ r. ⌜ told r ≡ limited room at (inputFormIn dialect (now (s .entry)) next) ⌝ }
 {
     if !room {
         return too_many(at);
@@ -101,7 +109,7 @@ fn input_form(s: &[u8], at: usize, next: usize, room: bool) -> FormRead
     let NumberRead::Found(channel) = first else {
         return not_read(first);
     };
-    let second = type_at(s, channel.next);
+    let second = type_at_in(dialect, s, channel.next);
     let NumberRead::Found(bound) = second else {
         return not_read(second);
     };
@@ -141,10 +149,10 @@ fn output_form(s: &[u8], at: usize, next: usize, room: bool) -> FormRead
 }
 
 // A group in its range (question 4) that is new to the path (question 6).
-fn fresh_group(s: &[u8], at: usize, path: Path) -> NumberRead
-    ensures { λ r. ⌜ number r ≡ freshGroup (now (s .entry)) at (pathOf path) ⌝ }
+fn fresh_group(dialect: Dialect, s: &[u8], at: usize, path: Path) -> NumberRead
+    ensures { λ r. ⌜ number r ≡ freshGroupIn dialect (now (s .entry)) at (pathOf path) ⌝ }
 {
-    let read = byte_below(s, at, 64);
+    let read = byte_below(s, at, dialect.groups);
     let NumberRead::Found(group) = read else {
         return read;
     };
@@ -156,13 +164,20 @@ fn fresh_group(s: &[u8], at: usize, path: Path) -> NumberRead
 }
 
 // A group: one that is new to the path.
-fn group_form(s: &[u8], at: usize, next: usize, path: Path, room: bool) -> FormRead
-    ensures { λ r. ⌜ told r ≡ limited room at (groupForm (now (s .entry)) next (pathOf path)) ⌝ }
+fn group_form(
+    dialect: Dialect,
+    s: &[u8],
+    at: usize,
+    next: usize,
+    path: Path,
+    room: bool,
+) -> FormRead
+    ensures { λ r. ⌜ told r ≡ limited room at (groupFormIn dialect (now (s .entry)) next (pathOf path)) ⌝ }
 {
     if !room {
         return too_many(at);
     }
-    let read = fresh_group(s, next, path);
+    let read = fresh_group(dialect, s, next, path);
     let NumberRead::Found(group) = read else {
         return not_read(read);
     };
@@ -172,26 +187,35 @@ fn group_form(s: &[u8], at: usize, next: usize, path: Path, room: bool) -> FormR
     })
 }
 
-// A component's head: its group, new to the path.
-fn component_form(s: &[u8], at: usize, next: usize, path: Path, room: bool) -> FormRead
-    ensures { λ r. ⌜ told r ≡ limited room at (componentForm (now (s .entry)) next (pathOf path)) ⌝ }
+// A component: its own fields, of which the group is new to the path.
+fn component_form(
+    dialect: Dialect,
+    s: &[u8],
+    at: usize,
+    next: usize,
+    path: Path,
+    room: bool,
+) -> FormRead
+    ensures { λ r. ⌜ told r ≡ limited room at (componentFormIn dialect (now (s .entry)) next (pathOf path)) ⌝ }
 {
     if !room {
         return too_many(at);
     }
-    let read = fresh_group(s, next, path);
+    let read = fresh_group(dialect, s, next, path);
     let NumberRead::Found(group) = read else {
         return not_read(read);
     };
+    let own = OwnFields { group: group.value };
     FormRead::Found(Place {
-        form: Form::Component(group.value),
+        form: Form::Component(own),
         next: group.next,
     })
 }
 
 // What stands at a place of a process, with the permitted nesting that is left and the number of names in scope.
-pub fn process_at(s: &[u8], at: usize, nest: usize, names: usize) -> FormRead
-    ensures { λ r. ⌜ told r ≡ processAt (now (s .entry)) at nest names ⌝ }
+pub fn process_at_in(dialect: Dialect, s: &[u8], at: usize, nest: usize, names: usize) -> FormRead
+    requires { ⌜ NoWider dialect ⌝ }
+    ensures { λ r. ⌜ told r ≡ processAtIn dialect (now (s .entry)) at nest names ⌝ }
 {
     let read = byte_at(s, at);
     let NumberRead::Found(byte) = read else {
@@ -204,8 +228,8 @@ pub fn process_at(s: &[u8], at: usize, nest: usize, names: usize) -> FormRead
     match code {
         0 => bare(Form::Nil, at, next, level),
         1 => bare(Form::Par, at, next, level),
-        3 => new_form(s, at, next, binder),
-        5 => input_form(s, at, next, binder),
+        3 => new_form(dialect, s, at, next, binder),
+        5 => input_form(dialect, s, at, next, binder),
         6 => output_form(s, at, next, level),
         7 => bare(Form::Replicate, at, next, level),
         _ => no_form(at),
@@ -213,7 +237,8 @@ pub fn process_at(s: &[u8], at: usize, nest: usize, names: usize) -> FormRead
 }
 
 // What stands at a place of a system; beside a process's limits, the path so far and the number of components so far.
-pub fn system_at(
+pub fn system_at_in(
+    dialect: Dialect,
     s: &[u8],
     at: usize,
     nest: usize,
@@ -221,7 +246,8 @@ pub fn system_at(
     path: Path,
     components: usize,
 ) -> FormRead
-    ensures { λ r. ⌜ told r ≡ systemAt (now (s .entry)) at nest names (pathOf path) components ⌝ }
+    requires { ⌜ NoWider dialect ⌝ }
+    ensures { λ r. ⌜ told r ≡ systemAtIn dialect (now (s .entry)) at nest names (pathOf path) components ⌝ }
 {
     let read = byte_at(s, at);
     let NumberRead::Found(byte) = read else {
@@ -235,9 +261,29 @@ pub fn system_at(
     match code {
         0 => bare(Form::Nil, at, next, level),
         1 => bare(Form::Par, at, next, level),
-        2 => group_form(s, at, next, path, deeper),
-        3 => new_form(s, at, next, binder),
-        4 => component_form(s, at, next, path, both(deeper, components < 32)),
+        2 => group_form(dialect, s, at, next, path, deeper),
+        3 => new_form(dialect, s, at, next, binder),
+        4 => component_form(dialect, s, at, next, path, both(deeper, components < 32)),
         _ => no_form(at),
     }
+}
+
+// The same in the current dialect.
+pub fn process_at(s: &[u8], at: usize, nest: usize, names: usize) -> FormRead
+    ensures { λ r. ⌜ told r ≡ processAt (now (s .entry)) at nest names ⌝ }
+{
+    process_at_in(current(), s, at, nest, names)
+}
+
+pub fn system_at(
+    s: &[u8],
+    at: usize,
+    nest: usize,
+    names: usize,
+    path: Path,
+    components: usize,
+) -> FormRead
+    ensures { λ r. ⌜ told r ≡ systemAt (now (s .entry)) at nest names (pathOf path) components ⌝ }
+{
+    system_at_in(current(), s, at, nest, names, path, components)
 }

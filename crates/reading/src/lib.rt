@@ -1,10 +1,17 @@
 // The reader of encoded systems (document 01: flow sheets). It answers questions 1 to 6 for any bytes, in one pass.
 // Here stand the answers that its functions give; each module below reads one part of the format.
 pub mod bytes;
+pub mod dialects;
 pub mod forms;
 pub mod paths;
 pub mod system;
 pub mod types;
+
+// A dialect of the format: a group is below `groups`, a kind below `kinds`.
+pub struct Dialect {
+    pub groups: usize,
+    pub kinds: usize,
+}
 
 // Why a reading stops: the number of the question that fails, and the place of the byte at which it fails.
 pub struct Refusal {
@@ -42,13 +49,18 @@ pub struct Act {
     pub object: usize,
 }
 
-// The forms of systems and processes, with their fields. A component is document 01's post.
+// The own fields of a component (document 01: a post): those that stand between its code and its process.
+pub struct OwnFields {
+    pub group: usize,
+}
+
+// The forms of systems and processes, with their fields.
 pub enum Form {
     Nil,
     Par,
     Group(usize),
     New(usize),
-    Component(usize),
+    Component(OwnFields),
     Input(Act),
     Output(Act),
     Replicate,

@@ -1,8 +1,19 @@
 // A whole encoded system: the free names, one system, and nothing after it.
 ghost use mathlib.Core.Path.{_≡_};
-ghost use Prim.Native.Nat.{ℕ, _<_};
-ghost use Rattle.reading.specs.System.{component, readProcess, readSystem, freeTypes, sheetOf, readSheet};
+ghost use Prim.Native.Nat.{_<_};
+ghost use Rattle.reading.specs.Dialects.{NoWider};
+ghost use Rattle.reading.specs.System.{
+  component,
+  readProcessIn,
+  readSystemIn,
+  freeTypesIn,
+  readSheetIn,
+  sheetOfIn,
+  sheetOf,
+};
+ghost use Rattle.reading.specs.declared.OwnFields.{OwnFields};
 ghost use Rattle.reading.specs.Told.{number, ending, ended, counted, countedIn, whyNone, whyOf, pathOf};
+use crate::Dialect;
 use crate::End;
 use crate::Form;
 use crate::FormRead;
@@ -12,10 +23,11 @@ use crate::Path;
 use crate::Refusal;
 use crate::bytes::byte_below;
 use crate::bytes::refusal;
-use crate::forms::process_at;
-use crate::forms::system_at;
+use crate::dialects::current;
+use crate::forms::process_at_in;
+use crate::forms::system_at_in;
 use crate::paths;
-use crate::types::type_at;
+use crate::types::type_at_in;
 
 // Why a form was not read.
 fn why(read: FormRead) -> Refusal
@@ -38,10 +50,11 @@ pub fn why_none(end: End) -> Refusal
 }
 
 // Reads past a process. The permitted nesting falls at each call.
-pub fn read_process(s: &[u8], at: usize, nest: usize, names: usize) -> End
-    ensures { λ r. ⌜ ending r ≡ ended (readProcess nest (now (s .entry)) names at) ⌝ }
+pub fn read_process(dialect: Dialect, s: &[u8], at: usize, nest: usize, names: usize) -> End
+    requires { ⌜ NoWider dialect ⌝ }
+    ensures { λ r. ⌜ ending r ≡ ended (readProcessIn dialect nest (now (s .entry)) names at) ⌝ }
 {
-    let read = process_at(s, at, nest, names);
+    let read = process_at_in(dialect, s, at, nest, names);
     let FormRead::Found(place) = read else {
         return End::Refused(why(read));
     };
@@ -50,27 +63,34 @@ pub fn read_process(s: &[u8], at: usize, nest: usize, names: usize) -> End
     match form {
         Form::Nil => End::At(next),
         Form::Par => {
-            let left = read_process(s, next, nest - 1, names);
+            let left = read_process(dialect, s, next, nest - 1, names);
             let End::At(middle) = left else {
                 return left;
             };
-            read_process(s, middle, nest - 1, names)
+            read_process(dialect, s, middle, nest - 1, names)
         }
-        Form::New(_) => read_process(s, next, nest - 1, names + 1),
-        Form::Input(_) => read_process(s, next, nest - 1, names + 1),
-        Form::Output(_) => read_process(s, next, nest - 1, names),
-        Form::Replicate => read_process(s, next, nest - 1, names),
+        Form::New(_) => read_process(dialect, s, next, nest - 1, names + 1),
+        Form::Input(_) => read_process(dialect, s, next, nest - 1, names + 1),
+        Form::Output(_) => read_process(dialect, s, next, nest - 1, names),
+        Form::Replicate => read_process(dialect, s, next, nest - 1, names),
         Form::Group(_) => End::Refused(Refusal { question: 4, at }),
         Form::Component(_) => End::Refused(Refusal { question: 4, at }),
     }
 }
 
-// Reads past a component's process and counts the component, whatever its group.
-fn read_component(s: &[u8], at: usize, nest: usize, names: usize, components: usize) -> NumberRead
-    requires { ⌜ components < 32 ⌝ }
-    ensures { λ r. ⌜ ((g : ℕ) → number r ≡ counted components (component g (readProcess nest (now (s .entry)) names at))) ⌝ }
+// Reads past a component's process and counts the component, whatever its own fields.
+fn read_component(
+    dialect: Dialect,
+    s: &[u8],
+    at: usize,
+    nest: usize,
+    names: usize,
+    components: usize,
+) -> NumberRead
+    requires { ⌜ NoWider dialect × (components < 32) ⌝ }
+    ensures { λ r. ⌜ ((own : OwnFields) → number r ≡ counted components (component own (readProcessIn dialect nest (now (s .entry)) names at))) ⌝ }
 {
-    let end = read_process(s, at, nest, names);
+    let end = read_process(dialect, s, at, nest, names);
     let End::At(next) = end else {
         return NumberRead::Refused(why_none(end));
     };
@@ -82,6 +102,7 @@ fn read_component(s: &[u8], at: usize, nest: usize, names: usize, components: us
 
 // Reads past a system. The number found is that of the components so far, those of this system included.
 pub fn read_system(
+    dialect: Dialect,
     s: &[u8],
     at: usize,
     nest: usize,
@@ -89,9 +110,10 @@ pub fn read_system(
     path: Path,
     components: usize,
 ) -> NumberRead
-    ensures { λ r. ⌜ number r ≡ counted components (readSystem nest (now (s .entry)) names (pathOf path) components at) ⌝ }
+    requires { ⌜ NoWider dialect ⌝ }
+    ensures { λ r. ⌜ number r ≡ counted components (readSystemIn dialect nest (now (s .entry)) names (pathOf path) components at) ⌝ }
 {
-    let read = system_at(s, at, nest, names, path, components);
+    let read = system_at_in(dialect, s, at, nest, names, path, components);
     let FormRead::Found(place) = read else {
         return NumberRead::Refused(why(read));
     };
@@ -103,15 +125,23 @@ pub fn read_system(
             next,
         }),
         Form::Par => {
-            let left = read_system(s, next, nest - 1, names, path, components);
+            let left = read_system(dialect, s, next, nest - 1, names, path, components);
             let NumberRead::Found(middle) = left else {
                 return left;
             };
-            read_system(s, middle.next, nest - 1, names, path, middle.value)
+            read_system(dialect, s, middle.next, nest - 1, names, path, middle.value)
         }
-        Form::Group(g) => read_system(s, next, nest - 1, names, paths::with(path, g), components),
-        Form::New(_) => read_system(s, next, nest - 1, names + 1, path, components),
-        Form::Component(_) => read_component(s, next, nest - 1, names, components),
+        Form::Group(g) => read_system(
+            dialect,
+            s,
+            next,
+            nest - 1,
+            names,
+            paths::with(path, g),
+            components,
+        ),
+        Form::New(_) => read_system(dialect, s, next, nest - 1, names + 1, path, components),
+        Form::Component(_) => read_component(dialect, s, next, nest - 1, names, components),
         Form::Input(_) => NumberRead::Refused(Refusal { question: 4, at }),
         Form::Output(_) => NumberRead::Refused(Refusal { question: 4, at }),
         Form::Replicate => NumberRead::Refused(Refusal { question: 4, at }),
@@ -119,13 +149,14 @@ pub fn read_system(
 }
 
 // Reads past `count` stored types.
-fn free_types(s: &[u8], at: usize, count: usize) -> End
-    ensures { λ r. ⌜ ending r ≡ ended (freeTypes count (now (s .entry)) at) ⌝ }
+fn free_types(dialect: Dialect, s: &[u8], at: usize, count: usize) -> End
+    requires { ⌜ NoWider dialect ⌝ }
+    ensures { λ r. ⌜ ending r ≡ ended (freeTypesIn dialect count (now (s .entry)) at) ⌝ }
 {
     let mut next = at;
     let mut left = count;
     while 0 < left {
-        let read = type_at(s, next);
+        let read = type_at_in(dialect, s, next);
         let NumberRead::Found(t) = read else {
             return End::Refused(refusal(read));
         };
@@ -136,18 +167,19 @@ fn free_types(s: &[u8], at: usize, count: usize) -> End
 }
 
 // Questions 2 to 6. The number found is that of the components.
-fn read_sheet(s: &[u8]) -> NumberRead
-    ensures { λ r. ⌜ number r ≡ countedIn (readSheet (now (s .entry))) ⌝ }
+fn read_sheet(dialect: Dialect, s: &[u8]) -> NumberRead
+    requires { ⌜ NoWider dialect ⌝ }
+    ensures { λ r. ⌜ number r ≡ countedIn (readSheetIn dialect (now (s .entry))) ⌝ }
 {
     let count = byte_below(s, 0, 33);
     let NumberRead::Found(free) = count else {
         return count;
     };
-    let types = free_types(s, free.next, free.value);
+    let types = free_types(dialect, s, free.next, free.value);
     let End::At(start) = types else {
         return NumberRead::Refused(why_none(types));
     };
-    let read = read_system(s, start, 64, free.value, paths::empty(), 0);
+    let read = read_system(dialect, s, start, 64, free.value, paths::empty(), 0);
     let NumberRead::Found(system) = read else {
         return read;
     };
@@ -162,8 +194,9 @@ fn read_sheet(s: &[u8]) -> NumberRead
 }
 
 // Questions 1 to 6 of document 01, for a sheet and a charter of any bytes. The number found is that of the sheet's components.
-pub fn read(sheet: &[u8], charter: &[u8]) -> NumberRead
-    ensures { λ r. ⌜ number r ≡ countedIn (sheetOf (now (sheet .entry)) (now (charter .entry))) ⌝ }
+pub fn read_in(dialect: Dialect, sheet: &[u8], charter: &[u8]) -> NumberRead
+    requires { ⌜ NoWider dialect ⌝ }
+    ensures { λ r. ⌜ number r ≡ countedIn (sheetOfIn dialect (now (sheet .entry)) (now (charter .entry))) ⌝ }
 {
     if 4096 < sheet.len() {
         return NumberRead::Refused(Refusal {
@@ -177,5 +210,12 @@ pub fn read(sheet: &[u8], charter: &[u8]) -> NumberRead
             at: 4096,
         });
     }
-    read_sheet(sheet)
+    read_sheet(dialect, sheet)
+}
+
+// The same in the current dialect.
+pub fn read(sheet: &[u8], charter: &[u8]) -> NumberRead
+    ensures { λ r. ⌜ number r ≡ countedIn (sheetOf (now (sheet .entry)) (now (charter .entry))) ⌝ }
+{
+    read_in(current(), sheet, charter)
 }

@@ -1,12 +1,15 @@
 // Types: how a stored type is read into a number, and which shape a type has.
 ghost use mathlib.Core.Path.{_≡_};
 ghost use Prim.Native.Nat.{_≤_};
-ghost use Rattle.reading.specs.Types.{shape, groupsThenKind, typeAt};
+ghost use Rattle.reading.specs.Dialects.{NoWider};
+ghost use Rattle.reading.specs.Types.{shape, groupsThenKindIn, typeAtIn, typeAt};
 ghost use Rattle.reading.specs.Told.{number};
+use crate::Dialect;
 use crate::Number;
 use crate::NumberRead;
 use crate::Shape;
 use crate::bytes::byte_below;
+use crate::dialects::current;
 
 // The shape of a type.
 pub fn shape_of(t: usize) -> Shape
@@ -23,18 +26,18 @@ pub fn shape_of(t: usize) -> Shape
 }
 
 // `count` groups, the outermost first, then the kind.
-fn groups_then_kind(s: &[u8], at: usize, count: usize) -> NumberRead
-    requires { ⌜ count ≤ 4 ⌝ }
-    ensures { λ r. ⌜ number r ≡ groupsThenKind count (now (s .entry)) at ⌝ }
+fn groups_then_kind(dialect: Dialect, s: &[u8], at: usize, count: usize) -> NumberRead
+    requires { ⌜ NoWider dialect × (count ≤ 4) ⌝ }
+    ensures { λ r. ⌜ number r ≡ groupsThenKindIn dialect count (now (s .entry)) at ⌝ }
 {
     if count == 0 {
-        return byte_below(s, at, 16);
+        return byte_below(s, at, dialect.kinds);
     }
-    let read = byte_below(s, at, 64);
+    let read = byte_below(s, at, dialect.groups);
     let NumberRead::Found(group) = read else {
         return read;
     };
-    let rest = groups_then_kind(s, group.next, count - 1);
+    let rest = groups_then_kind(dialect, s, group.next, count - 1);
     let NumberRead::Found(carried) = rest else {
         return rest;
     };
@@ -45,12 +48,20 @@ fn groups_then_kind(s: &[u8], at: usize, count: usize) -> NumberRead
 }
 
 // A stored type: the count of groups, the groups, the kind.
-pub fn type_at(s: &[u8], at: usize) -> NumberRead
-    ensures { λ r. ⌜ number r ≡ typeAt (now (s .entry)) at ⌝ }
+pub fn type_at_in(dialect: Dialect, s: &[u8], at: usize) -> NumberRead
+    requires { ⌜ NoWider dialect ⌝ }
+    ensures { λ r. ⌜ number r ≡ typeAtIn dialect (now (s .entry)) at ⌝ }
 {
     let read = byte_below(s, at, 5);
     let NumberRead::Found(count) = read else {
         return read;
     };
-    groups_then_kind(s, count.next, count.value)
+    groups_then_kind(dialect, s, count.next, count.value)
+}
+
+// The same in the current dialect.
+pub fn type_at(s: &[u8], at: usize) -> NumberRead
+    ensures { λ r. ⌜ number r ≡ typeAt (now (s .entry)) at ⌝ }
+{
+    type_at_in(current(), s, at)
 }

@@ -31,7 +31,7 @@ abbrev receiving : Process
 receiving = input 0 16 (input 2 0 nil)
 
 abbrev w : Sheet
-w = record { free = 1040 ∷ 16 ∷ []; system = groupₛ 0 (parₛ (compₛ 1 sending) (compₛ 2 receiving)) }
+w = record { free = 1040 ∷ 16 ∷ []; system = groupₛ 0 (parₛ (compₛ (record { group = 1 }) sending) (compₛ (record { group = 2 }) receiving)) }
 
 -- W's charter with permissions for node 1: W's own, and none.
 abbrev charter : Permissions → List Tree

@@ -9,7 +9,7 @@ use lib.Dec.{eqb}
 use borrow.Author.Tests.{eq-eqb, ne-eqb}
 use Rattle.reading.specs.Syntax.{Process, nil, par, new, input, output, repl, System, nilₛ, parₛ, groupₛ, newₛ, compₛ, Sheet, components}
 use Rattle.inference.specs.Lists.{gather, only}
-use Rattle.inference.specs.Acts.{Component, Act, acts, Located, locate, located, actsOf, sheetActs}
+use Rattle.inference.specs.Acts.{Component, componentAt, Act, acts, Located, locate, located, actsOf, sheetActs}
 use Rattle.running.specs.Guarantees.{ofComponent}
 use Rattle.running.proofs.Alls.{All, done, also, all-append, all-map, all-both, all-member, gather-append}
 
@@ -71,7 +71,7 @@ record Within (m n : ℕ) (l : Located) : Type 0 where
   high : l .component .number < n
 
 numbers : (m : ℕ) (path : List ℕ) (scope : List (Option ℕ)) (s : System) → All (Within m (m + components s)) (locate m path scope s)
-unfolding locate components
+unfolding locate componentAt components
 numbers m path scope nilₛ = done
 numbers m path scope (parₛ p q) =
     all-append
@@ -79,7 +79,7 @@ numbers m path scope (parₛ p q) =
     (all-map (λ l (h : Within (m + components p) (m + components p + components q) l). record { low = omega arith; high = omega arith }) (numbers (m + components p) path scope q))
 numbers m path scope (groupₛ g p) = numbers m (path ++ (g ∷ [])) scope p
 numbers m path scope (newₛ t p) = numbers m path (scope ++ (some t ∷ [])) p
-numbers m path scope (compₛ g p) =
+numbers m path scope (compₛ fields p) =
     let a : m ≤ m = omega arith in
     let b : m < m + 1 = omega arith in
     also (record { low = a; high = b }) done
@@ -114,7 +114,7 @@ own m path scope (parₛ p q) =
     (all-both (λ l h e. right-own l (locate m path scope p) (locate (m + components p) path scope q) m (m + components p) (m + components p + components q) h nl e) nr (own (m + components p) path scope q))
 own m path scope (groupₛ g p) = own m (path ++ (g ∷ [])) scope p
 own m path scope (newₛ t p) = own m path (scope ++ (some t ∷ [])) p
-own m path scope (compₛ g p) = also (own-one (record { component = record { number = m; path = path ++ (g ∷ []) }; scope = scope; process = p })) done
+own m path scope (compₛ fields p) = also (own-one (record { component = componentAt m path fields; scope = scope; process = p })) done
 
 pub component-acts : (sheet : Sheet) (l : Located) → List·Memᴰ l (located sheet) → ofComponent (l .component .number) (sheetActs sheet) ≡ actsOf l
 unfolding sheetActs located

@@ -9,7 +9,7 @@ use borrow.Author.Tests.{eq-eqb}
 use lib.Dec.{eqb}
 use lib.ListN.{length}
 use Rattle.reading.specs.Syntax.{Process, nil, par, new, input, output, repl, System, nilₛ, parₛ, groupₛ, newₛ, compₛ, Sheet, components}
-use Rattle.inference.specs.Acts.{Component, Located, locate, located}
+use Rattle.inference.specs.Acts.{Component, componentAt, Located, locate, located}
 use Rattle.running.specs.State.{Thread, State}
 use Rattle.running.specs.Products.{news, threadsOf, systemThreads, systemNews, start}
 use Rattle.running.specs.Moves.{Move, unfoldRepl, sendOut, receiveIn, communicate, environmentName, Result, made, singles, join, after, nowKnown, unfoldStep, sendStep, receiveStep, communicateStep, environmentStep, step, stateAfter, runStates}
@@ -42,7 +42,7 @@ module _ (C : Component → Type 0) where
       (all-right (locate m path scope l) (locate (m + components l) path scope r) h))
   system-homed m path names scope next (groupₛ g p) h = system-homed m (path ++ (g ∷ [])) names scope next p h
   system-homed m path names scope next (newₛ t p) h = system-homed m path (names ++ (next ∷ [])) (scope ++ (_ ∷ [])) (next + 1) p h
-  system-homed m path names scope next (compₛ g p) h = made-homed (record { number = m; path = path ++ (g ∷ []) }) names next p (all-head h)
+  system-homed m path names scope next (compₛ own p) h = made-homed (componentAt m path own) names next p (all-head h)
 
   -- What a move leads to.
   abbrev Homes : State → Result → Type 0

@@ -10,7 +10,7 @@ use mathlib.Core.Path.{_≡_, refl, ap, ap₂, _∙_}
 use lib.ListN.{length, getElem?, length-append}
 use Rattle.reading.specs.Syntax.{Process, nil, par, new, input, output, repl, System, nilₛ, parₛ, groupₛ, newₛ, compₛ, Sheet, components}
 use Rattle.inference.specs.Lists.{gather, rising}
-use Rattle.inference.specs.Acts.{Component, Act, acts, locate, located, actsOf, sheetActs}
+use Rattle.inference.specs.Acts.{Component, componentAt, Act, acts, locate, located, actsOf, sheetActs}
 use Rattle.running.specs.State.{Thread}
 use Rattle.running.specs.Products.{news, threadsOf, systemNews, systemThreads, start}
 use Rattle.running.specs.Guarantees.{scopeOf, threadActs, stateActs}
@@ -137,9 +137,9 @@ made-system m path τ σ names next (newₛ t p) e b =
     let k : scopeOf (τ ++ (t ∷ [])) (names ++ (next ∷ [])) ≡ scopeOf τ names ++ (some t ∷ []) = scope-new τ names t next e b in
     let a : (τ ++ (t ∷ [])) ++ (systemNews p ++ σ) ≡ τ ++ (t ∷ (systemNews p ++ σ)) = append-assoc τ (t ∷ []) (systemNews p ++ σ) in
     rw (k, a) at r
-made-system m path τ σ names next (compₛ g p) e b =
-    rw (append-nil (acts (record { number = m; path = path ++ (g ∷ []) }) false (scopeOf τ names) p))
-    (products (record { number = m; path = path ++ (g ∷ []) }) τ σ names next p e b)
+made-system m path τ σ names next (compₛ own p) e b =
+    rw (append-nil (acts (componentAt m path own) false (scopeOf τ names) p))
+    (products (componentAt m path own) τ σ names next p e b)
 
 -- The free names are 0, 1, .., and have their own types.
 bound-rising : (τ : List ℕ) (k n : ℕ) → k + n ≤ length τ → Bound τ (rising k n)

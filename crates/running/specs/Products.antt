@@ -6,7 +6,7 @@ use mathlib.Core.Bool.{true, false}
 use lib.ListN.{length, replicate}
 use Rattle.reading.specs.Syntax.{Process, nil, par, new, input, output, repl, System, nilₛ, parₛ, groupₛ, newₛ, compₛ, Sheet, components}
 use Rattle.inference.specs.Lists.{rising}
-use Rattle.inference.specs.Acts.{Component}
+use Rattle.inference.specs.Acts.{Component, componentAt}
 use Rattle.running.specs.State.{Thread, State}
 
 -- the types of the new names that a process makes at once
@@ -33,7 +33,7 @@ systemNews nilₛ = []
 systemNews (parₛ l r) = systemNews l ++ systemNews r
 systemNews (groupₛ g p) = systemNews p
 systemNews (newₛ t p) = t ∷ systemNews p
-systemNews (compₛ g p) = news p
+systemNews (compₛ own p) = news p
 
 unfoldable pub systemThreads : ℕ → List ℕ → List ℕ → ℕ → System → List Thread
 systemThreads number path names next nilₛ = []
@@ -42,7 +42,7 @@ systemThreads number path names next (parₛ l r) =
     ++ systemThreads (number + components l) path names (next + length (systemNews l)) r
 systemThreads number path names next (groupₛ g p) = systemThreads number (path ++ (g ∷ [])) names next p
 systemThreads number path names next (newₛ t p) = systemThreads number path (names ++ (next ∷ [])) (next + 1) p
-systemThreads number path names next (compₛ g p) = threadsOf (record { number = number; path = path ++ (g ∷ []) }) names next p
+systemThreads number path names next (compₛ own p) = threadsOf (componentAt number path own) names next p
 
 -- "The start is the free names with their types and what the sheet's system makes of threads and new names." "Only free names are
 -- known outside at the start."

@@ -3,14 +3,15 @@
 use Prim.Native.Nat.{ℕ}
 use mathlib.Core.List.{List, _++_}
 use lib.ListN.{length, drop, replicate}
+use Rattle.reading.specs.Dialects.{current}
 use Rattle.reading.specs.Read.{andThen, byteAt, below}
-use Rattle.reading.specs.Types.{channel, shape, groupsThenKind, typeAt}
+use Rattle.reading.specs.Types.{channel, shape, groupsThenKindIn, typeAtIn}
 use Rattle.reading.specs.Syntax.{components}
-use Rattle.reading.specs.Forms.{member, limited, newForm, inputForm, outputForm, freshGroup, groupForm, componentForm, processForm, processAt, systemForm, systemAt}
-use Rattle.reading.specs.System.{processFrom, readProcess, component, systemFrom, readSystem, freeTypes, header, toItsEnd, readSheet, sheetOf}
+use Rattle.reading.specs.Forms.{member, limited, newFormIn, inputFormIn, outputForm, freshGroupIn, groupFormIn, componentFormIn, processFormIn, processAtIn, systemFormIn, systemAtIn}
+use Rattle.reading.specs.System.{processFrom, readProcessIn, component, systemFrom, readSystemIn, freeTypesIn, headerIn, toItsEnd, readSheetIn, sheetOfIn}
 use Rattle.inference.specs.Lists.{every, any, only, gather, rising}
 use Rattle.inference.specs.Counts.{_⊕_, atMost, isZero, repeatedly, countNumber}
-use Rattle.inference.specs.Acts.{typeOf, locate, located, acts, actsOf, sheetActs}
+use Rattle.inference.specs.Acts.{componentAt, typeOf, locate, located, acts, actsOf, sheetActs}
 use Rattle.inference.specs.Typing.{isKnown, ofShape, ofChannel, isType, inScope, onChannel, carriesObject, inPath}
 use Rattle.inference.specs.Needs.{linkNeed, carriedNeed, channelNeed, need, needOn, needOf, isRead, isWrite, isAccess, disclosures, weigh, total, disclosed}
 use Rattle.inference.specs.Interface.{disclosuresOf, entryOf, isEmpty, holdsAny, entriesOf, interface, flagged, permissions, bit, mapOf, disclosureBytes, listBytes, entryBytes, interfaceBytes}
@@ -23,7 +24,7 @@ use Rattle.service.specs.Questions.{passed, failed, ask, afterReading, t
 use Rattle.service.specs.Check.{Outcome, fitting, interfaceFor, written, checked}
 
 unfoldable pub computed : Unit {0}
-unfolding andThen byteAt below channel shape groupsThenKind typeAt components member limited newForm inputForm outputForm freshGroup groupForm componentForm processForm processAt systemForm systemAt processFrom readProcess component systemFrom readSystem freeTypes header toItsEnd readSheet sheetOf every any only gather rising _⊕_ atMost isZero repeatedly countNumber typeOf locate located acts actsOf sheetActs isKnown ofShape ofChannel isType inScope onChannel carriesObject inPath linkNeed carriedNeed channelNeed need needOn needOf isRead isWrite isAccess disclosures weigh total disclosed disclosuresOf entryOf isEmpty holdsAny entriesOf interface flagged permissions bit mapOf disclosureBytes listBytes entryBytes interfaceBytes hasBit alone headsOf heads asEleven must twoBytes isCount itemAt readList countedList readPermissions children readNode readTrees readPolicy distinct kindsDistinct newBelow noneAbove sameList samePermissions agree allAgree sameHeads disclosedTo groupsAt keepsWithin allKeep fenced reachedAmong reached treeFor reachedIn reachedFor givenBy flagGranted storedCount listed joined countGranted isTree hasTree pathReached grantsOne covered ask afterReading typed wellFormed satisfied judged fitting interfaceFor written checked
+unfolding current andThen byteAt below channel shape groupsThenKindIn typeAtIn components member limited newFormIn inputFormIn outputForm freshGroupIn groupFormIn componentFormIn processFormIn processAtIn systemFormIn systemAtIn processFrom readProcessIn component systemFrom readSystemIn freeTypesIn headerIn toItsEnd readSheetIn sheetOfIn every any only gather rising _⊕_ atMost isZero repeatedly countNumber componentAt typeOf locate located acts actsOf sheetActs isKnown ofShape ofChannel isType inScope onChannel carriesObject inPath linkNeed carriedNeed channelNeed need needOn needOf isRead isWrite isAccess disclosures weigh total disclosed disclosuresOf entryOf isEmpty holdsAny entriesOf interface flagged permissions bit mapOf disclosureBytes listBytes entryBytes interfaceBytes hasBit alone headsOf heads asEleven must twoBytes isCount itemAt readList countedList readPermissions children readNode readTrees readPolicy distinct kindsDistinct newBelow noneAbove sameList samePermissions agree allAgree sameHeads disclosedTo groupsAt keepsWithin allKeep fenced reachedAmong reached treeFor reachedIn reachedFor givenBy flagGranted storedCount listed joined countGranted isTree hasTree pathReached grantsOne covered ask afterReading typed wellFormed satisfied judged fitting interfaceFor written checked
 computed = tt
 
 -- What a row wants: the bytes written, or the number of the question that fails.

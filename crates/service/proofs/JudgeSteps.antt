@@ -11,7 +11,7 @@ use borrow.Author.Needs.{needs}
 use borrow.Author.Tests.{lt-ltb, le-ltb}
 use Rattle.reading.specs.Read.{Read, got, refused}
 use Rattle.reading.specs.Syntax.{Sheet, components}
-use Rattle.reading.specs.System.{readSheet, sheetOf}
+use Rattle.reading.specs.System.{readSheet, sheetOfIn, sheetOf}
 use Rattle.reading.specs.Told.{number, countedIn, refusalOf, whyNone}
 use Rattle.reading.specs.declared.End.{End}
 use Rattle.reading.specs.declared.End.the-variants as end-case
@@ -90,7 +90,7 @@ pub ruleset policy-judging = (needs, not-read, bounded, policy-decides, entries-
 
 -- Questions 7 to 18 of a sheet that reads.
 pub sheet-reads : (s c : List ℕ) (sheet : Sheet) (k : ℕ) → sheetOf s c ≡ got sheet k → readSheet s ≡ got sheet k
-unfolding sheetOf
+unfolding sheetOfIn
 sheet-reads s c sheet k e = test-passed (leb (length s) 4096 && leb (length c) 4096) (readSheet s) 1 4096 e .then
 
 abbrev Infers : List ℕ → List ℕ → List ℕ → SystemWalk → Type 0

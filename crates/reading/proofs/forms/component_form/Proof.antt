@@ -1,12 +1,12 @@
 -- `component_form` reads the group of a component, where there is room for one: each answer of its callee decides its own.
 use Rattle.reading.proofs.Steps.{steps}
-use Rattle.reading.specs.Forms.{componentForm}
+use Rattle.reading.specs.Forms.{componentFormIn}
 use borrow.Author.Needs.{needs}
 use Rattle.reading.proofs.forms.component_form.Statement.{statement}
 use Rattle.reading.proofs.forms.component_form.Tie as tie
 
 pub component-form-spec : {M : Type 1} → statement M
-unfolding componentForm
+unfolding componentFormIn
 component-form-spec =
     tie.close
     (tie.spec

@@ -1,12 +1,12 @@
 -- `group_form` reads the group of a group form, where there is room for one: each answer of its callee decides its own.
 use Rattle.reading.proofs.Steps.{steps}
-use Rattle.reading.specs.Forms.{groupForm}
+use Rattle.reading.specs.Forms.{groupFormIn}
 use borrow.Author.Needs.{needs}
 use Rattle.reading.proofs.forms.group_form.Statement.{statement}
 use Rattle.reading.proofs.forms.group_form.Tie as tie
 
 pub group-form-spec : {M : Type 1} → statement M
-unfolding groupForm
+unfolding groupFormIn
 group-form-spec =
     tie.close
     (tie.spec

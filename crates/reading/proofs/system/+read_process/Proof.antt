@@ -7,13 +7,13 @@ use borrow.Fn.PlainCycle.{Measures, is, falls, and}
 use Rattle.reading.proofs.system.read_process.Reads as read-process
 use Rattle.reading.proofs.system.read_process.Kinds as read-process-kinds
 use Rattle.reading.proofs.system.+read_process.Lts-read_process as read-process-lts
-use Rattle.reading.proofs.forms.process_at.Reads as process-at-reads
+use Rattle.reading.proofs.forms.process_at_in.Reads as process-at-in-reads
 use Rattle.reading.proofs.system.why.Reads as why-reads
 use Rattle.reading.proofs.system.+read_process.{statement}
 use Rattle.reading.proofs.system.+read_process.Tie.{close}
 
 abbrev μ-read-process : Measures 1 read-process-kinds.ps ℕ
-μ-read-process κs a = a .1 .1 .0
+μ-read-process κs a = a .1 .1 .1 .0
 
 abbrev read-process-at : ℕ → In 1 read-process-kinds.ps
 read-process-at t =
@@ -29,8 +29,8 @@ read-process-below t =
 
 pub +read-process-spec : {M : Type 1} → statement M
 +read-process-spec = close μ-read-process λ t. read-process-lts.spec (
-  process-at-reads.Asked,
-  process-at-reads.Learnt,
+  process-at-in-reads.Asked,
+  process-at-in-reads.Learnt,
   why-reads.Asked,
   why-reads.Learnt,
   read-process-below t,

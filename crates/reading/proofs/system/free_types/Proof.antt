@@ -6,10 +6,10 @@ use Rattle.reading.proofs.system.free_types.Statement.{statement}
 use Rattle.reading.proofs.system.free_types.Tie as tie
 
 abbrev Inv-loop : tie.InvT-loop
-Inv-loop s at count next₀ left₀ next left = TypesLeft s at count next left
+Inv-loop dialect s at count next₀ left₀ next left = TypesLeft dialect s at count next left
 
 abbrev μ-loop : tie.MeasureT-loop
-μ-loop s at count next₀ left₀ next left = left
+μ-loop dialect s at count next₀ left₀ next left = left
 
 pub free-types-spec : {M : Type 1} → statement M
 free-types-spec =

@@ -13,7 +13,7 @@ use Rattle.reading.proofs.types.+groups_then_kind.{statement}
 use Rattle.reading.proofs.types.+groups_then_kind.Tie.{close}
 
 abbrev μ-groups-then-kind : Measures 1 groups-then-kind-kinds.ps ℕ
-μ-groups-then-kind κs a = a .1 .1 .0
+μ-groups-then-kind κs a = a .1 .1 .1 .0
 
 abbrev groups-then-kind-at : ℕ → In 1 groups-then-kind-kinds.ps
 groups-then-kind-at t =

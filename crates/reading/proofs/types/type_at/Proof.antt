@@ -1,18 +1,8 @@
--- `type_at` reads the count of groups, which is at most four, and then the type.
-use Rattle.reading.proofs.TypeSteps.{type-steps}
-use Rattle.reading.specs.Types.{typeAt}
+-- `type_at` reads in the current dialect.
 use borrow.Author.Needs.{needs}
+use Rattle.reading.proofs.CurrentSteps.{current-steps}
 use Rattle.reading.proofs.types.type_at.Statement.{statement}
 use Rattle.reading.proofs.types.type_at.Tie as tie
 
 pub type-at-spec : {M : Type 1} → statement M
-unfolding typeAt
-type-at-spec =
-    tie.close
-    (tie.spec
-    (λ c κs. search needs)
-    (λ c. search needs)
-    (λ c. search needs)
-    (λ c. search type-steps)
-    (λ c κs. search type-steps)
-    (λ c. search type-steps))
+type-at-spec = tie.close (tie.spec (λ c κs. search needs) (λ c κs. search current-steps) (λ c. search current-steps))

@@ -1,0 +1,32 @@
+-- `process_at_in` reads a code byte, and each arm of its match is one arm of the definition (FormSteps.antt).
+use Rattle.reading.proofs.FormSteps.{process-forms}
+use Rattle.reading.specs.Forms.{processAtIn}
+use borrow.Author.Needs.{needs}
+use Rattle.reading.proofs.forms.process_at_in.Statement.{statement}
+use Rattle.reading.proofs.forms.process_at_in.Tie as tie
+
+pub process-at-in-spec : {M : Type 1} → statement M
+unfolding processAtIn
+process-at-in-spec =
+    tie.close
+    (tie.spec
+    (λ c κs. search needs)
+    (λ c. search needs)
+    (λ c. search needs)
+    (λ c κs. search needs)
+    (λ c. search process-forms)
+    (λ c κs. search needs)
+    (λ c κs. search needs)
+    (λ c κs. search needs)
+    (λ c κs. search needs)
+    (λ c κs. search needs)
+    (λ c κs. search needs)
+    (λ c κs. search needs)
+    (λ c κs. search needs)
+    (λ c. search process-forms)
+    (λ c. search process-forms)
+    (λ c. search process-forms)
+    (λ c. search process-forms)
+    (λ c. search process-forms)
+    (λ c. search process-forms)
+    (λ c. search process-forms))
