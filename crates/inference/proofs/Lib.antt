@@ -1,4 +1,5 @@
 -- The lemmas that the proofs of the functions share, and laws of the definitions.
+pub mod NeedLaws
 pub mod NeedSteps
 pub mod RowSteps
 pub mod PathRows

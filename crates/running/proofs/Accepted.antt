@@ -1,26 +1,23 @@
 -- What questions 1 to 18 answered "passed" say of a sheet and its policy: every act passes questions 7 to 10, every permission
 -- that an act needs is granted to its path, and what a component's process discloses is at most what its path is granted.
-use Prim.Native.Nat.{ℕ, zero, suc, _+_, _-_, _/_, _%_, _<_, _≤_}
+use Prim.Native.Nat.{ℕ, zero, suc, _+_, _<_, _≤_}
 use native.Mathlib.Omega.{arith}
 use mathlib.Core.Bool.{Bool, true, false, cond, not, _||_}
 use mathlib.Core.List.{List, [], _∷_, _++_, map, List·Memᴰ, List·Memᴰ·head, List·Memᴰ·tail}
-use mathlib.Core.Option.{Option, some, none}
 use mathlib.Core.Path.{_≡_, refl, ap}
-use lib.Dec.{eqb, ltb}
-use borrow.Author.Tests.{eqb-true, eqb-false, eq-eqb, ltb-true, le-leb}
+use lib.Dec.{eqb}
+use borrow.Author.Tests.{eqb-true, eqb-false, eq-eqb, le-leb}
 use Rattle.reading.specs.Read.{Read, got, refused}
-use Rattle.reading.specs.Types.{shape}
-use Rattle.reading.specs.declared.Shape.{Shape}
-use Rattle.reading.specs.declared.Shape.the-variants.{Plain, Channel}
 use Rattle.inference.specs.Lists.{every, any, only, gather, rising}
 use Rattle.inference.specs.Counts.{Count, fin, unlimited, _⊕_, atMost, isZero, repeatedly}
 use Rattle.inference.specs.Acts.{Act, Located, located, actsOf, sheetActs}
 use Rattle.inference.specs.Typing.{inScope, onChannel, carriesObject, inPath}
-use Rattle.inference.specs.Needs.{linkNeed, carriedNeed, channelNeed, need, needOn, needOf, isRead, isWrite, isAccess, disclosures, weigh, total, disclosed}
+use Rattle.inference.specs.Needs.{needOf, isRead, isWrite, isAccess, disclosures, weigh, total, disclosed}
 use Rattle.inference.specs.declared.Need.{Need}
 use Rattle.inference.specs.declared.Need.the-variants.{Nothing, Read as Reads, Write as Writes, Access as Accesses, Disclose as Discloses}
 use Rattle.inference.specs.Interface.{Disclosure, Entry, Permission, reading, writing, accessing, disclosing, disclosuresOf, entryOf, isEmpty, holdsAny, entriesOf, interface, flagged, permissions}
 use Rattle.inference.proofs.CountLaws.{join-comm, at-most-self, at-most-trans, at-most-joined}
+use Rattle.inference.proofs.NeedLaws.{NeedRange, act-range}
 use Rattle.policy.specs.Syntax.{Tree}
 use Rattle.policy.specs.WellFormed.{kindsDistinct, noneAbove, sameHeads, fenced}
 use Rattle.fit.specs.Grants.{flagGranted, countGranted}
@@ -218,50 +215,6 @@ module _ (policy : List Tree) (l : Located) (cover : All (λ e. covered policy e
       go true e = zero-at-most (disclosed k h (actsOf l)) (countGranted h policy k (l .component .path)) e
       go false e = counted k h i j e
 
--- Kinds are below 16 and groups below 64.
-abbrev ShapeRange : Shape → Type 0
-ShapeRange (Plain k) = k < 16
-ShapeRange (Channel g t) = g < 64
-
-shape-range : (t : ℕ) → ShapeRange (shape t)
-unfolding shape
-shape-range t = go (ltb t 16) refl
-  where
-    go : (b : Bool) → ltb t 16 ≡ b → ShapeRange (cond b (Plain t) (Channel ((t - 16) % 64) ((t - 16) / 64)))
-    go true e = ltb-true t 16 e
-    go false e = omega arith
-
-abbrev NeedRange : Need → Type 0
-NeedRange Nothing = Unit {0}
-NeedRange (Reads k) = k < 16
-NeedRange (Writes k) = k < 16
-NeedRange (Accesses k) = k < 16
-NeedRange (Discloses k g) = (k < 16) × (g < 64)
-
-link-range : (b : Bool) (g : ℕ) (s : Shape) → g < 64 → ShapeRange s → NeedRange (linkNeed b g s)
-unfolding linkNeed
-link-range false g (Plain t) h r = r
-link-range true g (Plain t) h r = (r, h)
-link-range false g (Channel k u) h r = tt
-link-range true g (Channel k u) h r = tt
-
-carried-range : (b : Bool) (g : ℕ) (s : Shape) → g < 64 → ShapeRange s → NeedRange (carriedNeed b g s)
-unfolding carriedNeed
-carried-range false g (Plain t) h r = r
-carried-range true g (Plain t) h r = r
-carried-range false g (Channel k u) h r = link-range false g (shape u) h (shape-range u)
-carried-range true g (Channel k u) h r = link-range true g (shape u) h (shape-range u)
-
-channel-range : (b : Bool) (s : Shape) → ShapeRange s → NeedRange (channelNeed b s)
-unfolding channelNeed
-channel-range b (Plain t) r = tt
-channel-range b (Channel g t) r = carried-range b g (shape t) r (shape-range t)
-
-need-range : (b : Bool) (o : Option ℕ) → NeedRange (needOn b o)
-unfolding needOn need
-need-range b none = tt
-need-range b (some t) = channel-range b (shape t) (shape-range t)
-
 -- An act of a list weighs at most what the list weighs.
 weigh-least : (b : Bool) (n : ℕ) → atMost (fin n) (weigh b n) ≡ true
 unfolding weigh repeatedly atMost
@@ -280,7 +233,7 @@ weight-member w a (List·Memᴰ·tail {x = x} {xs = xs} m) =
 -- What an act of a covered process needs is granted to its path.
 module _ (policy : List Tree) (l : Located) (cover : All (λ e. covered policy e ≡ true) (entriesOf l)) where
   needed : (a : Act) → List·Memᴰ a (actsOf l) → (n : Need) → needOf a ≡ n → NeedRange n → grantsNeed policy (l .component .path) n ≡ true
-  unfolding grantsNeed isRead isWrite isAccess disclosures disclosed
+  unfolding grantsNeed NeedRange isRead isWrite isAccess disclosures disclosed
   needed a m Nothing e r = refl
   needed a m (Reads k) e r = read-granted policy l cover k r (any-member (λ b. isRead k (needOf b)) a m (rw e (eq-eqb k k refl)))
   needed a m (Writes k) e r = write-granted policy l cover k r (any-member (λ b. isWrite k (needOf b)) a m (rw e (eq-eqb k k refl)))
@@ -294,7 +247,7 @@ module _ (policy : List Tree) (l : Located) (cover : All (λ e. covered policy e
   unfolding needOf actsOf
   need-granted a m =
       let c : a .component ≡ l .component = all-member m (acts-component (l .component) false (l .scope) (l .process)) in
-      rw c (needed a m (needOf a) refl (need-range (a .sends) (a .channel)))
+      rw c (needed a m (needOf a) refl (act-range a))
 
 covers : (s c : List ℕ) (a : Accepted) → judged s c ≡ passed a → (l : Located) → List·Memᴰ l (located (a .sheet)) → All (λ e. covered (a .policy) e ≡ true) (entriesOf l)
 unfolding interface
