@@ -8,5 +8,6 @@ pub mod WalkSteps
 pub mod SystemSteps
 pub mod SheetSteps
 pub mod CountLaws
+pub mod RequiredLaws
 pub mod ActLaws
 pub mod FaultLaws

@@ -15,9 +15,10 @@ use Rattle.inference.specs.Typing.{inScope, onChannel, carriesObject, inPath}
 use Rattle.inference.specs.Needs.{needOf, isRead, isWrite, isAccess, disclosures, weigh, total, disclosed}
 use Rattle.inference.specs.declared.Need.{Need}
 use Rattle.inference.specs.declared.Need.the-variants.{Nothing, Read as Reads, Write as Writes, Access as Accesses, Disclose as Discloses}
-use Rattle.inference.specs.Interface.{Disclosure, Entry, Permission, reading, writing, accessing, disclosing, disclosuresOf, entryOf, isEmpty, holdsAny, entriesOf, interface, flagged, permissions}
+use Rattle.inference.specs.Interface.{Disclosure, Permission, reading, writing, accessing, disclosing, disclosuresOf, entryOf, isEmpty, holdsAny, entriesOf, interface, flagged, permissions, Required, requiredOf, needed}
 use Rattle.inference.proofs.CountLaws.{join-comm, at-most-self, at-most-trans, at-most-joined}
 use Rattle.inference.proofs.NeedLaws.{NeedRange, act-range}
+use Rattle.inference.proofs.RequiredLaws.{needed-acts}
 use Rattle.policy.specs.Syntax.{Tree}
 use Rattle.policy.specs.WellFormed.{kindsDistinct, noneAbove, sameHeads, fenced}
 use Rattle.fit.specs.Grants.{flagGranted, countGranted}
@@ -65,13 +66,16 @@ formed-rest : {A : Type 0} (policy : List Tree) (rest : Asked A) (a : A) → wel
 unfolding wellFormed
 formed-rest policy rest a h = ask-rest 15 (fenced policy) _ a (ask-rest 14 (sameHeads policy) _ a (ask-rest 13 (noneAbove policy) _ a (ask-rest 12 (kindsDistinct policy) _ a h)))
 
-satisfied-yes : {A : Type 0} (policy : List Tree) (es : List Entry) (rest : Asked A) (a : A) → satisfied policy es rest ≡ passed a → every (covered policy) es ≡ true
-unfolding satisfied
-satisfied-yes policy es rest a h = ask-yes 18 (every (covered policy) es) _ a (ask-rest 17 (every (pathReached policy) es) _ a (ask-rest 16 (every (hasTree policy) es) _ a h))
+module _ {A : Type 0} (policy : List Tree) (required : Required) (rest : Asked A) (a : A) (h : satisfied policy required rest ≡ passed a) where
+  last-asked : ask 18 (every (covered policy required) (required .entries)) rest ≡ passed a
+  unfolding satisfied
+  last-asked = ask-rest 17 (every (pathReached policy) (required .entries)) _ a (ask-rest 16 (every (hasTree policy) (required .entries)) _ a h)
 
-satisfied-rest : {A : Type 0} (policy : List Tree) (es : List Entry) (rest : Asked A) (a : A) → satisfied policy es rest ≡ passed a → rest ≡ passed a
-unfolding satisfied
-satisfied-rest policy es rest a h = ask-rest 18 (every (covered policy) es) _ a (ask-rest 17 (every (pathReached policy) es) _ a (ask-rest 16 (every (hasTree policy) es) _ a h))
+  satisfied-yes : every (covered policy required) (required .entries) ≡ true
+  satisfied-yes = ask-yes 18 (every (covered policy required) (required .entries)) _ a last-asked
+
+  satisfied-rest : rest ≡ passed a
+  satisfied-rest = ask-rest 18 (every (covered policy required) (required .entries)) _ a last-asked
 
 on-reading : {A B : Type 0} (R : Type 0) (r : Read A) (f : A → Asked B) (b : B) → afterReading r f ≡ passed b → ((x : A) → f x ≡ passed b → R) → R
 unfolding afterReading
@@ -81,7 +85,7 @@ on-reading R (refused q at) f b h go = let z : _≡_ {A = ℕ} 0 1 = cc in absur
 -- Questions 7 to 10 and 18 of what is accepted.
 record Passed (a : Accepted) : Type 0 where
   acts-typed : Typed (sheetActs (a .sheet))
-  entries-covered : every (covered (a .policy)) (interface (a .sheet)) ≡ true
+  entries-covered : every (covered (a .policy) (requiredOf (a .sheet))) (requiredOf (a .sheet) .entries) ≡ true
 
 passed-as : (a b : Accepted) → passed a ≡ passed b → Passed a → Passed b
 passed-as a b e p = let z : a ≡ b = cc in rw z at p
@@ -92,9 +96,9 @@ judged-passed s c a h =
     on-reading (Passed a) _ _ a h (λ sheet k.
     let t : Typed (sheetActs sheet) = typed-yes (sheetActs sheet) _ a k in
     on-reading (Passed a) _ _ a (typed-rest (sheetActs sheet) _ a k) (λ policy l.
-    let m : satisfied policy (interface sheet) (passed (record { sheet = sheet; policy = policy })) ≡ passed a = formed-rest policy _ a l in
-    passed-as (record { sheet = sheet; policy = policy }) a (satisfied-rest policy (interface sheet) _ a m)
-    (record { acts-typed = t; entries-covered = satisfied-yes policy (interface sheet) _ a m })))
+    let m : satisfied policy (requiredOf sheet) (passed (record { sheet = sheet; policy = policy })) ≡ passed a = formed-rest policy _ a l in
+    passed-as (record { sheet = sheet; policy = policy }) a (satisfied-rest policy (requiredOf sheet) _ a m)
+    (record { acts-typed = t; entries-covered = satisfied-yes policy (requiredOf sheet) _ a m })))
 
 passes-all : (a : Act) → inScope a ≡ true → onChannel a ≡ true → carriesObject a ≡ true → inPath a ≡ true → passes a ≡ true
 unfolding passes
@@ -153,12 +157,12 @@ zero-at-most (fin (suc m)) b h = let z : _≡_ {A = ℕ} 0 1 = cc in absurd (ome
 zero-at-most unlimited b h = let z : _≡_ {A = ℕ} 0 1 = cc in absurd (omega arith)
 
 -- An entry with a permission is in the interface, and so each of its permissions is granted.
-module _ (policy : List Tree) (l : Located) (cover : All (λ e. covered policy e ≡ true) (entriesOf l)) where
+module _ (policy : List Tree) (required : Required) (l : Located) (cover : All (λ e. covered policy required e ≡ true) (entriesOf l)) where
   granted-at : (k : ℕ) → k < 16 → holdsAny (entryOf (l .component) (actsOf l) k) ≡ true
-      → All (λ p. grantsOne policy (entryOf (l .component) (actsOf l) k) p ≡ true) (permissions (entryOf (l .component) (actsOf l) k))
+      → All (λ p. grantsOne policy required (entryOf (l .component) (actsOf l) k) p ≡ true) (permissions (entryOf (l .component) (actsOf l) k))
   unfolding entriesOf covered
   granted-at k h e =
-      all-every (grantsOne policy (entryOf (l .component) (actsOf l) k)) (permissions (entryOf (l .component) (actsOf l) k))
+      all-every (grantsOne policy required (entryOf (l .component) (actsOf l) k)) (permissions (entryOf (l .component) (actsOf l) k))
       (kept-at holdsAny (entryOf (l .component) (actsOf l)) 0 16 k cover (omega arith) (omega arith) e)
 
   read-granted : (k : ℕ) → k < 16 → any (λ a. isRead k (needOf a)) (actsOf l) ≡ true → flagGranted 1 policy k (l .component .path) ≡ true
@@ -199,13 +203,15 @@ module _ (policy : List Tree) (l : Located) (cover : All (λ e. covered policy e
       let q : holdsAny (entryOf (l .component) (actsOf l) k) ≡ true
       = or-second (any (λ a. isRead k (needOf a)) (actsOf l) || any (λ a. isWrite k (needOf a)) (actsOf l)) _
       (or-second (any (λ a. isAccess k (needOf a)) (actsOf l)) _ (ap not n)) in
-      let g : All (λ p. grantsOne policy (entryOf (l .component) (actsOf l) k) p ≡ true) (map (λ d. disclosing (d .group) (d .count)) (disclosuresOf k (actsOf l)))
+      let g : All (λ p. grantsOne policy required (entryOf (l .component) (actsOf l) k) p ≡ true) (map (λ d. disclosing (d .group)) (disclosuresOf k (actsOf l)))
       = all-right (flagged (any (λ a. isAccess k (needOf a)) (actsOf l)) accessing) _
       (all-right (flagged (any (λ a. isWrite k (needOf a)) (actsOf l)) writing) _
       (all-right (flagged (any (λ a. isRead k (needOf a)) (actsOf l)) reading) _ (granted-at k i q))) in
-      kept-at {R = λ d. grantsOne policy (entryOf (l .component) (actsOf l) k) (disclosing (d .group) (d .count)) ≡ true}
+      let w : atMost (needed required (entryOf (l .component) (actsOf l) k) h) (countGranted h policy k (l .component .path)) ≡ true
+      = kept-at {R = λ d. grantsOne policy required (entryOf (l .component) (actsOf l) k) (disclosing (d .group)) ≡ true}
       (λ d. not (isZero (d .count))) (λ g. record { group = g; count = disclosed k g (actsOf l) }) 0 64 h
-      (all-unmap (λ (d : Disclosure). disclosing (d .group) (d .count)) (disclosuresOf k (actsOf l)) g) (omega arith) (omega arith) (ap not e)
+      (all-unmap (λ (d : Disclosure). disclosing (d .group)) (disclosuresOf k (actsOf l)) g) (omega arith) (omega arith) (ap not e) in
+      rw (needed-acts required (l .component) (actsOf l) k h j) at w
 
   -- "each count at most the granted sum"
   pub count-granted : (k h : ℕ) → k < 16 → h < 64 → atMost (disclosed k h (actsOf l)) (countGranted h policy k (l .component .path)) ≡ true
@@ -231,27 +237,29 @@ weight-member w a (List·Memᴰ·tail {x = x} {xs = xs} m) =
     (rw (join-comm (weigh (x .repeated) (w x)) (total w xs)) (at-most-joined (total w xs) (weigh (x .repeated) (w x))))
 
 -- What an act of a covered process needs is granted to its path.
-module _ (policy : List Tree) (l : Located) (cover : All (λ e. covered policy e ≡ true) (entriesOf l)) where
-  needed : (a : Act) → List·Memᴰ a (actsOf l) → (n : Need) → needOf a ≡ n → NeedRange n → grantsNeed policy (l .component .path) n ≡ true
+module _ (policy : List Tree) (required : Required) (l : Located) (cover : All (λ e. covered policy required e ≡ true) (entriesOf l)) where
+  is-granted : (a : Act) → List·Memᴰ a (actsOf l) → (n : Need) → needOf a ≡ n → NeedRange n → grantsNeed policy (l .component .path) n ≡ true
   unfolding grantsNeed NeedRange isRead isWrite isAccess disclosures disclosed
-  needed a m Nothing e r = refl
-  needed a m (Reads k) e r = read-granted policy l cover k r (any-member (λ b. isRead k (needOf b)) a m (rw e (eq-eqb k k refl)))
-  needed a m (Writes k) e r = write-granted policy l cover k r (any-member (λ b. isWrite k (needOf b)) a m (rw e (eq-eqb k k refl)))
-  needed a m (Accesses k) e r = access-granted policy l cover k r (any-member (λ b. isAccess k (needOf b)) a m (rw e (eq-eqb k k refl)))
-  needed a m (Discloses k h) e r =
+  is-granted a m Nothing e r = refl
+  is-granted a m (Reads k) e r = read-granted policy required l cover k r (any-member (λ b. isRead k (needOf b)) a m (rw e (eq-eqb k k refl)))
+  is-granted a m (Writes k) e r = write-granted policy required l cover k r (any-member (λ b. isWrite k (needOf b)) a m (rw e (eq-eqb k k refl)))
+  is-granted a m (Accesses k) e r = access-granted policy required l cover k r (any-member (λ b. isAccess k (needOf b)) a m (rw e (eq-eqb k k refl)))
+  is-granted a m (Discloses k h) e r =
       let one : disclosures k h (needOf a) ≡ 1 = rw (e, eq-eqb k k refl, eq-eqb h h refl) in
       let w : atMost (fin 1) (disclosed k h (actsOf l)) ≡ true = rw one at (weight-member (λ b. disclosures k h (needOf b)) a m) in
-      at-most-trans (fin 1) (disclosed k h (actsOf l)) (countGranted h policy k (l .component .path)) w (count-granted policy l cover k h (r .0) (r .1))
+      at-most-trans (fin 1) (disclosed k h (actsOf l)) (countGranted h policy k (l .component .path)) w (count-granted policy required l cover k h (r .0) (r .1))
 
   need-granted : (a : Act) → List·Memᴰ a (actsOf l) → grantsNeed policy (a .component .path) (needOf a) ≡ true
   unfolding needOf actsOf
   need-granted a m =
       let c : a .component ≡ l .component = all-member m (acts-component (l .component) false (l .scope) (l .process)) in
-      rw c (needed a m (needOf a) refl (act-range a))
+      rw c (is-granted a m (needOf a) refl (act-range a))
 
-covers : (s c : List ℕ) (a : Accepted) → judged s c ≡ passed a → (l : Located) → List·Memᴰ l (located (a .sheet)) → All (λ e. covered (a .policy) e ≡ true) (entriesOf l)
-unfolding interface
-covers s c a h l m = all-member m (all-each entriesOf (located (a .sheet)) (all-every (covered (a .policy)) (interface (a .sheet)) (judged-passed s c a h .entries-covered)))
+covers : (s c : List ℕ) (a : Accepted) → judged s c ≡ passed a → (l : Located) → List·Memᴰ l (located (a .sheet))
+    → All (λ e. covered (a .policy) (requiredOf (a .sheet)) e ≡ true) (entriesOf l)
+unfolding requiredOf interface
+covers s c a h l m =
+    all-member m (all-each entriesOf (located (a .sheet)) (all-every (covered (a .policy) (requiredOf (a .sheet))) (interface (a .sheet)) (judged-passed s c a h .entries-covered)))
 
 fine : (policy : List Tree) (a : Act) → passes a ≡ true → grantsNeed policy (a .component .path) (needOf a) ≡ true → isFine policy a ≡ true
 unfolding isFine
@@ -262,13 +270,13 @@ pub accepted-fine : (s c : List ℕ) (a : Accepted) → judged s c ≡ passed a 
 unfolding sheetActs
 accepted-fine s c a h =
     let g : All (λ x. grantsNeed (a .policy) (x .component .path) (needOf x) ≡ true) (gather actsOf (located (a .sheet)))
-    = all-gather actsOf (all-from (located (a .sheet)) (λ l m. all-from (actsOf l) (λ x n. need-granted (a .policy) l (covers s c a h l m) x n))) in
+    = all-gather actsOf (all-from (located (a .sheet)) (λ l m. all-from (actsOf l) (λ x n. need-granted (a .policy) (requiredOf (a .sheet)) l (covers s c a h l m) x n))) in
     all-both (λ x k n. fine (a .policy) x k n) (accepted-typed s c a h) g
 
 -- What a component of an accepted sheet discloses is at most what its path is granted.
 pub accepted-count : (s c : List ℕ) (a : Accepted) → judged s c ≡ passed a → (l : Located) → List·Memᴰ l (located (a .sheet)) → (k h : ℕ) → k < 16 → h < 64
     → atMost (disclosed k h (ofComponent (l .component .number) (sheetActs (a .sheet)))) (countGranted h (a .policy) k (l .component .path)) ≡ true
-accepted-count s c a e l m k h i j = rw (component-acts (a .sheet) l m) (count-granted (a .policy) l (covers s c a e l m) k h i j)
+accepted-count s c a e l m k h i j = rw (component-acts (a .sheet) l m) (count-granted (a .policy) (requiredOf (a .sheet)) l (covers s c a e l m) k h i j)
 
 -- Every act of a list makes true of the list what is true of it.
 pub any-self : (f : Act → Act) (xs : List Act) → All (λ x. (t : Act → Bool) → t (f x) ≡ true → any (λ b. t (f b)) xs ≡ true) xs

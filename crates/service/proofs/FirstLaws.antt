@@ -9,7 +9,7 @@ use Rattle.reading.specs.Read.{Read, got, refused}
 use Rattle.reading.specs.System.{sheetOf}
 use Rattle.reading.proofs.QuestionLaws.{sheet-question}
 use Rattle.inference.specs.Acts.{Act, sheetActs}
-use Rattle.inference.specs.Interface.{Entry, interface}
+use Rattle.inference.specs.Interface.{Required, requiredOf}
 use Rattle.policy.specs.Syntax.{Tree}
 use Rattle.policy.specs.Reading.{readPolicy}
 use Rattle.service.specs.Questions.{Asked, passed, failed, ask, afterReading, typed, wellFormed, satisfied, Accepted, judged}
@@ -47,9 +47,9 @@ module _ {A : Type 0} (P : A → Type 0) where
   ends-formed policy rest e =
       ends-ask 12 _ _ (omega arith) (ends-ask 13 _ _ (omega arith) (ends-ask 14 _ _ (omega arith) (ends-ask 15 _ _ (omega arith) e)))
 
-  ends-satisfied : (policy : List Tree) (entries : List Entry) (rest : Asked A) → Ends P rest → Ends P (satisfied policy entries rest)
+  ends-satisfied : (policy : List Tree) (required : Required) (rest : Asked A) → Ends P rest → Ends P (satisfied policy required rest)
   unfolding satisfied
-  ends-satisfied policy entries rest e = ends-ask 16 _ _ (omega arith) (ends-ask 17 _ _ (omega arith) (ends-ask 18 _ _ (omega arith) e))
+  ends-satisfied policy required rest e = ends-ask 16 _ _ (omega arith) (ends-ask 17 _ _ (omega arith) (ends-ask 18 _ _ (omega arith) e))
 
 -- The bytes read as the sheet that is accepted.
 pub record ReadsAs (s c : List ℕ) (a : Accepted) : Type 0 where
@@ -63,7 +63,7 @@ judged-ends s c =
     ends-typed (ReadsAs s c) (sheetActs sheet) _
     (ends-reading (ReadsAs s c) (readPolicy c) _ (λ q at f. omega (arith, policy-eleven c q at f)) (λ policy m f.
     ends-formed (ReadsAs s c) policy _
-    (ends-satisfied (ReadsAs s c) policy (interface sheet) _
+    (ends-satisfied (ReadsAs s c) policy (requiredOf sheet) _
     (ends-passed (ReadsAs s c) (record { sheet = sheet; policy = policy }) (record { end = k; reads = e }))))))
 
 pub passed-reads : (s c : List ℕ) (a : Accepted) → judged s c ≡ passed a → ReadsAs s c a
