@@ -61,9 +61,16 @@ passes a = (inScope a && onChannel a) && (carriesObject a && inPath a)
 unfoldable pub isTyped : State → Bool
 isTyped s = every passes (stateActs s)
 
--- What a component infers: "what its threads' remaining texts need, joined as parallel parts".
+-- What the components that `among` tells infer: "what [their] threads' remaining texts need, joined as parallel parts".
+unfoldable pub actsWhere : (Component → Bool) → List Act → List Act
+actsWhere among all = only (λ a. among (a .component)) all
+
+-- The component of a number, and what it infers.
+unfoldable pub isNumber : ℕ → Component → Bool
+isNumber n c = eqb (c .number) n
+
 unfoldable pub ofComponent : ℕ → List Act → List Act
-ofComponent n all = only (λ a. eqb (a .component .number) n) all
+ofComponent n all = actsWhere (isNumber n) all
 
 -- "It is not beyond the start if, for each kind, every flag in it was inferred from the sheet for that post, and every count is at
 -- most the one inferred there".
@@ -123,16 +130,19 @@ unfoldable pub isTaken : Result → Bool
 isTaken (refuses n) = false
 isTaken (takes s bytes) = true
 
--- how often an act at a component discloses data of kind k into group h
-unfoldable pub disclosuresOfAct : ℕ → ℕ → ℕ → Option Act → ℕ
-disclosuresOfAct n k h none = 0
-disclosuresOfAct n k h (some a) = cond (eqb (a .component .number) n) (disclosures k h (needOf a)) 0
+-- how often an act at such a component discloses data of kind k into group h
+unfoldable pub disclosuresOfAct : (Component → Bool) → ℕ → ℕ → Option Act → ℕ
+disclosuresOfAct among k h none = 0
+disclosuresOfAct among k h (some a) = cond (among (a .component)) (disclosures k h (needOf a)) 0
 
 -- "A post hands over a link of kind t in group G by each taken 02 or 04 whose send, at that post, needs disclose G of t."
+unfoldable pub disclosedWhere : (Component → Bool) → ℕ → ℕ → State → List Move → ℕ
+disclosedWhere among k h s [] = 0
+disclosedWhere among k h s (m ∷ ms) =
+    cond (isTaken (step s m)) (disclosuresOfAct among k h (sendOf s m)) 0 + disclosedWhere among k h (stateAfter s (step s m)) ms
+
 unfoldable pub disclosedBy : ℕ → ℕ → ℕ → State → List Move → ℕ
-disclosedBy n k h s [] = 0
-disclosedBy n k h s (m ∷ ms) =
-    cond (isTaken (step s m)) (disclosuresOfAct n k h (sendOf s m)) 0 + disclosedBy n k h (stateAfter s (step s m)) ms
+disclosedBy n k h s ms = disclosedWhere (isNumber n) k h s ms
 
 -- "the links it has handed over since the start plus those it still infers are at most that count", wherever that is finite
 unfoldable pub isWithin : Count → ℕ → Count → Bool
