@@ -1,4 +1,4 @@
--- The first question that fails, `firstFailed` of what `judged` answers: below 19 it is the number that `judged` fails with; else
+-- The first question that fails, `firstFailed` of what `judged` answers: below 64 it is the number that `judged` fails with; else
 -- `judged` passes, since each number that it fails with is below 19, and the sheet reads.
 use Prim.Native.Nat.{ℕ, _<_, _≤_}
 use mathlib.Core.Path.{_≡_, refl}
@@ -81,18 +81,18 @@ pub record Passed (s c : List ℕ) : Type 0 where
   pub end : ℕ
   pub reads : sheetOf s c ≡ got (accepted .sheet) end
 
-pub first-passes : (s c : List ℕ) → 19 ≤ firstFailed (judged s c) → Passed s c
+pub first-passes : (s c : List ℕ) → 64 ≤ firstFailed (judged s c) → Passed s c
 unfolding Ends firstFailed
 first-passes s c h = go (judged s c) refl (judged-ends s c) h
   where
-    go : (x : Asked Accepted) → judged s c ≡ x → Ends (ReadsAs s c) x → 19 ≤ firstFailed x → Passed s c
+    go : (x : Asked Accepted) → judged s c ≡ x → Ends (ReadsAs s c) x → 64 ≤ firstFailed x → Passed s c
     go (passed a) e r h = record { accepted = a; passes = e; end = r .end; reads = r .reads }
     go (failed n) e r h = absurd (omega (arith, r, h))
 
-pub first-fails : (s c : List ℕ) → firstFailed (judged s c) < 19 → judged s c ≡ failed (firstFailed (judged s c))
+pub first-fails : (s c : List ℕ) → firstFailed (judged s c) < 64 → judged s c ≡ failed (firstFailed (judged s c))
 unfolding firstFailed
 first-fails s c h = go (judged s c) h
   where
-    go : (x : Asked Accepted) → firstFailed x < 19 → x ≡ failed (firstFailed x)
+    go : (x : Asked Accepted) → firstFailed x < 64 → x ≡ failed (firstFailed x)
     go (passed a) h = absurd (omega (arith, h))
     go (failed n) h = refl

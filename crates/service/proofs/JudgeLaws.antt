@@ -22,7 +22,7 @@ use Rattle.fit.specs.Satisfies.{hasTree, pathReached, covered}
 use Rattle.policy.specs.Loads.{policyFault}
 use Rattle.fit.specs.Faults.{entryFault, entriesFault}
 use Rattle.service.specs.Questions.{Asked, passed, failed, ask, afterReading, typed, wellFormed, satisfied, Accepted, judged}
-use Rattle.service.specs.Later.{policyThenEntries, afterPolicy, laterFault}
+use Rattle.service.specs.Later.{orPassed, policyThenEntries, afterPolicy, laterFault}
 use Rattle.service.specs.Told.{firstFailed}
 
 -- a number below a bound ends the questions, any other lets them go on
@@ -178,40 +178,52 @@ judged-read : (s c : List ℕ) (sheet : Sheet) (k : ℕ) → sheetOf s c ≡ got
     → judged s c ≡ endsBelow 11 (worstAll (located sheet)) (later sheet (readPolicy c))
 judged-read s c sheet k e = judged-from s c sheet k e ∙ typed-ends sheet (later sheet (readPolicy c))
 
+-- 64 lets the questions go on where 19 did
+ends-passed : {A : Type 0} (number : ℕ) (rest : Asked A) → endsBelow 19 number rest ≡ endsBelow 64 (orPassed number) rest
+unfolding endsBelow orPassed
+ends-passed number rest = go (ltb number 19) refl
+  where
+    go : (b : Bool) → ltb number 19 ≡ b → cond b (failed number) rest ≡ cond (ltb (cond b number 64) 64) (failed (cond b number 64)) rest
+    go true e = rw (lt-ltb number 64 (omega (arith, ltb-true number 19 e))) refl
+    go false e = refl
+
 later-policy : (sheet : Sheet) (policy : List Tree) (rest : Asked Accepted)
-    → wellFormed policy (satisfied policy (requiredOf sheet) rest) ≡ endsBelow 19 (policyThenEntries policy (requiredOf sheet)) rest
+    → wellFormed policy (satisfied policy (requiredOf sheet) rest) ≡ endsBelow 64 (policyThenEntries policy (requiredOf sheet)) rest
 later-policy sheet policy rest =
     policy-ends policy (satisfied policy (requiredOf sheet) rest)
-    ∙ ap (endsBelow 16 (policyFault policy)) (entries-end policy (requiredOf sheet) (interface-holds sheet) rest)
+    ∙ ap (endsBelow 16 (policyFault policy)) (entries-end policy (requiredOf sheet) (interface-holds sheet) rest ∙ ends-passed _ rest)
     ∙ go (ltb (policyFault policy) 16) refl
   where
     go : (b : Bool) → ltb (policyFault policy) 16 ≡ b
-        → endsBelow 16 (policyFault policy) (endsBelow 19 (entriesFault policy (requiredOf sheet) (requiredOf sheet .entries)) rest)
-        ≡ endsBelow 19 (policyThenEntries policy (requiredOf sheet)) rest
-    go true e = unfold endsBelow policyThenEntries in rw (e, lt-ltb (policyFault policy) 19 (omega (arith, ltb-true (policyFault policy) 16 e))) refl
+        → endsBelow 16 (policyFault policy) (endsBelow 64 (orPassed (entriesFault policy (requiredOf sheet) (requiredOf sheet .entries))) rest)
+        ≡ endsBelow 64 (policyThenEntries policy (requiredOf sheet)) rest
+    go true e = unfold endsBelow policyThenEntries in rw (e, lt-ltb (policyFault policy) 64 (omega (arith, ltb-true (policyFault policy) 16 e))) refl
     go false e = unfold endsBelow policyThenEntries in rw e refl
 
--- No number is above 19, with which questions 11 to 18 pass.
-entries-most : (policy : List Tree) (required : Required) (es : List Entry) → entriesFault policy required es ≤ 19
-unfolding entriesFault
-entries-most policy required [] = omega arith
-entries-most policy required (e ∷ rest) = omega (arith, entries-most policy required rest)
+-- No number is above 64, with which questions 11 to 18 pass.
+passed-most : (number : ℕ) → orPassed number ≤ 64
+unfolding orPassed
+passed-most number = go (ltb number 19) refl
+  where
+    go : (b : Bool) → ltb number 19 ≡ b → cond b number 64 ≤ 64
+    go true e = omega (arith, ltb-true number 19 e)
+    go false e = omega arith
 
-later-most : (policy : List Tree) (required : Required) → policyThenEntries policy required ≤ 19
+later-most : (policy : List Tree) (required : Required) → policyThenEntries policy required ≤ 64
 unfolding policyThenEntries
 later-most policy required = go (ltb (policyFault policy) 16) refl
   where
-    go : (b : Bool) → ltb (policyFault policy) 16 ≡ b → cond b (policyFault policy) (entriesFault policy required (required .entries)) ≤ 19
+    go : (b : Bool) → ltb (policyFault policy) 16 ≡ b → cond b (policyFault policy) (orPassed (entriesFault policy required (required .entries))) ≤ 64
     go true e = omega (arith, ltb-true (policyFault policy) 16 e)
-    go false e = entries-most policy required (required .entries)
+    go false e = passed-most (entriesFault policy required (required .entries))
 
-first-of-last : (number : ℕ) (a : Accepted) → number ≤ 19 → firstFailed (endsBelow 19 number (passed a)) ≡ number
+first-of-last : (number : ℕ) (a : Accepted) → number ≤ 64 → firstFailed (endsBelow 64 number (passed a)) ≡ number
 unfolding endsBelow firstFailed
-first-of-last number a h = go (ltb number 19) refl
+first-of-last number a h = go (ltb number 64) refl
   where
-    go : (b : Bool) → ltb number 19 ≡ b → firstFailed (cond b (failed number) (passed a)) ≡ number
+    go : (b : Bool) → ltb number 64 ≡ b → firstFailed (cond b (failed number) (passed a)) ≡ number
     go true e = refl
-    go false e = omega (arith, ltb-false number 19 e)
+    go false e = omega (arith, ltb-false number 64 e)
 
 later-first : (sheet : Sheet) (c : List ℕ) (r : Read (List Tree)) → readPolicy c ≡ r
     → firstFailed (later sheet r) ≡ afterPolicy r (requiredOf sheet)

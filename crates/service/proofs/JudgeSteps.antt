@@ -35,7 +35,7 @@ use Rattle.policy.specs.declared.PolicyRead.{PolicyRead}
 use Rattle.policy.specs.declared.Trees.{Trees}
 use Rattle.fit.specs.Faults.{entriesFault}
 use Rattle.service.specs.Questions.{failed, judged}
-use Rattle.service.specs.Later.{policyThenEntries, afterPolicy, laterFault}
+use Rattle.service.specs.Later.{orPassed, policyThenEntries, afterPolicy, laterFault}
 use Rattle.service.specs.declared.Judged.{Judged}
 use Rattle.service.specs.Told.{firstFailed, Reads, Ready, HoldsPolicy, JudgesLater, Judges}
 use Rattle.service.proofs.JudgeLaws.{policy-eleven, judged-refused, judged-typing, judged-later}
@@ -82,14 +82,14 @@ module _ (c nodes : List ℕ) (p : PolicyRead) where
 
   by-entries : (r : Read (List Tree)) → LoadedPolicy c r nodes p → (m : ℕ) → p .end ≡ end-case.At m → (fault v : ℕ)
       → ((policy : List Tree) → AllHeld c nodes (p .trees) 0 policy → fault ≡ policyFault policy) → 16 ≤ fault
-      → (required : Required) → ((policy : List Tree) → AllHeld c nodes (p .trees) 0 policy → v ≡ entriesFault policy required (required .entries)) → v ≡ afterPolicy r required
+      → (required : Required) → ((policy : List Tree) → AllHeld c nodes (p .trees) 0 policy → v ≡ entriesFault policy required (required .entries)) → orPassed v ≡ afterPolicy r required
   unfolding afterPolicy policyThenEntries
   by-entries r (unread e f) m h fault v k le required q = ended-otherwise (sym h ∙ f)
-  by-entries r (loaded {policy = policy} e f b held) m h fault v k le required q = rw (e, ← k policy held, le-ltb fault 16 le) (q policy held)
+  by-entries r (loaded {policy = policy} e f b held) m h fault v k le required q = rw (e, ← k policy held, le-ltb fault 16 le) (ap orPassed (q policy held))
 
   by-required : LoadedPolicy c (readPolicy c) nodes p → (m : ℕ) → p .end ≡ end-case.At m → (fault v : ℕ)
       → ((policy : List Tree) → AllHeld c nodes (p .trees) 0 policy → fault ≡ policyFault policy) → 16 ≤ fault
-      → (required : Required) → ((policy : List Tree) → AllHeld c nodes (p .trees) 0 policy → v ≡ entriesFault policy required (required .entries)) → v ≡ laterFault c required
+      → (required : Required) → ((policy : List Tree) → AllHeld c nodes (p .trees) 0 policy → v ≡ entriesFault policy required (required .entries)) → orPassed v ≡ laterFault c required
   unfolding laterFault
   by-required l m h fault v k le required q = by-entries (readPolicy c) l m h fault v k le required q
 
@@ -117,24 +117,29 @@ module _ (c nodes : List ℕ) (p : PolicyRead) where
       trees-held = λ past. rows-held (readPolicy c) refl l m h;
     }
 
-    pub entries-decide : (m : ℕ) → p .end ≡ end-case.At m → (fault v : ℕ)
+    entries-decide : (m : ℕ) → p .end ≡ end-case.At m → (fault v w : ℕ)
         → ((policy : List Tree) → AllHeld c nodes (p .trees) 0 policy → fault ≡ policyFault policy) → 16 ≤ fault
-        → ((policy : List Tree) → AllHeld c nodes (p .trees) 0 policy → v ≡ entriesFault policy required (required .entries))
-        → JudgesLater c nodes required n (record { fault = v; components = n; trees = p .trees })
-    entries-decide m h fault v k le q = record {
-      first = by-required l m h fault v k le required q;
+        → ((policy : List Tree) → AllHeld c nodes (p .trees) 0 policy → v ≡ entriesFault policy required (required .entries)) → w ≡ orPassed v
+        → JudgesLater c nodes required n (record { fault = w; components = n; trees = p .trees })
+    entries-decide m h fault v w k le q is = record {
+      first = is ∙ by-required l m h fault v k le required q;
       number = refl;
       trees-held = λ past. rows-held (readPolicy c) refl l m h;
     }
 
-pub table-decides : (c nodes table : List ℕ) (p : PolicyRead) (n : ℕ) → LoadedPolicy c (readPolicy c) nodes p → (m : ℕ) → p .end ≡ end-case.At m → (fault v : ℕ)
-    → ((policy : List Tree) → AllHeld c nodes (p .trees) 0 policy → fault ≡ policyFault policy) → 16 ≤ fault
-    → ((policy : List Tree) → AllHeld c nodes (p .trees) 0 policy → v ≡ entriesFault policy (tableRequired table n) (tableEntries table n))
-    → JudgesLater c nodes (tableRequired table n) n (record { fault = v; components = n; trees = p .trees })
-unfolding tableRequired
-table-decides c nodes table p n l m h fault v k le q = entries-decide c nodes p l (tableRequired table n) n m h fault v k le q
+-- The entries' own number, or 64.
+module _ (c nodes table : List ℕ) (p : PolicyRead) (n : ℕ) (l : LoadedPolicy c (readPolicy c) nodes p) (m : ℕ) (h : p .end ≡ end-case.At m) (fault v : ℕ)
+    (k : (policy : List Tree) → AllHeld c nodes (p .trees) 0 policy → fault ≡ policyFault policy) (le : 16 ≤ fault)
+    (q : (policy : List Tree) → AllHeld c nodes (p .trees) 0 policy → v ≡ entriesFault policy (tableRequired table n) (tableEntries table n)) where
+  pub entries-fail : v < 19 → JudgesLater c nodes (tableRequired table n) n (record { fault = v; components = n; trees = p .trees })
+  unfolding tableRequired orPassed
+  entries-fail lt = entries-decide c nodes p l (tableRequired table n) n m h fault v v k le q (rw (lt-ltb v 19 lt) refl)
 
-pub ruleset policy-judging = (needs, charter-unread, bounded, policy-decides, table-decides)
+  pub entries-pass : 19 ≤ v → JudgesLater c nodes (tableRequired table n) n (record { fault = 64; components = n; trees = p .trees })
+  unfolding tableRequired orPassed
+  entries-pass ge = entries-decide c nodes p l (tableRequired table n) n m h fault v 64 k le q (rw (le-ltb v 19 ge) refl)
+
+pub ruleset policy-judging = (needs, charter-unread, bounded, policy-decides, entries-fail, entries-pass)
 
 -- Questions 7 to 18 of a sheet that reads.
 pub sheet-reads : (s c : List ℕ) (sheet : Sheet) (k : ℕ) → sheetOf s c ≡ got sheet k → readSheet s ≡ got sheet k

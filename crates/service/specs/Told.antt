@@ -23,9 +23,9 @@ abbrev pub told : Answer → Asked ℕ
 told (answer-case.Accepted n) = passed n
 told (answer-case.Refused n) = failed n
 
--- The first question that fails, or 19 where questions 1 to 18 pass.
+-- The first question that fails, or 64, a number that no question has, where questions 1 to 18 pass.
 unfoldable pub firstFailed : {A : Type 0} → Asked A → ℕ
-firstFailed (passed a) = 19
+firstFailed (passed a) = 64
 firstFailed (failed n) = n
 
 -- What `check` promises: its answer and the final bytes of the lent output are those of the definition.

@@ -39,7 +39,7 @@ fn check_read(
     ensures { λ r. ⌜ Checked (now (sheet .entry)) (now (charter .entry)) (now (output .entry)) (now (output .exit)) r ⌝ }
 {
     let judged = judge_read(sheet, charter, table, nodes);
-    if judged.fault < 19 {
+    if judged.fault < 64 {
         return Answer::Refused(judged.fault);
     }
     deliver(table, judged.components, output)

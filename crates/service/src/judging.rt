@@ -17,7 +17,7 @@ use reading::bytes::refusal;
 use reading::system::read;
 use reading::system::why_none;
 
-// Questions 11 to 18 of a charter and a table of components, with a table for the charter's nodes: the first that fails, or 19.
+// Questions 11 to 18 of a charter and a table of components, with a table for the charter's nodes: the first that fails, or 64.
 fn judge_with(charter: &[u8], table: &[u16], components: usize, nodes: &mut [usize]) -> Judged
     requires { ⌜ (components ≤ 32) × (length (now charter) ≤ 4096) × (length (now nodes) ≡ 320) ⌝ }
     ensures { λ r. ⌜ JudgesLater (now (charter .entry)) (now (nodes .exit)) (tableRequired (now (table .entry)) components) components r ⌝ }
@@ -41,8 +41,15 @@ fn judge_with(charter: &[u8], table: &[u16], components: usize, nodes: &mut [usi
         };
     }
     let fault = fit(charter, nodes, trees, table, components);
+    if fault < 19 {
+        return Judged {
+            fault,
+            components,
+            trees,
+        };
+    }
     Judged {
-        fault,
+        fault: 64,
         components,
         trees,
     }
@@ -65,7 +72,7 @@ pub fn judge_read(sheet: &[u8], charter: &[u8], table: &mut [u16], nodes: &mut [
     judge_with(charter, table, components, nodes)
 }
 
-// Questions 1 to 18 of a sheet and a charter: the first that fails, or 19.
+// Questions 1 to 18 of a sheet and a charter: the first that fails, or 64.
 pub fn first_failed(sheet: &[u8], charter: &[u8]) -> usize
     ensures { λ r. ⌜ r ≡ firstFailed (judged (now (sheet .entry)) (now (charter .entry))) ⌝ }
 {

@@ -11,8 +11,8 @@ pub enum Answer {
     Refused(usize),
 }
 
-// What questions 1 to 18 come to: the first that fails, or 19; the number of components in the sheet's table; and the charter's
-// trees, where they were read into the table of nodes.
+// What questions 1 to 18 come to: the first that fails, or 64, a number that no question has; the number of components in the
+// sheet's table; and the charter's trees, where they were read into the table of nodes.
 pub struct Judged {
     pub fault: usize,
     pub components: usize,
