@@ -26,10 +26,10 @@ pathReached policy e =
 
 -- One permission of an entry, against the grant: "flags present, each count at most the granted sum or that unlimited".
 unfoldable pub grantsOne : List Tree → Required → Entry → Permission → Bool
-grantsOne policy required e reading = flagGranted 1 policy (e .kind) (e .component .path)
-grantsOne policy required e writing = flagGranted 2 policy (e .kind) (e .component .path)
-grantsOne policy required e accessing = flagGranted 4 policy (e .kind) (e .component .path)
-grantsOne policy required e (disclosing h) = atMost (needed required e h) (countGranted h policy (e .kind) (e .component .path))
+grantsOne policy required e reading = flagGranted 1 policy (e .kind) (e .component)
+grantsOne policy required e writing = flagGranted 2 policy (e .kind) (e .component)
+grantsOne policy required e accessing = flagGranted 4 policy (e .kind) (e .component)
+grantsOne policy required e (disclosing h) = atMost (needed required e h) (countGranted h policy (e .kind) (e .component))
 
 -- 18: "each entry covered by its grant".
 unfoldable pub covered : List Tree → Required → Entry → Bool

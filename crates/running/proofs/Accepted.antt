@@ -23,7 +23,7 @@ use Rattle.policy.specs.Syntax.{Tree}
 use Rattle.policy.specs.WellFormed.{kindsDistinct, noneAbove, sameHeads, fenced}
 use Rattle.fit.specs.Grants.{flagGranted, countGranted}
 use Rattle.fit.specs.Satisfies.{hasTree, pathReached, grantsOne, covered}
-use Rattle.service.specs.Questions.{Asked, passed, ask, afterReading, typed, wellFormed, satisfied, Accepted, judged}
+use Rattle.service.specs.Questions.{Asked, passed, ask, afterReading, typed, wellFormed, satisfied, Accepted, judgedFrom, judged}
 use Rattle.running.specs.Guarantees.{passes, grantsNeed, isFine, ofComponent}
 use Rattle.running.proofs.Alls.{All, done, also, or-first, or-second, any-member, all-both, all-right, all-head, all-each, all-gather, all-member, all-from, all-every}
 use Rattle.running.proofs.Components.{acts-component, component-acts}
@@ -91,7 +91,7 @@ passed-as : (a b : Accepted) → passed a ≡ passed b → Passed a → Passed b
 passed-as a b e p = let z : a ≡ b = cc in rw z at p
 
 judged-passed : (s c : List ℕ) (a : Accepted) → judged s c ≡ passed a → Passed a
-unfolding judged
+unfolding judged judgedFrom
 judged-passed s c a h =
     on-reading (Passed a) _ _ a h (λ sheet k.
     let t : Typed (sheetActs sheet) = typed-yes (sheetActs sheet) _ a k in
@@ -165,19 +165,19 @@ module _ (policy : List Tree) (required : Required) (l : Located) (cover : All (
       all-every (grantsOne policy required (entryOf (l .component) (actsOf l) k)) (permissions (entryOf (l .component) (actsOf l) k))
       (kept-at holdsAny (entryOf (l .component) (actsOf l)) 0 16 k cover (omega arith) (omega arith) e)
 
-  read-granted : (k : ℕ) → k < 16 → any (λ a. isRead k (needOf a)) (actsOf l) ≡ true → flagGranted 1 policy k (l .component .path) ≡ true
+  read-granted : (k : ℕ) → k < 16 → any (λ a. isRead k (needOf a)) (actsOf l) ≡ true → flagGranted 1 policy k (l .component) ≡ true
   unfolding permissions entryOf holdsAny grantsOne
   read-granted k h e =
       let q : holdsAny (entryOf (l .component) (actsOf l) k) ≡ true = or-first _ _ (or-first _ _ e) in
       first-flag _ reading _ e (granted-at k h q)
 
-  write-granted : (k : ℕ) → k < 16 → any (λ a. isWrite k (needOf a)) (actsOf l) ≡ true → flagGranted 2 policy k (l .component .path) ≡ true
+  write-granted : (k : ℕ) → k < 16 → any (λ a. isWrite k (needOf a)) (actsOf l) ≡ true → flagGranted 2 policy k (l .component) ≡ true
   unfolding permissions entryOf holdsAny grantsOne
   write-granted k h e =
       let q : holdsAny (entryOf (l .component) (actsOf l) k) ≡ true = or-first _ _ (or-second (any (λ a. isRead k (needOf a)) (actsOf l)) _ e) in
       first-flag _ writing _ e (all-right (flagged (any (λ a. isRead k (needOf a)) (actsOf l)) reading) _ (granted-at k h q))
 
-  access-granted : (k : ℕ) → k < 16 → any (λ a. isAccess k (needOf a)) (actsOf l) ≡ true → flagGranted 4 policy k (l .component .path) ≡ true
+  access-granted : (k : ℕ) → k < 16 → any (λ a. isAccess k (needOf a)) (actsOf l) ≡ true → flagGranted 4 policy k (l .component) ≡ true
   unfolding permissions entryOf holdsAny grantsOne
   access-granted k h e =
       let q : holdsAny (entryOf (l .component) (actsOf l) k) ≡ true
@@ -196,7 +196,7 @@ module _ (policy : List Tree) (required : Required) (l : Located) (cover : All (
   lists-it k h j e false q = refl
 
   counted : (k h : ℕ) → k < 16 → h < 64 → isZero (disclosed k h (actsOf l)) ≡ false
-      → atMost (disclosed k h (actsOf l)) (countGranted h policy k (l .component .path)) ≡ true
+      → atMost (disclosed k h (actsOf l)) (countGranted h policy k (l .component)) ≡ true
   unfolding permissions entryOf holdsAny grantsOne disclosuresOf
   counted k h i j e =
       let n : isEmpty (disclosuresOf k (actsOf l)) ≡ false = lists-it k h j e (isEmpty (disclosuresOf k (actsOf l))) refl in
@@ -207,18 +207,18 @@ module _ (policy : List Tree) (required : Required) (l : Located) (cover : All (
       = all-right (flagged (any (λ a. isAccess k (needOf a)) (actsOf l)) accessing) _
       (all-right (flagged (any (λ a. isWrite k (needOf a)) (actsOf l)) writing) _
       (all-right (flagged (any (λ a. isRead k (needOf a)) (actsOf l)) reading) _ (granted-at k i q))) in
-      let w : atMost (needed required (entryOf (l .component) (actsOf l) k) h) (countGranted h policy k (l .component .path)) ≡ true
+      let w : atMost (needed required (entryOf (l .component) (actsOf l) k) h) (countGranted h policy k (l .component)) ≡ true
       = kept-at {R = λ d. grantsOne policy required (entryOf (l .component) (actsOf l) k) (disclosing (d .group)) ≡ true}
       (λ d. not (isZero (d .count))) (λ g. record { group = g; count = disclosed k g (actsOf l) }) 0 64 h
       (all-unmap (λ (d : Disclosure). disclosing (d .group)) (disclosuresOf k (actsOf l)) g) (omega arith) (omega arith) (ap not e) in
       rw (needed-acts required (l .component) (actsOf l) k h j) at w
 
   -- "each count at most the granted sum"
-  pub count-granted : (k h : ℕ) → k < 16 → h < 64 → atMost (disclosed k h (actsOf l)) (countGranted h policy k (l .component .path)) ≡ true
+  pub count-granted : (k h : ℕ) → k < 16 → h < 64 → atMost (disclosed k h (actsOf l)) (countGranted h policy k (l .component)) ≡ true
   count-granted k h i j = go (isZero (disclosed k h (actsOf l))) refl
     where
-      go : (b : Bool) → isZero (disclosed k h (actsOf l)) ≡ b → atMost (disclosed k h (actsOf l)) (countGranted h policy k (l .component .path)) ≡ true
-      go true e = zero-at-most (disclosed k h (actsOf l)) (countGranted h policy k (l .component .path)) e
+      go : (b : Bool) → isZero (disclosed k h (actsOf l)) ≡ b → atMost (disclosed k h (actsOf l)) (countGranted h policy k (l .component)) ≡ true
+      go true e = zero-at-most (disclosed k h (actsOf l)) (countGranted h policy k (l .component)) e
       go false e = counted k h i j e
 
 -- An act of a list weighs at most what the list weighs.
@@ -238,7 +238,7 @@ weight-member w a (List·Memᴰ·tail {x = x} {xs = xs} m) =
 
 -- What an act of a covered process needs is granted to its path.
 module _ (policy : List Tree) (required : Required) (l : Located) (cover : All (λ e. covered policy required e ≡ true) (entriesOf l)) where
-  is-granted : (a : Act) → List·Memᴰ a (actsOf l) → (n : Need) → needOf a ≡ n → NeedRange n → grantsNeed policy (l .component .path) n ≡ true
+  is-granted : (a : Act) → List·Memᴰ a (actsOf l) → (n : Need) → needOf a ≡ n → NeedRange n → grantsNeed policy (l .component) n ≡ true
   unfolding grantsNeed NeedRange isRead isWrite isAccess disclosures disclosed
   is-granted a m Nothing e r = refl
   is-granted a m (Reads k) e r = read-granted policy required l cover k r (any-member (λ b. isRead k (needOf b)) a m (rw e (eq-eqb k k refl)))
@@ -247,9 +247,9 @@ module _ (policy : List Tree) (required : Required) (l : Located) (cover : All (
   is-granted a m (Discloses k h) e r =
       let one : disclosures k h (needOf a) ≡ 1 = rw (e, eq-eqb k k refl, eq-eqb h h refl) in
       let w : atMost (fin 1) (disclosed k h (actsOf l)) ≡ true = rw one at (weight-member (λ b. disclosures k h (needOf b)) a m) in
-      at-most-trans (fin 1) (disclosed k h (actsOf l)) (countGranted h policy k (l .component .path)) w (count-granted policy required l cover k h (r .0) (r .1))
+      at-most-trans (fin 1) (disclosed k h (actsOf l)) (countGranted h policy k (l .component)) w (count-granted policy required l cover k h (r .0) (r .1))
 
-  need-granted : (a : Act) → List·Memᴰ a (actsOf l) → grantsNeed policy (a .component .path) (needOf a) ≡ true
+  need-granted : (a : Act) → List·Memᴰ a (actsOf l) → grantsNeed policy (a .component) (needOf a) ≡ true
   unfolding needOf actsOf
   need-granted a m =
       let c : a .component ≡ l .component = all-member m (acts-component (l .component) false (l .scope) (l .process)) in
@@ -261,7 +261,7 @@ unfolding requiredOf interface
 covers s c a h l m =
     all-member m (all-each entriesOf (located (a .sheet)) (all-every (covered (a .policy) (requiredOf (a .sheet))) (interface (a .sheet)) (judged-passed s c a h .entries-covered)))
 
-fine : (policy : List Tree) (a : Act) → passes a ≡ true → grantsNeed policy (a .component .path) (needOf a) ≡ true → isFine policy a ≡ true
+fine : (policy : List Tree) (a : Act) → passes a ≡ true → grantsNeed policy (a .component) (needOf a) ≡ true → isFine policy a ≡ true
 unfolding isFine
 fine policy a g h = rw (g, h)
 
@@ -269,13 +269,13 @@ fine policy a g h = rw (g, h)
 pub accepted-fine : (s c : List ℕ) (a : Accepted) → judged s c ≡ passed a → All (λ x. isFine (a .policy) x ≡ true) (sheetActs (a .sheet))
 unfolding sheetActs
 accepted-fine s c a h =
-    let g : All (λ x. grantsNeed (a .policy) (x .component .path) (needOf x) ≡ true) (gather actsOf (located (a .sheet)))
+    let g : All (λ x. grantsNeed (a .policy) (x .component) (needOf x) ≡ true) (gather actsOf (located (a .sheet)))
     = all-gather actsOf (all-from (located (a .sheet)) (λ l m. all-from (actsOf l) (λ x n. need-granted (a .policy) (requiredOf (a .sheet)) l (covers s c a h l m) x n))) in
     all-both (λ x k n. fine (a .policy) x k n) (accepted-typed s c a h) g
 
 -- What a component of an accepted sheet discloses is at most what its path is granted.
 pub accepted-count : (s c : List ℕ) (a : Accepted) → judged s c ≡ passed a → (l : Located) → List·Memᴰ l (located (a .sheet)) → (k h : ℕ) → k < 16 → h < 64
-    → atMost (disclosed k h (ofComponent (l .component .number) (sheetActs (a .sheet)))) (countGranted h (a .policy) k (l .component .path)) ≡ true
+    → atMost (disclosed k h (ofComponent (l .component .number) (sheetActs (a .sheet)))) (countGranted h (a .policy) k (l .component)) ≡ true
 accepted-count s c a e l m k h i j = rw (component-acts (a .sheet) l m) (count-granted (a .policy) (requiredOf (a .sheet)) l (covers s c a e l m) k h i j)
 
 -- Every act of a list makes true of the list what is true of it.

@@ -56,7 +56,7 @@ bare-fine policy a = refl
 
 fine-passes : (policy : List Tree) (a : Act) → isFine policy a ≡ true → passes a ≡ true
 unfolding isFine
-fine-passes policy a h = both-left (passes a) (grantsNeed policy (a .component .path) (needOf a)) h
+fine-passes policy a h = both-left (passes a) (grantsNeed policy (a .component) (needOf a)) h
 
 -- What any run leads to, for a property of acts.
 module _ (P : Act → Type 0) (typed : (a : Act) → P a → passes a ≡ true) (sheet : Sheet) (h : All (λ a. P (bare a)) (sheetActs sheet)) (ms : List Move) where

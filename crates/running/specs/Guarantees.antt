@@ -95,17 +95,17 @@ nextOf (repl p) rest = none
 unfoldable pub nextAct : State → Thread → Option Act
 nextAct s t = nextOf (t .process) (threadActs (s .types) t)
 
--- A permission that a path's grant holds: a flag, or a count of at least one.
-unfoldable pub grantsNeed : List Tree → List ℕ → Need → Bool
-grantsNeed policy path Nothing = true
-grantsNeed policy path (Read k) = flagGranted 1 policy k path
-grantsNeed policy path (Write k) = flagGranted 2 policy k path
-grantsNeed policy path (Access k) = flagGranted 4 policy k path
-grantsNeed policy path (Disclose k h) = atMost (fin 1) (countGranted h policy k path)
+-- A permission that a component's grant holds: a flag, or a count of at least one.
+unfoldable pub grantsNeed : List Tree → Component → Need → Bool
+grantsNeed policy c Nothing = true
+grantsNeed policy c (Read k) = flagGranted 1 policy k c
+grantsNeed policy c (Write k) = flagGranted 2 policy k c
+grantsNeed policy c (Access k) = flagGranted 4 policy k c
+grantsNeed policy c (Disclose k h) = atMost (fin 1) (countGranted h policy k c)
 
 -- "it is an error if it fails 7 to 10 under the names' types, or needs a permission that its path's grant lacks"
 unfoldable pub isFine : List Tree → Act → Bool
-isFine policy a = passes a && grantsNeed policy (a .component .path) (needOf a)
+isFine policy a = passes a && grantsNeed policy (a .component) (needOf a)
 
 unfoldable pub nextFine : List Tree → Option Act → Bool
 nextFine policy none = true
@@ -170,7 +170,7 @@ pub record Guaranteed (a : Accepted) (ms : List Move) : Type 0 where
   -- of each component, kind and group whose count is finite: "the links it has handed over since the start plus those it still
   -- infers are at most that count"
   pub within : (l : Located) → List·Memᴰ l (located (a .sheet)) → (kind group : ℕ) → kind < 16 → group < 64
-      → isWithin (countGranted group (a .policy) kind (l .component .path))
+      → isWithin (countGranted group (a .policy) kind (l .component))
       (disclosedBy (l .component .number) kind group (start (a .sheet)) ms)
       (disclosed kind group (ofComponent (l .component .number) (stateActs (reached a ms))))
       ≡ true

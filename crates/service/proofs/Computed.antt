@@ -19,11 +19,11 @@ use Rattle.policy.specs.Reading.{asEleven, must, twoBytes, isCount, itemAt, rea
 use Rattle.policy.specs.WellFormed.{distinct, kindsDistinct, newBelow, noneAbove, sameList, samePermissions, agree, allAgree, sameHeads, disclosedTo, groupsAt, keepsWithin, allKeep, fenced}
 use Rattle.fit.specs.Grants.{reachedAmong, reached, treeFor, reachedIn, reachedFor, givenBy, flagGranted, storedCount, listed, joined, countGranted}
 use Rattle.fit.specs.Satisfies.{isTree, hasTree, pathReached, grantsOne, covered}
-use Rattle.service.specs.Questions.{passed, failed, ask, afterReading, typed, wellFormed, satisfied, judged}
+use Rattle.service.specs.Questions.{passed, failed, ask, afterReading, typed, wellFormed, satisfied, judgedFrom, judged}
 use Rattle.service.specs.Check.{Outcome, fitting, interfaceFor, written, checked}
 
 unfoldable pub computed : Unit {0}
-unfolding andThen byteAt below channel shape groupsThenKind typeAt components member limited newForm inputForm outputForm freshGroup groupForm componentForm processForm processAt systemForm systemAt processFrom readProcess component systemFrom readSystem freeTypes header toItsEnd readSheet sheetOf every any only gather rising _⊕_ atMost isZero repeatedly countNumber typeOf locate located acts actsOf sheetActs isKnown ofShape ofChannel isType inScope onChannel carriesObject inPath linkNeed carriedNeed channelNeed need needOn needOf isRead isWrite isAccess disclosures weigh total disclosed disclosuresOf entryOf isEmpty holdsAny entriesOf interface flagged permissions requiredOf countIn needed bit mapOf disclosureBytes listBytes entryBytes interfaceBytes hasBit alone headsOf heads asEleven must twoBytes isCount itemAt readList countedList readPermissions children readNode readTrees readPolicy distinct kindsDistinct newBelow noneAbove sameList samePermissions agree allAgree sameHeads disclosedTo groupsAt keepsWithin allKeep fenced reachedAmong reached treeFor reachedIn reachedFor givenBy flagGranted storedCount listed joined countGranted isTree hasTree pathReached grantsOne covered ask afterReading typed wellFormed satisfied judged fitting interfaceFor written checked
+unfolding andThen byteAt below channel shape groupsThenKind typeAt components member limited newForm inputForm outputForm freshGroup groupForm componentForm processForm processAt systemForm systemAt processFrom readProcess component systemFrom readSystem freeTypes header toItsEnd readSheet sheetOf every any only gather rising _⊕_ atMost isZero repeatedly countNumber typeOf locate located acts actsOf sheetActs isKnown ofShape ofChannel isType inScope onChannel carriesObject inPath linkNeed carriedNeed channelNeed need needOn needOf isRead isWrite isAccess disclosures weigh total disclosed disclosuresOf entryOf isEmpty holdsAny entriesOf interface flagged permissions requiredOf countIn needed bit mapOf disclosureBytes listBytes entryBytes interfaceBytes hasBit alone headsOf heads asEleven must twoBytes isCount itemAt readList countedList readPermissions children readNode readTrees readPolicy distinct kindsDistinct newBelow noneAbove sameList samePermissions agree allAgree sameHeads disclosedTo groupsAt keepsWithin allKeep fenced reachedAmong reached treeFor reachedIn reachedFor givenBy flagGranted storedCount listed joined countGranted isTree hasTree pathReached grantsOne covered ask afterReading typed wellFormed satisfied judgedFrom judged fitting interfaceFor written checked
 computed = tt
 
 -- What a row wants: the bytes written, or the number of the question that fails.

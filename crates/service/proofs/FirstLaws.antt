@@ -12,7 +12,7 @@ use Rattle.inference.specs.Acts.{Act, sheetActs}
 use Rattle.inference.specs.Interface.{Required, requiredOf}
 use Rattle.policy.specs.Syntax.{Tree}
 use Rattle.policy.specs.Reading.{readPolicy}
-use Rattle.service.specs.Questions.{Asked, passed, failed, ask, afterReading, typed, wellFormed, satisfied, Accepted, judged}
+use Rattle.service.specs.Questions.{Asked, passed, failed, ask, afterReading, typed, wellFormed, satisfied, Accepted, judgedFrom, judged}
 use Rattle.service.specs.Told.{firstFailed}
 use Rattle.service.proofs.JudgeLaws.{policy-eleven}
 
@@ -57,7 +57,7 @@ pub record ReadsAs (s c : List ℕ) (a : Accepted) : Type 0 where
   pub reads : sheetOf s c ≡ got (a .sheet) end
 
 judged-ends : (s c : List ℕ) → Ends (ReadsAs s c) (judged s c)
-unfolding judged
+unfolding judged judgedFrom
 judged-ends s c =
     ends-reading (ReadsAs s c) (sheetOf s c) _ (λ q at e. let h = sheet-question s c e in omega (arith, h .last)) (λ sheet k e.
     ends-typed (ReadsAs s c) (sheetActs sheet) _

@@ -21,7 +21,7 @@ use Rattle.policy.specs.WellFormed.{kindsDistinct, noneAbove, sameHeads, fenced
 use Rattle.fit.specs.Satisfies.{hasTree, pathReached, covered}
 use Rattle.policy.specs.Loads.{policyFault}
 use Rattle.fit.specs.Faults.{entryFault, entriesFault}
-use Rattle.service.specs.Questions.{Asked, passed, failed, ask, afterReading, typed, wellFormed, satisfied, Accepted, judged}
+use Rattle.service.specs.Questions.{Asked, passed, failed, ask, afterReading, typed, wellFormed, satisfied, Accepted, judgedFrom, judged}
 use Rattle.service.specs.Later.{orPassed, policyThenEntries, afterPolicy, laterFault}
 use Rattle.service.specs.Told.{firstFailed}
 
@@ -171,7 +171,7 @@ judged-by c r sheet k e = rw e refl
 
 judged-from : (s c : List ℕ) (sheet : Sheet) (k : ℕ) → sheetOf s c ≡ got sheet k
     → judged s c ≡ typed (sheetActs sheet) (later sheet (readPolicy c))
-unfolding judged later
+unfolding judged judgedFrom later
 judged-from s c sheet k e = judged-by c (sheetOf s c) sheet k e
 
 judged-read : (s c : List ℕ) (sheet : Sheet) (k : ℕ) → sheetOf s c ≡ got sheet k
@@ -235,7 +235,7 @@ later-first sheet c (refused q at) e = refl
 
 -- The first question that a sheet fails: by the reading, else by the walk's answer, else by the charter's.
 pub judged-refused : (s c : List ℕ) (q at : ℕ) → sheetOf s c ≡ refused q at → judged s c ≡ failed q
-unfolding judged
+unfolding judged judgedFrom
 judged-refused s c q at e = rw e (unfold afterReading in refl)
 
 pub judged-typing : (s c : List ℕ) (sheet : Sheet) (k : ℕ) → sheetOf s c ≡ got sheet k → worstAll (located sheet) < 11

@@ -57,11 +57,15 @@ pub record Accepted : Type 0 where
   pub sheet : Sheet
   pub policy : List Tree
 
--- Questions 1 to 18.
-unfoldable pub judged : List ℕ → List ℕ → Asked Accepted
-judged s c =
-    afterReading (sheetOf s c) (λ sheet.
+-- Questions 1 to 18, from what the readings of a sheet and of a charter answer.
+unfoldable pub judgedFrom : Read Sheet → Read (List Tree) → Asked Accepted
+judgedFrom sheetRead charterRead =
+    afterReading sheetRead (λ sheet.
     typed (sheetActs sheet)
-    (afterReading (readPolicy c) (λ policy.
+    (afterReading charterRead (λ policy.
     wellFormed policy
     (satisfied policy (requiredOf sheet) (passed (record { sheet = sheet; policy = policy }))))))
+
+-- Questions 1 to 18.
+unfoldable pub judged : List ℕ → List ℕ → Asked Accepted
+judged s c = judgedFrom (sheetOf s c) (readPolicy c)
