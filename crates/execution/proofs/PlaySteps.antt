@@ -168,13 +168,13 @@ new-tables = record {
 
 -- Questions 1 to 18.
 module _ (s c : List ℕ) (n : ℕ) (first : n ≡ firstFailed (judged s c)) where
-  pub refuses : (script log : List ℕ) → n < 19 → Played s c script log log (answer-case.Refused n)
+  pub refuses : (script log : List ℕ) → n < 64 → Played s c script log log (answer-case.Refused n)
   unfolding played opened openedFrom logged outcomeOf
   refuses script log h =
       let e : judged s c ≡ failed n = first-fails s c (omega (arith, first)) ∙ ap failed (sym first) in
       record { answer = rw e; lent = rw e }
 
-  module _ (h : 19 ≤ n) where
+  module _ (h : 64 ≤ n) where
     accepted : Passed s c
     accepted = first-passes s c (omega (arith, first))
 

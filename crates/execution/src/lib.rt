@@ -21,7 +21,7 @@ pub fn play(sheet: &[u8], charter: &[u8], script: &[u8], log: &mut [u8]) -> Answ
     ensures { λ r. ⌜ Played (now (sheet .entry)) (now (charter .entry)) (now (script .entry)) (now (log .entry)) (now (log .exit)) r ⌝ }
 {
     let failed = first_failed(sheet, charter);
-    if failed < 19 {
+    if failed < 64 {
         return Answer::Refused(failed);
     }
     play_accepted(sheet, script, log)

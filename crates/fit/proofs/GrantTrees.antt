@@ -10,9 +10,10 @@ use lib.Dec.{ltb, eqb, leb·suc-suc}
 use lib.ListN.{length, getD, take, drop, length-take, drop-of-length-le}
 use lib.Seq.{drop-cons, getD-take}
 use Rattle.reading.specs.Forms.{member}
+use Rattle.inference.specs.Acts.{Component}
 use Rattle.inference.specs.Lists.{every, any}
-use Rattle.inference.specs.Counts.{Count, atMost}
-use Rattle.inference.specs.Interface.{Entry, reading, writing, accessing, disclosing}
+use Rattle.inference.specs.Counts.{atMost}
+use Rattle.inference.specs.Interface.{Entry, reading, writing, accessing, disclosing, Required, needed}
 use Rattle.policy.specs.Syntax.{Node, Tree, hasBit, alone}
 use Rattle.policy.specs.WellFormed.{groupsAt}
 use Rattle.fit.specs.Grants.{treeFor, reached, reachedIn, reachedFor, flagGranted, countGranted}
@@ -136,32 +137,32 @@ module _ (c nodes : List ℕ) (policy : List Tree) (kind start end : ℕ) (tree 
   pub path-reached : every (λ g. member g (groupsAt (reachedFor policy kind path))) path ≡ every (λ row. ltb row 64) rows
   path-reached = rw (reached-root, given) (sym (all-found c nodes path start (end - start) (tree .root) (tree .fits) (tree .rows)))
 
-  pub flag-granted : (v : ℕ) → flagGranted v policy kind path ≡ any (λ row. hasBit v (givenAt c nodes row .map)) rows
+  pub flag-granted : (v : ℕ) (o : Component) → o .path ≡ path → flagGranted v policy kind o ≡ any (λ row. hasBit v (givenAt c nodes row .map)) rows
   unfolding flagGranted
-  flag-granted v = rw (reached-root, given) (sym (flag-given c nodes path start (end - start) (tree .root) (tree .fits) (tree .rows) v))
+  flag-granted v o e = rw (e, reached-root, given) (sym (flag-given c nodes path start (end - start) (tree .root) (tree .fits) (tree .rows) v))
 
-  pub count-granted : (h : ℕ) → countGranted h policy kind path ≡ joinedAt h c nodes rows
+  pub count-granted : (h : ℕ) (o : Component) → o .path ≡ path → countGranted h policy kind o ≡ joinedAt h c nodes rows
   unfolding countGranted
-  count-granted h = rw (reached-root, given) (sym (counts-given c nodes path start (end - start) (tree .root) (tree .fits) (tree .rows) h))
+  count-granted h o e = rw (e, reached-root, given) (sym (counts-given c nodes path start (end - start) (tree .root) (tree .fits) (tree .rows) h))
 
   -- Questions 17 and 18 of an entry.
-  module _ (e : Entry) (of-kind : e .kind ≡ kind) (of-path : e .component .path ≡ path) where
+  module _ (required : Required) (e : Entry) (of-kind : e .kind ≡ kind) (of-path : e .component .path ≡ path) where
     pub entry-reached : pathReached policy e ≡ every (λ row. ltb row 64) rows
     unfolding pathReached
     entry-reached = rw (of-kind, of-path) path-reached
 
-    pub entry-reading : grantsOne policy e reading ≡ any (λ row. hasBit 1 (givenAt c nodes row .map)) rows
+    pub entry-reading : grantsOne policy required e reading ≡ any (λ row. hasBit 1 (givenAt c nodes row .map)) rows
     unfolding grantsOne
-    entry-reading = rw (of-kind, of-path) (flag-granted 1)
+    entry-reading = rw of-kind (flag-granted 1 (e .component) of-path)
 
-    pub entry-writing : grantsOne policy e writing ≡ any (λ row. hasBit 2 (givenAt c nodes row .map)) rows
+    pub entry-writing : grantsOne policy required e writing ≡ any (λ row. hasBit 2 (givenAt c nodes row .map)) rows
     unfolding grantsOne
-    entry-writing = rw (of-kind, of-path) (flag-granted 2)
+    entry-writing = rw of-kind (flag-granted 2 (e .component) of-path)
 
-    pub entry-accessing : grantsOne policy e accessing ≡ any (λ row. hasBit 4 (givenAt c nodes row .map)) rows
+    pub entry-accessing : grantsOne policy required e accessing ≡ any (λ row. hasBit 4 (givenAt c nodes row .map)) rows
     unfolding grantsOne
-    entry-accessing = rw (of-kind, of-path) (flag-granted 4)
+    entry-accessing = rw of-kind (flag-granted 4 (e .component) of-path)
 
-    pub entry-disclosing : (h : ℕ) (count : Count) → grantsOne policy e (disclosing h count) ≡ atMost count (joinedAt h c nodes rows)
+    pub entry-disclosing : (h : ℕ) → grantsOne policy required e (disclosing h) ≡ atMost (needed required e h) (joinedAt h c nodes rows)
     unfolding grantsOne
-    entry-disclosing h count = rw (of-kind, of-path) (ap (atMost count) (count-granted h))
+    entry-disclosing h = ap (atMost (needed required e h)) (rw of-kind (count-granted h (e .component) of-path))

@@ -5,6 +5,7 @@ use mathlib.Core.Bool.{Bool, true, false, cond}
 use mathlib.Core.Option.{Option, some, none as nothing}
 use lib.Dec.{eqb}
 use Rattle.reading.specs.Forms.{member}
+use Rattle.inference.specs.Acts.{Component}
 use Rattle.inference.specs.Lists.{any}
 use Rattle.inference.specs.Counts.{Count, fin, unlimited, _⊕_}
 use Rattle.policy.specs.Syntax.{Granted, Permissions, Node, Nodes, none, more, Tree, Head, alone, hasBit}
@@ -39,8 +40,8 @@ givenBy g [] = record { map = 0; list = [] }
 givenBy g (h ∷ rest) = cond (eqb (h .group) g) (h .permissions) (givenBy g rest)
 
 -- "The grant is the joined permissions of the path's groups": a flag is granted where one of them has it.
-unfoldable pub flagGranted : ℕ → List Tree → ℕ → List ℕ → Bool
-flagGranted value policy kind path = any (λ g. hasBit value (givenBy g (reachedFor policy kind path) .map)) path
+unfoldable pub flagGranted : ℕ → List Tree → ℕ → Component → Bool
+flagGranted value policy kind c = any (λ g. hasBit value (givenBy g (reachedFor policy kind (c .path)) .map)) (c .path)
 
 -- the stored count as a count: 65,535 is unlimited
 unfoldable pub storedCount : ℕ → Count
@@ -57,5 +58,5 @@ joined h hs [] = fin 0
 joined h hs (g ∷ from) = listed h (givenBy g hs .list) ⊕ joined h hs from
 
 -- "The charter's count for a path, kind t and group G is G's count in that path's grant of t."
-unfoldable pub countGranted : ℕ → List Tree → ℕ → List ℕ → Count
-countGranted h policy kind path = joined h (reachedFor policy kind path) path
+unfoldable pub countGranted : ℕ → List Tree → ℕ → Component → Count
+countGranted h policy kind c = joined h (reachedFor policy kind (c .path)) (c .path)

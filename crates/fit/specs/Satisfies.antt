@@ -6,7 +6,7 @@ use mathlib.Core.Option.{Option, some, none}
 use Rattle.reading.specs.Forms.{member}
 use Rattle.inference.specs.Lists.{every}
 use Rattle.inference.specs.Counts.{atMost}
-use Rattle.inference.specs.Interface.{Entry, Permission, reading, writing, accessing, disclosing, permissions}
+use Rattle.inference.specs.Interface.{Entry, Permission, reading, writing, accessing, disclosing, permissions, Required, needed}
 use Rattle.policy.specs.Syntax.{Tree, Node}
 use Rattle.policy.specs.WellFormed.{groupsAt}
 use Rattle.fit.specs.Grants.{treeFor, reachedFor, flagGranted, countGranted}
@@ -25,12 +25,12 @@ pathReached policy e =
     every (λ g. member g (groupsAt (reachedFor policy (e .kind) (e .component .path)))) (e .component .path)
 
 -- One permission of an entry, against the grant: "flags present, each count at most the granted sum or that unlimited".
-unfoldable pub grantsOne : List Tree → Entry → Permission → Bool
-grantsOne policy e reading = flagGranted 1 policy (e .kind) (e .component .path)
-grantsOne policy e writing = flagGranted 2 policy (e .kind) (e .component .path)
-grantsOne policy e accessing = flagGranted 4 policy (e .kind) (e .component .path)
-grantsOne policy e (disclosing h count) = atMost count (countGranted h policy (e .kind) (e .component .path))
+unfoldable pub grantsOne : List Tree → Required → Entry → Permission → Bool
+grantsOne policy required e reading = flagGranted 1 policy (e .kind) (e .component)
+grantsOne policy required e writing = flagGranted 2 policy (e .kind) (e .component)
+grantsOne policy required e accessing = flagGranted 4 policy (e .kind) (e .component)
+grantsOne policy required e (disclosing h) = atMost (needed required e h) (countGranted h policy (e .kind) (e .component))
 
--- 18: "each entry covered by its grant". "Each post has the whole count to itself."
-unfoldable pub covered : List Tree → Entry → Bool
-covered policy e = every (grantsOne policy e) (permissions e)
+-- 18: "each entry covered by its grant".
+unfoldable pub covered : List Tree → Required → Entry → Bool
+covered policy required e = every (grantsOne policy required e) (permissions e)

@@ -3,7 +3,8 @@ ghost use mathlib.Core.Path.{_≡_};
 ghost use mathlib.Core.List.{List};
 ghost use Prim.Native.Nat.{ℕ, _<_, _≤_, _-_, min};
 ghost use Rattle.inference.specs.Counts.{atMost};
-ghost use Rattle.inference.specs.Rows.{countOf, extentAt, pathAt, entryAt, rowEntries, tableEntries};
+ghost use Rattle.inference.specs.Interface.{Required};
+ghost use Rattle.inference.specs.Rows.{countOf, extentAt, pathAt, entryAt, rowEntries, tableEntries, tableRequired};
 ghost use Rattle.policy.specs.Syntax.{Tree};
 ghost use Rattle.policy.specs.Loads.{Bounded, AllHeld};
 ghost use Rattle.fit.specs.Givers.{givenRows, totalOf, giversIn};
@@ -145,7 +146,7 @@ fn entry_fault(
 ) -> usize
     requires { ⌜ (component < 32) × (kind < 16) × Bounded trees ⌝ }
     ensures { λ r. ⌜ ((policy : List Tree) → AllHeld (now (c .entry)) (now (nodes .entry)) trees 0 policy
-        → r ≡ entryFault policy (entryAt (now (table .entry)) component kind)) ⌝ }
+        → (required : Required) → r ≡ entryFault policy required (entryAt (now (table .entry)) component kind)) ⌝ }
 {
     if map_at(table, component, kind) == 0 {
         return 19;
@@ -167,7 +168,7 @@ fn least(a: usize, b: usize) -> usize
 fn row_fault(c: &[u8], nodes: &[usize], trees: Trees, table: &[u16], component: usize) -> usize
     requires { ⌜ (component < 32) × Bounded trees ⌝ }
     ensures { λ r. ⌜ ((policy : List Tree) → AllHeld (now (c .entry)) (now (nodes .entry)) trees 0 policy
-        → r ≡ entriesFault policy (rowEntries (now (table .entry)) component)) ⌝ }
+        → (required : Required) → r ≡ entriesFault policy required (rowEntries (now (table .entry)) component)) ⌝ }
 {
     let mut first: usize = 19;
     let mut kind: usize = 0;
@@ -182,7 +183,7 @@ fn row_fault(c: &[u8], nodes: &[usize], trees: Trees, table: &[u16], component: 
 pub fn fit(c: &[u8], nodes: &[usize], trees: Trees, table: &[u16], components: usize) -> usize
     requires { ⌜ (components ≤ 32) × Bounded trees ⌝ }
     ensures { λ r. ⌜ ((policy : List Tree) → AllHeld (now (c .entry)) (now (nodes .entry)) trees 0 policy
-        → r ≡ entriesFault policy (tableEntries (now (table .entry)) components)) ⌝ }
+        → r ≡ entriesFault policy (tableRequired (now (table .entry)) components) (tableEntries (now (table .entry)) components)) ⌝ }
 {
     let mut first: usize = 19;
     let mut component: usize = 0;

@@ -1,4 +1,5 @@
 -- The lemmas that the proofs of the functions share, and laws of the definitions.
+pub mod NeedLaws
 pub mod NeedSteps
 pub mod RowSteps
 pub mod PathRows
@@ -7,5 +8,6 @@ pub mod WalkSteps
 pub mod SystemSteps
 pub mod SheetSteps
 pub mod CountLaws
+pub mod RequiredLaws
 pub mod ActLaws
 pub mod FaultLaws

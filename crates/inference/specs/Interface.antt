@@ -3,9 +3,10 @@ use Prim.Native.Nat.{ℕ, _+_, _/_, _%_}
 use mathlib.Core.List.{List, [], _∷_, _++_, map}
 use mathlib.Core.Bool.{Bool, true, false, cond, not, _||_}
 use lib.ListN.{length}
+use lib.Dec.{eqb}
 use Rattle.reading.specs.Syntax.{Sheet}
 use Rattle.inference.specs.Lists.{any, only, gather, rising}
-use Rattle.inference.specs.Counts.{Count, isZero, countNumber}
+use Rattle.inference.specs.Counts.{Count, fin, isZero, countNumber}
 use Rattle.inference.specs.Acts.{Component, Act, actsOf, Located, located}
 use Rattle.inference.specs.Needs.{needOf, isRead, isWrite, isAccess, disclosed}
 
@@ -27,7 +28,7 @@ pub record Entry : Type 0 where
 -- A permission of an entry.
 pub data Permission : Type 0 where
   reading writing accessing : Permission
-  disclosing : ℕ → Count → Permission
+  disclosing : ℕ → Permission
 
 -- The groups disclosed to, "groups strictly rising".
 unfoldable pub disclosuresOf : ℕ → List Act → List Disclosure
@@ -67,7 +68,24 @@ flagged false p = []
 unfoldable pub permissions : Entry → List Permission
 permissions e =
     flagged (e .read) reading ++ (flagged (e .write) writing ++ (flagged (e .access) accessing
-    ++ map (λ d. disclosing (d .group) (d .count)) (e .disclose)))
+    ++ map (λ d. disclosing (d .group)) (e .disclose)))
+
+-- What a sheet requires: its interface.
+pub record Required : Type 0 where
+  pub entries : List Entry
+
+unfoldable pub requiredOf : Sheet → Required
+requiredOf sheet = record { entries = interface sheet }
+
+-- The count of a group in a list; 0 where it is absent.
+unfoldable pub countIn : ℕ → List Disclosure → Count
+countIn h [] = fin 0
+countIn h (d ∷ rest) = cond (eqb (d .group) h) (d .count) (countIn h rest)
+
+-- How much an entry, one of what is required, needs to disclose into group h. "Each post has the whole count to itself": it is
+-- the entry's own count.
+unfoldable pub needed : Required → Entry → ℕ → Count
+needed required e h = countIn h (e .disclose)
 
 unfoldable pub bit : Bool → ℕ → ℕ
 bit true value = value

@@ -9,7 +9,7 @@ use Rattle.inference.specs.declared.Need.{Need}
 use Rattle.inference.specs.declared.Need.the-variants.{Nothing, Read, Write, Access, Disclose}
 use Rattle.inference.specs.Lists.{only, gather, rising}
 use Rattle.inference.specs.Counts.{Count, fin, unlimited, isZero}
-use Rattle.inference.specs.Interface.{Disclosure, Entry, holdsAny}
+use Rattle.inference.specs.Interface.{Disclosure, Entry, holdsAny, Required}
 
 -- one more, or unlimited under a repeat
 unfoldable pub bumped : ℕ → Bool → ℕ
@@ -92,3 +92,7 @@ rowEntries table component = only holdsAny (map (entryAt table component) (risin
 -- the interface that a table of `count` components holds
 unfoldable pub tableEntries : List ℕ → ℕ → List Entry
 tableEntries table count = gather (rowEntries table) (rising 0 count)
+
+-- the same as what a sheet requires
+unfoldable pub tableRequired : List ℕ → ℕ → Required
+tableRequired table count = record { entries = tableEntries table count }

@@ -1,66 +1,25 @@
 -- A component's row, after its path was stored and its acts were charged, holds the component's entries: each cell is the
 -- count of the acts that land in it, and the entry of a kind is read off the cells as the definition reads it off the acts.
-use Prim.Native.Nat.{ℕ, zero, suc, _+_, _-_, _%_, _<_, _≤_, min}
+use Prim.Native.Nat.{ℕ, zero, suc, _+_, _<_, _≤_, min}
 use mathlib.Core.Path.{_≡_, refl, sym, ap, ap₂, _∙_}
 use mathlib.Core.List.{List, [], _∷_, map}
 use mathlib.Core.Bool.{Bool, true, false, cond, not, _&&_, _||_}
-use mathlib.Core.Option.{Option, some, none}
 use mathlib.Core.Logic.{_⊎_}
 use native.Mathlib.Omega.{arith}
 use lib.ListN.{length}
-use lib.Dec.{ltb, eqb}
+use lib.Dec.{eqb}
 use borrow.Author.Tests.{eq-eqb, ne-eqb}
-use Rattle.reading.specs.Types.{shape}
-use Rattle.reading.specs.declared.Shape.{Shape}
-use Rattle.reading.specs.declared.Shape.the-variants.{Plain, Channel}
 use Rattle.inference.specs.declared.Need.{Need}
 use Rattle.inference.specs.declared.Need.the-variants.{Nothing, Read, Write, Access, Disclose}
 use Rattle.inference.specs.Lists.{any, only, rising}
 use Rattle.inference.specs.Counts.{Count, fin, unlimited, _⊕_, repeatedly, countNumber, isZero}
 use Rattle.inference.specs.Acts.{Act, Component}
-use Rattle.inference.specs.Needs.{linkNeed, carriedNeed, channelNeed, need, needOn, needOf, isRead, isWrite, isAccess, disclosures, weigh, total, disclosed}
+use Rattle.inference.specs.Needs.{needOf, isRead, isWrite, isAccess, disclosures, weigh, total, disclosed}
 use Rattle.inference.specs.Interface.{disclosuresOf, entryOf, holdsAny}
 use Rattle.inference.specs.Rows.{cell, countOf, isSet, extentAt, disclosuresAt, entryAt, pathAt, stored, rowEntries}
 use Rattle.inference.proofs.CountLaws.{join-comm}
+use Rattle.inference.proofs.NeedLaws.{NeedRange, act-range}
 use Rattle.interface.proofs.CellLaws.{landsIn, lands, lands-off-column, lands-few, Few, few-weigh}
-
--- a disclosed group is a group
-unfoldable pub Narrow : Need → Type 0
-Narrow Nothing = Unit {0}
-Narrow (Read t) = Unit {0}
-Narrow (Write t) = Unit {0}
-Narrow (Access t) = Unit {0}
-Narrow (Disclose t g) = g < 64
-
-narrow-link : (sends : Bool) (g : ℕ) → g < 64 → (s : Shape) → Narrow (linkNeed sends g s)
-unfolding Narrow linkNeed
-narrow-link true g h (Plain t) = h
-narrow-link false g h (Plain t) = tt
-narrow-link true g h (Channel i u) = tt
-narrow-link false g h (Channel i u) = tt
-
-narrow-carried : (sends : Bool) (g : ℕ) → g < 64 → (s : Shape) → Narrow (carriedNeed sends g s)
-unfolding carriedNeed
-narrow-carried true g h (Plain t) = unfold Narrow in tt
-narrow-carried false g h (Plain t) = unfold Narrow in tt
-narrow-carried true g h (Channel i u) = narrow-link true g h (shape u)
-narrow-carried false g h (Channel i u) = narrow-link false g h (shape u)
-
-narrow-need : (sends : Bool) (t : ℕ) → Narrow (need sends t)
-unfolding need channelNeed shape
-narrow-need sends t = go (ltb t 16)
-  where
-    go : (b : Bool) → Narrow (channelNeed sends (cond b (Plain t) (Channel ((t - 16) % 64) (Prim.Native.Nat._/_ (t - 16) 64))))
-    go true = unfold Narrow in tt
-    go false = narrow-carried sends ((t - 16) % 64) (omega arith) (shape (Prim.Native.Nat._/_ (t - 16) 64))
-
-pub narrow : (a : Act) → Narrow (needOf a)
-unfolding needOf
-narrow a = go (a .channel)
-  where
-    go : (o : Option ℕ) → Narrow (needOn (a .sends) o)
-    go none = unfold Narrow needOn in tt
-    go (some t) = unfold needOn in narrow-need (a .sends) t
 
 -- which needs land in which column
 lands-on : (t column k : ℕ) → landsIn t column k column ≡ cond (eqb t k) 1 0
@@ -71,29 +30,29 @@ lands-on t column k = rw (eq-eqb column column refl) (go (eqb t k))
     go true = refl
     go false = refl
 
-lands-read : (k : ℕ) (n : Need) → Narrow n → lands k 64 n ≡ cond (isRead k n) 1 0
-unfolding lands isRead Narrow
+lands-read : (k : ℕ) (n : Need) → NeedRange n → lands k 64 n ≡ cond (isRead k n) 1 0
+unfolding lands isRead NeedRange
 lands-read k Nothing h = refl
 lands-read k (Read t) h = lands-on t 64 k
 lands-read k (Write t) h = lands-off-column t 65 k 64 (λ e. omega arith)
 lands-read k (Access t) h = lands-off-column t 66 k 64 (λ e. omega arith)
-lands-read k (Disclose t g) h = lands-off-column t g k 64 (λ e. omega arith)
+lands-read k (Disclose t g) h = lands-off-column t g k 64 (λ e. omega (arith, h .1))
 
-lands-write : (k : ℕ) (n : Need) → Narrow n → lands k 65 n ≡ cond (isWrite k n) 1 0
-unfolding lands isWrite Narrow
+lands-write : (k : ℕ) (n : Need) → NeedRange n → lands k 65 n ≡ cond (isWrite k n) 1 0
+unfolding lands isWrite NeedRange
 lands-write k Nothing h = refl
 lands-write k (Read t) h = lands-off-column t 64 k 65 (λ e. omega arith)
 lands-write k (Write t) h = lands-on t 65 k
 lands-write k (Access t) h = lands-off-column t 66 k 65 (λ e. omega arith)
-lands-write k (Disclose t g) h = lands-off-column t g k 65 (λ e. omega arith)
+lands-write k (Disclose t g) h = lands-off-column t g k 65 (λ e. omega (arith, h .1))
 
-lands-access : (k : ℕ) (n : Need) → Narrow n → lands k 66 n ≡ cond (isAccess k n) 1 0
-unfolding lands isAccess Narrow
+lands-access : (k : ℕ) (n : Need) → NeedRange n → lands k 66 n ≡ cond (isAccess k n) 1 0
+unfolding lands isAccess NeedRange
 lands-access k Nothing h = refl
 lands-access k (Read t) h = lands-off-column t 64 k 66 (λ e. omega arith)
 lands-access k (Write t) h = lands-off-column t 65 k 66 (λ e. omega arith)
 lands-access k (Access t) h = lands-on t 66 k
-lands-access k (Disclose t g) h = lands-off-column t g k 66 (λ e. omega arith)
+lands-access k (Disclose t g) h = lands-off-column t g k 66 (λ e. omega (arith, h .1))
 
 lands-disclose : (k h : ℕ) → h < 64 → (n : Need) → lands k h n ≡ disclosures k h n
 unfolding lands disclosures landsIn
@@ -204,9 +163,9 @@ module _ (table : List ℕ) (n : ℕ) (acts : List Act) (h : Counted table n act
   entry-cells k q c e f = λ i. record {
     component = record { number = sym e i; path = sym f i };
     kind = k;
-    read = flag-cell k 64 q (omega arith) (isRead k) (λ a. lands-read k (needOf a) (narrow a)) i;
-    write = flag-cell k 65 q (omega arith) (isWrite k) (λ a. lands-write k (needOf a) (narrow a)) i;
-    access = flag-cell k 66 q (omega arith) (isAccess k) (λ a. lands-access k (needOf a) (narrow a)) i;
+    read = flag-cell k 64 q (omega arith) (isRead k) (λ a. lands-read k (needOf a) (act-range a)) i;
+    write = flag-cell k 65 q (omega arith) (isWrite k) (λ a. lands-write k (needOf a) (act-range a)) i;
+    access = flag-cell k 66 q (omega arith) (isAccess k) (λ a. lands-access k (needOf a) (act-range a)) i;
     disclose = disclosures-cells k q i;
   }
 

@@ -1,15 +1,16 @@
 -- The components of a sheet that was read can be stored in the table: their numbers are consecutive, there are at most 32 of
--- them, their paths have at most eight groups below 64, and they have fewer acts than the sheet has bytes.
+-- them, their paths have at most eight groups below 64, none twice, and they have fewer acts than the sheet has bytes.
 use Prim.Native.Nat.{ℕ, zero, suc, _+_, _-_, _*_, _<_, _≤_}
 use mathlib.Core.Option.{Option, some}
 use mathlib.Core.Path.{_≡_, refl, sym, ap, ap₂, _∙_}
 use mathlib.Core.List.{List, [], _∷_, _++_, map}
-use mathlib.Core.Bool.{Bool, true, false}
+use mathlib.Core.Bool.{Bool, true, false, cond, _||_}
 use native.Mathlib.Omega.{arith}
 use lib.ListN.{length, getD, replicate, length-append, length-replicate, getD-replicate, List·getD-append, List·getD-eq-default}
 use lib.Seq.{getD-append-seam}
 use lib.Dec.{eqb}
 use Rattle.reading.specs.Dialects.{current}
+use borrow.Author.Tests.{eqb-false, ne-eqb}
 use Rattle.reading.specs.Read.{Read, got, refused, andThen, byteAt, below}
 use Rattle.reading.specs.Types.{typeAt}
 use Rattle.reading.specs.Syntax.{Process, nil, par, new, input, output, repl, System, nilₛ, parₛ, groupₛ, newₛ, compₛ, Sheet, components}
@@ -29,7 +30,7 @@ use Rattle.inference.specs.Interface.{interface}
 use Rattle.inference.specs.Rows.{tableEntries, rowEntries}
 use Rattle.inference.specs.Walks.{chargedAll}
 use Rattle.interface.proofs.CellLaws.{AllOf, of-none, of-more}
-use Rattle.interface.proofs.TableLaws.{FitsRow, Clear, AllStorable, store-none, store-more, table-from}
+use Rattle.interface.proofs.TableLaws.{NoneTwice, twice-none, twice-more, FitsRow, Clear, AllStorable, store-none, store-more, table-from}
 
 -- How many acts a process has.
 unfoldable pub actCount : Process → ℕ
@@ -110,45 +111,79 @@ own-acts c r scope (input x t p) = of-more refl (own-acts c r (scope ++ (some t 
 own-acts c r scope (output x y p) = of-more refl (own-acts c r scope p)
 own-acts c r scope (repl p) = own-acts c true scope p
 
--- A form's group is below 64.
-unfoldable GroupBelow : Form → Type 0
-GroupBelow Nil = Unit {0}
-GroupBelow Par = Unit {0}
-GroupBelow (Group g) = g < 64
-GroupBelow (New t) = Unit {0}
-GroupBelow (Component own) = own .group < 64
-GroupBelow (Input a) = Unit {0}
-GroupBelow (Output a) = Unit {0}
-GroupBelow Replicate = Unit {0}
+-- A form's group is below 64 and new to its path (question 6).
+record NewTo (path : List ℕ) (g : ℕ) : Type 0 where
+  small : g < 64
+  fresh : member g path ≡ false
 
-fresh-below : (s : List ℕ) (at : ℕ) (path : List ℕ) → Every (λ g. g < 64) (freshGroupIn current s at path)
+unfoldable GroupNew : List ℕ → Form → Type 0
+GroupNew path Nil = Unit {0}
+GroupNew path Par = Unit {0}
+GroupNew path (Group g) = NewTo path g
+GroupNew path (New t) = Unit {0}
+GroupNew path (Component own) = NewTo path (own .group)
+GroupNew path (Input a) = Unit {0}
+GroupNew path (Output a) = Unit {0}
+GroupNew path Replicate = Unit {0}
+
+fresh-new : (s : List ℕ) (at : ℕ) (path : List ℕ) → Every (NewTo path) (freshGroupIn current s at path)
 unfolding Every freshGroupIn current
-fresh-below s at path = every-then _ (below 64 s at) _ (λ g next e. every-cond _ (member g path) _ _ tt (below-found 64 s at e))
+fresh-new s at path = every-then (NewTo path) (below 64 s at) _ (λ g next e. go g next (below-found 64 s at e) (member g path) refl)
+  where
+    go : (g next : ℕ) → g < 64 → (b : Bool) → member g path ≡ b → Every (NewTo path) (cond b (refused 6 at) (got g next))
+    go g next l true e = tt
+    go g next l false e = record { small = l; fresh = e }
 
-form-group : (s : List ℕ) (at nest names : ℕ) (path : List ℕ) (preceding : ℕ) → Every GroupBelow (systemAt s at nest names path preceding)
-unfolding Every GroupBelow systemAtIn systemFormIn groupFormIn componentFormIn newFormIn
+form-group : (s : List ℕ) (at nest names : ℕ) (path : List ℕ) (preceding : ℕ) → Every (GroupNew path) (systemAt s at nest names path preceding)
+unfolding Every GroupNew systemAtIn systemFormIn groupFormIn componentFormIn newFormIn
 form-group s at nest names path preceding = every-then P (byteAt s at) _ (λ code next _.
     every-cond P (eqb code 0) _ _ (every-limited P _ at _ (λ e. tt))
     (every-cond P (eqb code 1) _ _ (every-limited P _ at _ (λ e. tt))
-    (every-cond P (eqb code 2) _ _ (every-limited P _ at _ (λ e. every-then P (freshGroupIn current s next path) _ (λ g m h. of-found _ (freshGroupIn current s next path) (fresh-below s next path) h)))
+    (every-cond P (eqb code 2) _ _ (every-limited P _ at _ (λ e. every-then P (freshGroupIn current s next path) _ (λ g m h. of-found _ (freshGroupIn current s next path) (fresh-new s next path) h)))
     (every-cond P (eqb code 3) _ _ (every-limited P _ at _ (λ e. every-then P (typeAt s next) _ (λ t m h. tt)))
-    (every-cond P (eqb code 4) _ _ (every-limited P _ at _ (λ e. every-then P (freshGroupIn current s next path) _ (λ g m h. of-found _ (freshGroupIn current s next path) (fresh-below s next path) h))) tt)))))
+    (every-cond P (eqb code 4) _ _ (every-limited P _ at _ (λ e. every-then P (freshGroupIn current s next path) _ (λ g m h. of-found _ (freshGroupIn current s next path) (fresh-new s next path) h))) tt)))))
   where
     P : Form → Type 0
-    P = GroupBelow
+    P = GroupNew path
+
+-- A group that is new to a path, put after it, stands in it once.
+member-append : (x g : ℕ) (path : List ℕ) → member x (path ++ (g ∷ [])) ≡ (member x path || eqb g x)
+unfolding member
+member-append x g [] = go (eqb g x)
+  where
+    go : (b : Bool) → (b || false) ≡ b
+    go true = refl
+    go false = refl
+member-append x g (y ∷ path) = rw (member-append x g path) (go (eqb y x) (member x path) (eqb g x))
+  where
+    go : (a b c : Bool) → (a || (b || c)) ≡ ((a || b) || c)
+    go true b c = refl
+    go false b c = refl
+
+neither : (a b : Bool) → (a || b) ≡ false → (a ≡ false) × (b ≡ false)
+neither false b h = (refl, h)
+neither true b h = let z : _≡_ {A = ℕ} 0 1 = cc in absurd (omega arith)
+
+once-more : (g : ℕ) {path : List ℕ} → NoneTwice path → member g path ≡ false → NoneTwice (path ++ (g ∷ []))
+unfolding member
+once-more g twice-none h = twice-more refl twice-none
+once-more g (twice-more {g = x} {rest = rest} e more) h =
+    let n : (eqb x g ≡ false) × (member g rest ≡ false) = neither (eqb x g) (member g rest) h in
+    twice-more (member-append x g rest ∙ rw (e, ne-eqb g x (λ q. eqb-false x g (n .0) (sym q))) refl) (once-more g more (n .1))
 
 -- A path with one more group fits a row.
-fits-more : (path : List ℕ) (g : ℕ) → FitsRow path → length path < 8 → g < 64 → FitsRow (path ++ (g ∷ []))
-fits-more path g h short small = record {
+fits-more : (path : List ℕ) (g : ℕ) → FitsRow path → length path < 8 → NewTo path g → FitsRow (path ++ (g ∷ []))
+fits-more path g h short new-to = record {
   short = rw (length-append path (g ∷ [])) (omega arith);
   groups = λ i p. each i (rw (length-append path (g ∷ [])) at p);
+  once = once-more g (h .once) (new-to .fresh);
 }
   where
     each : (i : ℕ) → i < length path + 1 → getD (path ++ (g ∷ [])) i 0 < 64
     each i p = go (ℕ-discrete i (length path))
       where
         go : Dec (i ≡ length path) → getD (path ++ (g ∷ [])) i 0 < 64
-        go (yes e) = rw (e, getD-append-seam path g [] 0) small
+        go (yes e) = rw (e, getD-append-seam path g [] 0) (new-to .small)
         go (no f) =
             let lt : i < length path = omega arith in
             rw (List·getD-append path (g ∷ []) 0 i lt) (h .groups i lt)
@@ -174,9 +209,9 @@ module _ (read : ℕ → List ℕ → ℕ → ℕ → Read System) (process : �
     → AllStorable preceding (locate preceding path scope p))
     (a : (m : ℕ) (p : Process) (k : ℕ) → process m ≡ got p k → m + actCount p ≤ k)
     (at names : ℕ) (path : List ℕ) (preceding : ℕ) (scope : List (Option ℕ)) (fits : FitsRow path) where
-  store-from : (f : Form) (next : ℕ) → FitsSystem 64 0 (length path) preceding f → GroupBelow f → {p : System} {k : ℕ}
+  store-from : (f : Form) (next : ℕ) → FitsSystem 64 0 (length path) preceding f → GroupNew path f → {p : System} {k : ℕ}
       → systemFrom read process at names path preceding f next ≡ got p k → k ≤ 65000 → AllStorable preceding (locate preceding path scope p)
-  unfolding systemFrom component FitsSystem GroupBelow locate componentAt actsOf
+  unfolding systemFrom component FitsSystem GroupNew locate componentAt actsOf
   store-from Nil next h g {p} e few = let z : nilₛ ≡ p = cc in rw (← z) store-none
   store-from Par next h g {p} {k} e few =
       let x = parts (read names path preceding next) (λ u m. andThen (read names path (preceding + components u) m) (λ v j. got (parₛ u v) j)) e in
@@ -246,7 +281,7 @@ pub sheet-storable : (s charter : List ℕ) (sheet : Sheet) (k : ℕ) → SheetP
 unfolding located
 sheet-storable s charter sheet k h =
     store-read 64 s (length (sheet .free)) [] 0 (h .start) (map some (sheet .free)) (sheet .system) k (h .body)
-    (record { short = omega arith; groups = λ i p. absurd (omega arith) }) (omega (arith, h .end, h .short))
+    (record { short = omega arith; groups = λ i p. absurd (omega arith); once = twice-none }) (omega (arith, h .end, h .short))
 
 pub sheet-components : (s charter : List ℕ) (sheet : Sheet) (k : ℕ) → SheetParts s charter sheet k → components (sheet .system) ≤ 32
 sheet-components s charter sheet k h =

@@ -3,11 +3,13 @@
 use Prim.Native.Nat.{ℕ, zero, suc, _+_, _-_, _*_, _%_, _<_, _≤_, min}
 use mathlib.Core.Path.{_≡_, refl, sym, ap, ap₂, _∙_}
 use mathlib.Core.List.{List, [], _∷_, _++_}
+use mathlib.Core.Bool.{false}
 use mathlib.Core.Logic.{inl, inr}
 use native.Mathlib.Omega.{arith}
 use native.Mathlib.Nat.{mod-eq-of-lt}
 use lib.ListN.{length, getD, set, take, drop, length-set, length-take, length-drop}
 use lib.Seq.{getD-set-same, getD-set-other, getD-take, getD-drop, ext-getD}
+use Rattle.reading.specs.Forms.{member}
 use Rattle.inference.specs.Lists.{gather, rising}
 use Rattle.inference.specs.Counts.{fin, countNumber}
 use Rattle.inference.specs.Acts.{Located, actsOf}
@@ -50,10 +52,16 @@ stored-in table at (x ∷ xs) (suc j) p q =
     let e : at + suc j ≡ (at + 1) + j = omega arith in
     rw e (stored-in (set table at (x % 65536)) (at + 1) xs j (omega arith) (rw (length-set table at (x % 65536)) (omega arith)))
 
--- A path that fits a row: at most eight groups, each below 64.
+-- No group stands twice in a path.
+pub data NoneTwice : List ℕ → Type 0 where
+  twice-none : NoneTwice []
+  twice-more : {g : ℕ} {rest : List ℕ} → member g rest ≡ false → NoneTwice rest → NoneTwice (g ∷ rest)
+
+-- A path that fits a row: at most eight groups, each below 64, none twice (question 6).
 pub record FitsRow (path : List ℕ) : Type 0 where
   pub short : length path ≤ 8
   pub groups : (i : ℕ) → i < length path → getD path i 0 < 64
+  pub once : NoneTwice path
 
 -- Two tables agree on the first nine cells of a row.
 agree-path : {rows : ℕ} (table table′ : List ℕ) (n : ℕ) → n < rows → length table ≡ rows * 1097 → length table′ ≡ rows * 1097

@@ -323,7 +323,7 @@ fn with_tree(trees: Trees, kind: usize, end: usize) -> Trees
     }
 }
 
-fn no_trees() -> Trees
+pub fn no_trees() -> Trees
     ensures { λ r. ⌜ r ≡ noTrees ⌝ }
 {
     Trees {

@@ -1,31 +1,29 @@
 -- What questions 1 to 18 answered "passed" say of a sheet and its policy: every act passes questions 7 to 10, every permission
 -- that an act needs is granted to its path, and what a component's process discloses is at most what its path is granted.
-use Prim.Native.Nat.{ℕ, zero, suc, _+_, _-_, _/_, _%_, _<_, _≤_}
+use Prim.Native.Nat.{ℕ, zero, suc, _+_, _<_, _≤_}
 use native.Mathlib.Omega.{arith}
 use mathlib.Core.Bool.{Bool, true, false, cond, not, _||_}
 use mathlib.Core.List.{List, [], _∷_, _++_, map, List·Memᴰ, List·Memᴰ·head, List·Memᴰ·tail}
-use mathlib.Core.Option.{Option, some, none}
 use mathlib.Core.Path.{_≡_, refl, ap}
-use lib.Dec.{eqb, ltb}
-use borrow.Author.Tests.{eqb-true, eqb-false, eq-eqb, ltb-true, le-leb}
+use lib.Dec.{eqb}
+use borrow.Author.Tests.{eqb-true, eqb-false, eq-eqb, le-leb}
 use Rattle.reading.specs.Read.{Read, got, refused}
-use Rattle.reading.specs.Types.{shape}
-use Rattle.reading.specs.declared.Shape.{Shape}
-use Rattle.reading.specs.declared.Shape.the-variants.{Plain, Channel}
 use Rattle.inference.specs.Lists.{every, any, only, gather, rising}
 use Rattle.inference.specs.Counts.{Count, fin, unlimited, _⊕_, atMost, isZero, repeatedly}
 use Rattle.inference.specs.Acts.{Act, Located, located, actsOf, sheetActs}
 use Rattle.inference.specs.Typing.{inScope, onChannel, carriesObject, inPath}
-use Rattle.inference.specs.Needs.{linkNeed, carriedNeed, channelNeed, need, needOn, needOf, isRead, isWrite, isAccess, disclosures, weigh, total, disclosed}
+use Rattle.inference.specs.Needs.{needOf, isRead, isWrite, isAccess, disclosures, weigh, total, disclosed}
 use Rattle.inference.specs.declared.Need.{Need}
 use Rattle.inference.specs.declared.Need.the-variants.{Nothing, Read as Reads, Write as Writes, Access as Accesses, Disclose as Discloses}
-use Rattle.inference.specs.Interface.{Disclosure, Entry, Permission, reading, writing, accessing, disclosing, disclosuresOf, entryOf, isEmpty, holdsAny, entriesOf, interface, flagged, permissions}
+use Rattle.inference.specs.Interface.{Disclosure, Permission, reading, writing, accessing, disclosing, disclosuresOf, entryOf, isEmpty, holdsAny, entriesOf, interface, flagged, permissions, Required, requiredOf, needed}
 use Rattle.inference.proofs.CountLaws.{join-comm, at-most-self, at-most-trans, at-most-joined}
+use Rattle.inference.proofs.NeedLaws.{NeedRange, act-range}
+use Rattle.inference.proofs.RequiredLaws.{needed-acts}
 use Rattle.policy.specs.Syntax.{Tree}
 use Rattle.policy.specs.WellFormed.{kindsDistinct, noneAbove, sameHeads, fenced}
 use Rattle.fit.specs.Grants.{flagGranted, countGranted}
 use Rattle.fit.specs.Satisfies.{hasTree, pathReached, grantsOne, covered}
-use Rattle.service.specs.Questions.{Asked, passed, ask, afterReading, typed, wellFormed, satisfied, Accepted, judged}
+use Rattle.service.specs.Questions.{Asked, passed, ask, afterReading, typed, wellFormed, satisfied, Accepted, judgedFrom, judged}
 use Rattle.running.specs.Guarantees.{passes, grantsNeed, isFine, ofComponent}
 use Rattle.running.proofs.Alls.{All, done, also, or-first, or-second, any-member, all-both, all-right, all-head, all-each, all-gather, all-member, all-from, all-every}
 use Rattle.running.proofs.Components.{acts-component, component-acts}
@@ -68,13 +66,16 @@ formed-rest : {A : Type 0} (policy : List Tree) (rest : Asked A) (a : A) → wel
 unfolding wellFormed
 formed-rest policy rest a h = ask-rest 15 (fenced policy) _ a (ask-rest 14 (sameHeads policy) _ a (ask-rest 13 (noneAbove policy) _ a (ask-rest 12 (kindsDistinct policy) _ a h)))
 
-satisfied-yes : {A : Type 0} (policy : List Tree) (es : List Entry) (rest : Asked A) (a : A) → satisfied policy es rest ≡ passed a → every (covered policy) es ≡ true
-unfolding satisfied
-satisfied-yes policy es rest a h = ask-yes 18 (every (covered policy) es) _ a (ask-rest 17 (every (pathReached policy) es) _ a (ask-rest 16 (every (hasTree policy) es) _ a h))
+module _ {A : Type 0} (policy : List Tree) (required : Required) (rest : Asked A) (a : A) (h : satisfied policy required rest ≡ passed a) where
+  last-asked : ask 18 (every (covered policy required) (required .entries)) rest ≡ passed a
+  unfolding satisfied
+  last-asked = ask-rest 17 (every (pathReached policy) (required .entries)) _ a (ask-rest 16 (every (hasTree policy) (required .entries)) _ a h)
 
-satisfied-rest : {A : Type 0} (policy : List Tree) (es : List Entry) (rest : Asked A) (a : A) → satisfied policy es rest ≡ passed a → rest ≡ passed a
-unfolding satisfied
-satisfied-rest policy es rest a h = ask-rest 18 (every (covered policy) es) _ a (ask-rest 17 (every (pathReached policy) es) _ a (ask-rest 16 (every (hasTree policy) es) _ a h))
+  satisfied-yes : every (covered policy required) (required .entries) ≡ true
+  satisfied-yes = ask-yes 18 (every (covered policy required) (required .entries)) _ a last-asked
+
+  satisfied-rest : rest ≡ passed a
+  satisfied-rest = ask-rest 18 (every (covered policy required) (required .entries)) _ a last-asked
 
 on-reading : {A B : Type 0} (R : Type 0) (r : Read A) (f : A → Asked B) (b : B) → afterReading r f ≡ passed b → ((x : A) → f x ≡ passed b → R) → R
 unfolding afterReading
@@ -84,20 +85,20 @@ on-reading R (refused q at) f b h go = let z : _≡_ {A = ℕ} 0 1 = cc in absur
 -- Questions 7 to 10 and 18 of what is accepted.
 record Passed (a : Accepted) : Type 0 where
   acts-typed : Typed (sheetActs (a .sheet))
-  entries-covered : every (covered (a .policy)) (interface (a .sheet)) ≡ true
+  entries-covered : every (covered (a .policy) (requiredOf (a .sheet))) (requiredOf (a .sheet) .entries) ≡ true
 
 passed-as : (a b : Accepted) → passed a ≡ passed b → Passed a → Passed b
 passed-as a b e p = let z : a ≡ b = cc in rw z at p
 
 judged-passed : (s c : List ℕ) (a : Accepted) → judged s c ≡ passed a → Passed a
-unfolding judged
+unfolding judged judgedFrom
 judged-passed s c a h =
     on-reading (Passed a) _ _ a h (λ sheet k.
     let t : Typed (sheetActs sheet) = typed-yes (sheetActs sheet) _ a k in
     on-reading (Passed a) _ _ a (typed-rest (sheetActs sheet) _ a k) (λ policy l.
-    let m : satisfied policy (interface sheet) (passed (record { sheet = sheet; policy = policy })) ≡ passed a = formed-rest policy _ a l in
-    passed-as (record { sheet = sheet; policy = policy }) a (satisfied-rest policy (interface sheet) _ a m)
-    (record { acts-typed = t; entries-covered = satisfied-yes policy (interface sheet) _ a m })))
+    let m : satisfied policy (requiredOf sheet) (passed (record { sheet = sheet; policy = policy })) ≡ passed a = formed-rest policy _ a l in
+    passed-as (record { sheet = sheet; policy = policy }) a (satisfied-rest policy (requiredOf sheet) _ a m)
+    (record { acts-typed = t; entries-covered = satisfied-yes policy (requiredOf sheet) _ a m })))
 
 passes-all : (a : Act) → inScope a ≡ true → onChannel a ≡ true → carriesObject a ≡ true → inPath a ≡ true → passes a ≡ true
 unfolding passes
@@ -156,27 +157,27 @@ zero-at-most (fin (suc m)) b h = let z : _≡_ {A = ℕ} 0 1 = cc in absurd (ome
 zero-at-most unlimited b h = let z : _≡_ {A = ℕ} 0 1 = cc in absurd (omega arith)
 
 -- An entry with a permission is in the interface, and so each of its permissions is granted.
-module _ (policy : List Tree) (l : Located) (cover : All (λ e. covered policy e ≡ true) (entriesOf l)) where
+module _ (policy : List Tree) (required : Required) (l : Located) (cover : All (λ e. covered policy required e ≡ true) (entriesOf l)) where
   granted-at : (k : ℕ) → k < 16 → holdsAny (entryOf (l .component) (actsOf l) k) ≡ true
-      → All (λ p. grantsOne policy (entryOf (l .component) (actsOf l) k) p ≡ true) (permissions (entryOf (l .component) (actsOf l) k))
+      → All (λ p. grantsOne policy required (entryOf (l .component) (actsOf l) k) p ≡ true) (permissions (entryOf (l .component) (actsOf l) k))
   unfolding entriesOf covered
   granted-at k h e =
-      all-every (grantsOne policy (entryOf (l .component) (actsOf l) k)) (permissions (entryOf (l .component) (actsOf l) k))
+      all-every (grantsOne policy required (entryOf (l .component) (actsOf l) k)) (permissions (entryOf (l .component) (actsOf l) k))
       (kept-at holdsAny (entryOf (l .component) (actsOf l)) 0 16 k cover (omega arith) (omega arith) e)
 
-  read-granted : (k : ℕ) → k < 16 → any (λ a. isRead k (needOf a)) (actsOf l) ≡ true → flagGranted 1 policy k (l .component .path) ≡ true
+  read-granted : (k : ℕ) → k < 16 → any (λ a. isRead k (needOf a)) (actsOf l) ≡ true → flagGranted 1 policy k (l .component) ≡ true
   unfolding permissions entryOf holdsAny grantsOne
   read-granted k h e =
       let q : holdsAny (entryOf (l .component) (actsOf l) k) ≡ true = or-first _ _ (or-first _ _ e) in
       first-flag _ reading _ e (granted-at k h q)
 
-  write-granted : (k : ℕ) → k < 16 → any (λ a. isWrite k (needOf a)) (actsOf l) ≡ true → flagGranted 2 policy k (l .component .path) ≡ true
+  write-granted : (k : ℕ) → k < 16 → any (λ a. isWrite k (needOf a)) (actsOf l) ≡ true → flagGranted 2 policy k (l .component) ≡ true
   unfolding permissions entryOf holdsAny grantsOne
   write-granted k h e =
       let q : holdsAny (entryOf (l .component) (actsOf l) k) ≡ true = or-first _ _ (or-second (any (λ a. isRead k (needOf a)) (actsOf l)) _ e) in
       first-flag _ writing _ e (all-right (flagged (any (λ a. isRead k (needOf a)) (actsOf l)) reading) _ (granted-at k h q))
 
-  access-granted : (k : ℕ) → k < 16 → any (λ a. isAccess k (needOf a)) (actsOf l) ≡ true → flagGranted 4 policy k (l .component .path) ≡ true
+  access-granted : (k : ℕ) → k < 16 → any (λ a. isAccess k (needOf a)) (actsOf l) ≡ true → flagGranted 4 policy k (l .component) ≡ true
   unfolding permissions entryOf holdsAny grantsOne
   access-granted k h e =
       let q : holdsAny (entryOf (l .component) (actsOf l) k) ≡ true
@@ -195,72 +196,30 @@ module _ (policy : List Tree) (l : Located) (cover : All (λ e. covered policy e
   lists-it k h j e false q = refl
 
   counted : (k h : ℕ) → k < 16 → h < 64 → isZero (disclosed k h (actsOf l)) ≡ false
-      → atMost (disclosed k h (actsOf l)) (countGranted h policy k (l .component .path)) ≡ true
+      → atMost (disclosed k h (actsOf l)) (countGranted h policy k (l .component)) ≡ true
   unfolding permissions entryOf holdsAny grantsOne disclosuresOf
   counted k h i j e =
       let n : isEmpty (disclosuresOf k (actsOf l)) ≡ false = lists-it k h j e (isEmpty (disclosuresOf k (actsOf l))) refl in
       let q : holdsAny (entryOf (l .component) (actsOf l) k) ≡ true
       = or-second (any (λ a. isRead k (needOf a)) (actsOf l) || any (λ a. isWrite k (needOf a)) (actsOf l)) _
       (or-second (any (λ a. isAccess k (needOf a)) (actsOf l)) _ (ap not n)) in
-      let g : All (λ p. grantsOne policy (entryOf (l .component) (actsOf l) k) p ≡ true) (map (λ d. disclosing (d .group) (d .count)) (disclosuresOf k (actsOf l)))
+      let g : All (λ p. grantsOne policy required (entryOf (l .component) (actsOf l) k) p ≡ true) (map (λ d. disclosing (d .group)) (disclosuresOf k (actsOf l)))
       = all-right (flagged (any (λ a. isAccess k (needOf a)) (actsOf l)) accessing) _
       (all-right (flagged (any (λ a. isWrite k (needOf a)) (actsOf l)) writing) _
       (all-right (flagged (any (λ a. isRead k (needOf a)) (actsOf l)) reading) _ (granted-at k i q))) in
-      kept-at {R = λ d. grantsOne policy (entryOf (l .component) (actsOf l) k) (disclosing (d .group) (d .count)) ≡ true}
+      let w : atMost (needed required (entryOf (l .component) (actsOf l) k) h) (countGranted h policy k (l .component)) ≡ true
+      = kept-at {R = λ d. grantsOne policy required (entryOf (l .component) (actsOf l) k) (disclosing (d .group)) ≡ true}
       (λ d. not (isZero (d .count))) (λ g. record { group = g; count = disclosed k g (actsOf l) }) 0 64 h
-      (all-unmap (λ (d : Disclosure). disclosing (d .group) (d .count)) (disclosuresOf k (actsOf l)) g) (omega arith) (omega arith) (ap not e)
+      (all-unmap (λ (d : Disclosure). disclosing (d .group)) (disclosuresOf k (actsOf l)) g) (omega arith) (omega arith) (ap not e) in
+      rw (needed-acts required (l .component) (actsOf l) k h j) at w
 
   -- "each count at most the granted sum"
-  pub count-granted : (k h : ℕ) → k < 16 → h < 64 → atMost (disclosed k h (actsOf l)) (countGranted h policy k (l .component .path)) ≡ true
+  pub count-granted : (k h : ℕ) → k < 16 → h < 64 → atMost (disclosed k h (actsOf l)) (countGranted h policy k (l .component)) ≡ true
   count-granted k h i j = go (isZero (disclosed k h (actsOf l))) refl
     where
-      go : (b : Bool) → isZero (disclosed k h (actsOf l)) ≡ b → atMost (disclosed k h (actsOf l)) (countGranted h policy k (l .component .path)) ≡ true
-      go true e = zero-at-most (disclosed k h (actsOf l)) (countGranted h policy k (l .component .path)) e
+      go : (b : Bool) → isZero (disclosed k h (actsOf l)) ≡ b → atMost (disclosed k h (actsOf l)) (countGranted h policy k (l .component)) ≡ true
+      go true e = zero-at-most (disclosed k h (actsOf l)) (countGranted h policy k (l .component)) e
       go false e = counted k h i j e
-
--- Kinds are below 16 and groups below 64.
-abbrev ShapeRange : Shape → Type 0
-ShapeRange (Plain k) = k < 16
-ShapeRange (Channel g t) = g < 64
-
-shape-range : (t : ℕ) → ShapeRange (shape t)
-unfolding shape
-shape-range t = go (ltb t 16) refl
-  where
-    go : (b : Bool) → ltb t 16 ≡ b → ShapeRange (cond b (Plain t) (Channel ((t - 16) % 64) ((t - 16) / 64)))
-    go true e = ltb-true t 16 e
-    go false e = omega arith
-
-abbrev NeedRange : Need → Type 0
-NeedRange Nothing = Unit {0}
-NeedRange (Reads k) = k < 16
-NeedRange (Writes k) = k < 16
-NeedRange (Accesses k) = k < 16
-NeedRange (Discloses k g) = (k < 16) × (g < 64)
-
-link-range : (b : Bool) (g : ℕ) (s : Shape) → g < 64 → ShapeRange s → NeedRange (linkNeed b g s)
-unfolding linkNeed
-link-range false g (Plain t) h r = r
-link-range true g (Plain t) h r = (r, h)
-link-range false g (Channel k u) h r = tt
-link-range true g (Channel k u) h r = tt
-
-carried-range : (b : Bool) (g : ℕ) (s : Shape) → g < 64 → ShapeRange s → NeedRange (carriedNeed b g s)
-unfolding carriedNeed
-carried-range false g (Plain t) h r = r
-carried-range true g (Plain t) h r = r
-carried-range false g (Channel k u) h r = link-range false g (shape u) h (shape-range u)
-carried-range true g (Channel k u) h r = link-range true g (shape u) h (shape-range u)
-
-channel-range : (b : Bool) (s : Shape) → ShapeRange s → NeedRange (channelNeed b s)
-unfolding channelNeed
-channel-range b (Plain t) r = tt
-channel-range b (Channel g t) r = carried-range b g (shape t) r (shape-range t)
-
-need-range : (b : Bool) (o : Option ℕ) → NeedRange (needOn b o)
-unfolding needOn need
-need-range b none = tt
-need-range b (some t) = channel-range b (shape t) (shape-range t)
 
 -- An act of a list weighs at most what the list weighs.
 weigh-least : (b : Bool) (n : ℕ) → atMost (fin n) (weigh b n) ≡ true
@@ -278,29 +237,31 @@ weight-member w a (List·Memᴰ·tail {x = x} {xs = xs} m) =
     (rw (join-comm (weigh (x .repeated) (w x)) (total w xs)) (at-most-joined (total w xs) (weigh (x .repeated) (w x))))
 
 -- What an act of a covered process needs is granted to its path.
-module _ (policy : List Tree) (l : Located) (cover : All (λ e. covered policy e ≡ true) (entriesOf l)) where
-  needed : (a : Act) → List·Memᴰ a (actsOf l) → (n : Need) → needOf a ≡ n → NeedRange n → grantsNeed policy (l .component .path) n ≡ true
-  unfolding grantsNeed isRead isWrite isAccess disclosures disclosed
-  needed a m Nothing e r = refl
-  needed a m (Reads k) e r = read-granted policy l cover k r (any-member (λ b. isRead k (needOf b)) a m (rw e (eq-eqb k k refl)))
-  needed a m (Writes k) e r = write-granted policy l cover k r (any-member (λ b. isWrite k (needOf b)) a m (rw e (eq-eqb k k refl)))
-  needed a m (Accesses k) e r = access-granted policy l cover k r (any-member (λ b. isAccess k (needOf b)) a m (rw e (eq-eqb k k refl)))
-  needed a m (Discloses k h) e r =
+module _ (policy : List Tree) (required : Required) (l : Located) (cover : All (λ e. covered policy required e ≡ true) (entriesOf l)) where
+  is-granted : (a : Act) → List·Memᴰ a (actsOf l) → (n : Need) → needOf a ≡ n → NeedRange n → grantsNeed policy (l .component) n ≡ true
+  unfolding grantsNeed NeedRange isRead isWrite isAccess disclosures disclosed
+  is-granted a m Nothing e r = refl
+  is-granted a m (Reads k) e r = read-granted policy required l cover k r (any-member (λ b. isRead k (needOf b)) a m (rw e (eq-eqb k k refl)))
+  is-granted a m (Writes k) e r = write-granted policy required l cover k r (any-member (λ b. isWrite k (needOf b)) a m (rw e (eq-eqb k k refl)))
+  is-granted a m (Accesses k) e r = access-granted policy required l cover k r (any-member (λ b. isAccess k (needOf b)) a m (rw e (eq-eqb k k refl)))
+  is-granted a m (Discloses k h) e r =
       let one : disclosures k h (needOf a) ≡ 1 = rw (e, eq-eqb k k refl, eq-eqb h h refl) in
       let w : atMost (fin 1) (disclosed k h (actsOf l)) ≡ true = rw one at (weight-member (λ b. disclosures k h (needOf b)) a m) in
-      at-most-trans (fin 1) (disclosed k h (actsOf l)) (countGranted h policy k (l .component .path)) w (count-granted policy l cover k h (r .0) (r .1))
+      at-most-trans (fin 1) (disclosed k h (actsOf l)) (countGranted h policy k (l .component)) w (count-granted policy required l cover k h (r .0) (r .1))
 
-  need-granted : (a : Act) → List·Memᴰ a (actsOf l) → grantsNeed policy (a .component .path) (needOf a) ≡ true
+  need-granted : (a : Act) → List·Memᴰ a (actsOf l) → grantsNeed policy (a .component) (needOf a) ≡ true
   unfolding needOf actsOf
   need-granted a m =
       let c : a .component ≡ l .component = all-member m (acts-component (l .component) false (l .scope) (l .process)) in
-      rw c (needed a m (needOf a) refl (need-range (a .sends) (a .channel)))
+      rw c (is-granted a m (needOf a) refl (act-range a))
 
-covers : (s c : List ℕ) (a : Accepted) → judged s c ≡ passed a → (l : Located) → List·Memᴰ l (located (a .sheet)) → All (λ e. covered (a .policy) e ≡ true) (entriesOf l)
-unfolding interface
-covers s c a h l m = all-member m (all-each entriesOf (located (a .sheet)) (all-every (covered (a .policy)) (interface (a .sheet)) (judged-passed s c a h .entries-covered)))
+covers : (s c : List ℕ) (a : Accepted) → judged s c ≡ passed a → (l : Located) → List·Memᴰ l (located (a .sheet))
+    → All (λ e. covered (a .policy) (requiredOf (a .sheet)) e ≡ true) (entriesOf l)
+unfolding requiredOf interface
+covers s c a h l m =
+    all-member m (all-each entriesOf (located (a .sheet)) (all-every (covered (a .policy) (requiredOf (a .sheet))) (interface (a .sheet)) (judged-passed s c a h .entries-covered)))
 
-fine : (policy : List Tree) (a : Act) → passes a ≡ true → grantsNeed policy (a .component .path) (needOf a) ≡ true → isFine policy a ≡ true
+fine : (policy : List Tree) (a : Act) → passes a ≡ true → grantsNeed policy (a .component) (needOf a) ≡ true → isFine policy a ≡ true
 unfolding isFine
 fine policy a g h = rw (g, h)
 
@@ -308,14 +269,14 @@ fine policy a g h = rw (g, h)
 pub accepted-fine : (s c : List ℕ) (a : Accepted) → judged s c ≡ passed a → All (λ x. isFine (a .policy) x ≡ true) (sheetActs (a .sheet))
 unfolding sheetActs
 accepted-fine s c a h =
-    let g : All (λ x. grantsNeed (a .policy) (x .component .path) (needOf x) ≡ true) (gather actsOf (located (a .sheet)))
-    = all-gather actsOf (all-from (located (a .sheet)) (λ l m. all-from (actsOf l) (λ x n. need-granted (a .policy) l (covers s c a h l m) x n))) in
+    let g : All (λ x. grantsNeed (a .policy) (x .component) (needOf x) ≡ true) (gather actsOf (located (a .sheet)))
+    = all-gather actsOf (all-from (located (a .sheet)) (λ l m. all-from (actsOf l) (λ x n. need-granted (a .policy) (requiredOf (a .sheet)) l (covers s c a h l m) x n))) in
     all-both (λ x k n. fine (a .policy) x k n) (accepted-typed s c a h) g
 
 -- What a component of an accepted sheet discloses is at most what its path is granted.
 pub accepted-count : (s c : List ℕ) (a : Accepted) → judged s c ≡ passed a → (l : Located) → List·Memᴰ l (located (a .sheet)) → (k h : ℕ) → k < 16 → h < 64
-    → atMost (disclosed k h (ofComponent (l .component .number) (sheetActs (a .sheet)))) (countGranted h (a .policy) k (l .component .path)) ≡ true
-accepted-count s c a e l m k h i j = rw (component-acts (a .sheet) l m) (count-granted (a .policy) l (covers s c a e l m) k h i j)
+    → atMost (disclosed k h (ofComponent (l .component .number) (sheetActs (a .sheet)))) (countGranted h (a .policy) k (l .component)) ≡ true
+accepted-count s c a e l m k h i j = rw (component-acts (a .sheet) l m) (count-granted (a .policy) (requiredOf (a .sheet)) l (covers s c a e l m) k h i j)
 
 -- Every act of a list makes true of the list what is true of it.
 pub any-self : (f : Act → Act) (xs : List Act) → All (λ x. (t : Act → Bool) → t (f x) ≡ true → any (λ b. t (f b)) xs ≡ true) xs

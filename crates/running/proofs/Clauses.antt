@@ -15,12 +15,12 @@ use Rattle.policy.specs.Syntax.{Permissions, Tree, Node, Nodes, none, more}
 use Rattle.running.specs.State.{Thread, State}
 use Rattle.running.specs.Products.{start}
 use Rattle.running.specs.Moves.{Move, sendOut, communicate, runStates}
-use Rattle.running.specs.Guarantees.{scopeOf, allNamed, sameGroups, sameComponent, isComponentOf, allLocated, threadActs, stateActs, passes, isTyped, ofComponent, NotBeyond, nextOf, nextAct, grantsNeed, isFine, nextFine, noError, actAt, sendOf, isTaken, disclosuresOfAct, disclosedBy, isWithin}
+use Rattle.running.specs.Guarantees.{scopeOf, allNamed, sameGroups, sameComponent, isComponentOf, allLocated, threadActs, stateActs, passes, isTyped, actsWhere, isNumber, ofComponent, NotBeyond, nextOf, nextAct, grantsNeed, isFine, nextFine, noError, actAt, sendOf, isTaken, disclosuresOfAct, disclosedWhere, disclosedBy, isWithin}
 use Rattle.running.proofs.Computed.{played-computed}
 
 -- all definitions that these cases compute with
 unfoldable guarantees-computed : Unit {0}
-unfolding played-computed scopeOf allNamed sameGroups sameComponent isComponentOf allLocated threadActs stateActs passes isTyped ofComponent nextOf nextAct grantsNeed isFine nextFine noError actAt sendOf isTaken disclosuresOfAct disclosedBy isWithin
+unfolding played-computed scopeOf allNamed sameGroups sameComponent isComponentOf allLocated threadActs stateActs passes isTyped actsWhere isNumber ofComponent nextOf nextAct grantsNeed isFine nextFine noError actAt sendOf isTaken disclosuresOfAct disclosedWhere disclosedBy isWithin
 guarantees-computed = tt
 
 -- W: name 0 is a channel of links, 0[0[0]], whose number is 1,040; name 1 is a link, 0[0], whose number is 16.

@@ -10,7 +10,7 @@ use borrow.Author.Tests.{eq-eqb, ne-eqb}
 use Rattle.reading.specs.Syntax.{Process, nil, par, new, input, output, repl, System, nilₛ, parₛ, groupₛ, newₛ, compₛ, Sheet, components}
 use Rattle.inference.specs.Lists.{gather, only}
 use Rattle.inference.specs.Acts.{Component, componentAt, Act, acts, Located, locate, located, actsOf, sheetActs}
-use Rattle.running.specs.Guarantees.{ofComponent}
+use Rattle.running.specs.Guarantees.{actsWhere, isNumber, ofComponent}
 use Rattle.running.proofs.Alls.{All, done, also, all-append, all-map, all-both, all-member, gather-append}
 
 only-append : {A : Type 0} (p : A → Bool) (xs ys : List A) → only p (xs ++ ys) ≡ only p xs ++ only p ys
@@ -43,25 +43,25 @@ acts-component c b scope (output x y p) = also refl (acts-component c b scope p)
 acts-component c b scope (repl p) = acts-component c true scope p
 
 own-acts : (l : Located) → ofComponent (l .component .number) (actsOf l) ≡ actsOf l
-unfolding ofComponent actsOf
+unfolding ofComponent actsWhere isNumber actsOf
 own-acts l =
     only-all (λ a. eqb (a .component .number) (l .component .number))
     (all-map (λ a (e : a .component ≡ l .component). eq-eqb (a .component .number) (l .component .number) (ap (λ (c : Component). c .number) e))
     (acts-component (l .component) false (l .scope) (l .process)))
 
 others-acts : (n : ℕ) (l : Located) → (l .component .number ≡ n → ⊥) → ofComponent n (actsOf l) ≡ []
-unfolding ofComponent actsOf
+unfolding ofComponent actsWhere isNumber actsOf
 others-acts n l h =
     only-none (λ a. eqb (a .component .number) n)
     (all-map (λ a (e : a .component ≡ l .component). ne-eqb (a .component .number) n (λ k. h (sym (ap (λ (c : Component). c .number) e) ∙ k)))
     (acts-component (l .component) false (l .scope) (l .process)))
 
 component-append : (n : ℕ) (xs ys : List Act) → ofComponent n (xs ++ ys) ≡ ofComponent n xs ++ ofComponent n ys
-unfolding ofComponent
+unfolding ofComponent actsWhere isNumber
 component-append n xs ys = only-append (λ a. eqb (a .component .number) n) xs ys
 
 component-none : (n : ℕ) {ls : List Located} → All (λ l. l .component .number ≡ n → ⊥) ls → ofComponent n (gather actsOf ls) ≡ []
-unfolding gather ofComponent only
+unfolding gather ofComponent actsWhere only
 component-none n done = refl
 component-none n (also {x = l} {xs = ls} h hs) = component-append n (actsOf l) (gather actsOf ls) ∙ ap₂ _++_ (others-acts n l h) (component-none n hs)
 

@@ -7,12 +7,11 @@ use mathlib.Core.List.{List, [], _∷_}
 use mathlib.Core.Option.{Option, some, none}
 use mathlib.Core.Path.{_≡_, refl, sym, ap, _∙_}
 use lib.ListN.{length, getElem?, replicate, length-append, length-replicate}
-use lib.Dec.{eqb}
 use Rattle.reading.proofs.TotalLaws.{both-left}
 use Rattle.reading.specs.Syntax.{Process, nil, par, new, input, output, repl, Sheet}
 use Rattle.inference.specs.Lists.{every, any, only}
 use Rattle.inference.specs.Counts.{Count, fin, unlimited, _⊕_, atMost, repeatedly}
-use Rattle.inference.specs.Acts.{Act, sheetActs}
+use Rattle.inference.specs.Acts.{Component, Act, sheetActs}
 use Rattle.inference.proofs.RowSteps.{elem-in}
 use Rattle.inference.specs.Typing.{isKnown, inScope, onChannel, carriesObject, inPath}
 use Rattle.inference.specs.Needs.{needOf, isRead, isWrite, isAccess, disclosures, weigh, total, disclosed}
@@ -22,7 +21,7 @@ use Rattle.policy.specs.Syntax.{Tree}
 use Rattle.running.specs.State.{State}
 use Rattle.running.specs.Products.{systemNews, start}
 use Rattle.running.specs.Moves.{Move, step, stateAfter, runStates}
-use Rattle.running.specs.Guarantees.{scopeOf, allNamed, threadActs, stateActs, passes, isTyped, ofComponent, NotBeyond, nextOf, nextAct, grantsNeed, isFine, nextFine, noError, sendOf, disclosuresOfAct, disclosedBy, isWithin}
+use Rattle.running.specs.Guarantees.{scopeOf, allNamed, threadActs, stateActs, passes, isTyped, actsWhere, isNumber, ofComponent, NotBeyond, nextOf, nextAct, grantsNeed, isFine, nextFine, noError, sendOf, disclosuresOfAct, disclosedWhere, disclosedBy, isWithin}
 use Rattle.running.proofs.Alls.{All, done, also, and-both, all-map, all-both, all-gather, every-all}
 use Rattle.running.proofs.ProductLaws.{Bound, made-start, start-acts}
 use Rattle.running.proofs.Owed.{bare, weightOf, owed, Good, good-made}
@@ -57,7 +56,7 @@ bare-fine policy a = refl
 
 fine-passes : (policy : List Tree) (a : Act) → isFine policy a ≡ true → passes a ≡ true
 unfolding isFine
-fine-passes policy a h = both-left (passes a) (grantsNeed policy (a .component .path) (needOf a)) h
+fine-passes policy a h = both-left (passes a) (grantsNeed policy (a .component) (needOf a)) h
 
 -- What any run leads to, for a property of acts.
 module _ (P : Act → Type 0) (typed : (a : Act) → P a → passes a ≡ true) (sheet : Sheet) (h : All (λ a. P (bare a)) (sheetActs sheet)) (ms : List Move) where
@@ -143,62 +142,63 @@ run-flags sheet ms h t e =
     any-all (λ b. t (bare b)) (any (λ b. t (bare b)) (sheetActs sheet) ≡ true)
     (all-map (λ a (w : Within (sheetActs sheet) (bare a)). w .there t) (run-acts (Within (sheetActs sheet)) (λ a w. w .fits) sheet s ms)) e
 
-component-flags : (sheet : Sheet) (ms : List Move) → All (λ a. passes a ≡ true) (sheetActs sheet) → (n : ℕ) (v : Need → Bool)
-    → any (λ a. v (needOf a)) (ofComponent n (stateActs (runStates (start sheet) ms))) ≡ true → any (λ a. v (needOf a)) (ofComponent n (sheetActs sheet)) ≡ true
-unfolding ofComponent bare needOf
-component-flags sheet ms h n v e =
-    let k : any (λ a. eqb (a .component .number) n && v (needOf a)) (stateActs (runStates (start sheet) ms)) ≡ true
-    = rw (any-only (λ a. eqb (a .component .number) n) (λ a. v (needOf a)) (stateActs (runStates (start sheet) ms))) at e in
-    rw (any-only (λ a. eqb (a .component .number) n) (λ a. v (needOf a)) (sheetActs sheet))
-    (run-flags sheet ms h (λ a. eqb (a .component .number) n && v (needOf a)) k)
+-- The flags of the components that a test tells.
+flags-where : (sheet : Sheet) (ms : List Move) → All (λ a. passes a ≡ true) (sheetActs sheet) → (among : Component → Bool) (v : Need → Bool)
+    → any (λ a. v (needOf a)) (actsWhere among (stateActs (runStates (start sheet) ms))) ≡ true → any (λ a. v (needOf a)) (actsWhere among (sheetActs sheet)) ≡ true
+unfolding actsWhere bare needOf
+flags-where sheet ms h among v e =
+    let k : any (λ a. among (a .component) && v (needOf a)) (stateActs (runStates (start sheet) ms)) ≡ true
+    = rw (any-only (λ a. among (a .component)) (λ a. v (needOf a)) (stateActs (runStates (start sheet) ms))) at e in
+    rw (any-only (λ a. among (a .component)) (λ a. v (needOf a)) (sheetActs sheet))
+    (run-flags sheet ms h (λ a. among (a .component) && v (needOf a)) k)
 
--- Counts: the weight of a disclosure at a component.
-unfoldable pub disclosesAt : ℕ → ℕ → ℕ → Act → ℕ
-disclosesAt n k h a = cond (eqb (a .component .number) n) (disclosures k h (needOf a)) 0
+-- Counts: the weight of a disclosure at such a component.
+unfoldable pub disclosesAt : (Component → Bool) → ℕ → ℕ → Act → ℕ
+disclosesAt among k h a = cond (among (a .component)) (disclosures k h (needOf a)) 0
 
 weigh-nothing : (b : Bool) → weigh b 0 ≡ fin 0
 unfolding weigh repeatedly
 weigh-nothing true = refl
 weigh-nothing false = refl
 
-pub component-count : (n k h : ℕ) (xs : List Act) → disclosed k h (ofComponent n xs) ≡ weightOf (disclosesAt n k h) xs
-unfolding disclosed ofComponent weightOf only total bare disclosesAt needOf
-component-count n k h [] = refl
-component-count n k h (x ∷ xs) = go (eqb (x .component .number) n) (component-count n k h xs)
+pub count-where : (among : Component → Bool) (k h : ℕ) (xs : List Act) → disclosed k h (actsWhere among xs) ≡ weightOf (disclosesAt among k h) xs
+unfolding disclosed actsWhere weightOf only total bare disclosesAt needOf
+count-where among k h [] = refl
+count-where among k h (x ∷ xs) = go (among (x .component)) (count-where among k h xs)
   where
-    go : (b : Bool) → disclosed k h (ofComponent n xs) ≡ weightOf (disclosesAt n k h) xs
-        → disclosed k h (cond b (x ∷ ofComponent n xs) (ofComponent n xs))
-        ≡ weigh (x .repeated) (cond b (disclosures k h (needOf x)) 0) ⊕ weightOf (disclosesAt n k h) xs
+    go : (b : Bool) → disclosed k h (actsWhere among xs) ≡ weightOf (disclosesAt among k h) xs
+        → disclosed k h (cond b (x ∷ actsWhere among xs) (actsWhere among xs))
+        ≡ weigh (x .repeated) (cond b (disclosures k h (needOf x)) 0) ⊕ weightOf (disclosesAt among k h) xs
     go true e = ap (λ z. weigh (x .repeated) (disclosures k h (needOf x)) ⊕ z) e
-    go false e = rw (weigh-nothing (x .repeated)) (e ∙ sym (nothing-join (weightOf (disclosesAt n k h) xs)))
+    go false e = rw (weigh-nothing (x .repeated)) (e ∙ sym (nothing-join (weightOf (disclosesAt among k h) xs)))
 
-act-discloses : (n k h : ℕ) (o : Option Act) → disclosuresOfAct n k h o ≡ weightAt (disclosesAt n k h) o
+act-discloses : (among : Component → Bool) (k h : ℕ) (o : Option Act) → disclosuresOfAct among k h o ≡ weightAt (disclosesAt among k h) o
 unfolding disclosuresOfAct weightAt disclosesAt bare needOf
-act-discloses n k h none = refl
-act-discloses n k h (some a) = refl
+act-discloses among k h none = refl
+act-discloses among k h (some a) = refl
 
-disclosed-sent : (n k h : ℕ) (s : State) (ms : List Move) → disclosedBy n k h s ms ≡ sentBy (disclosesAt n k h) s ms
-unfolding disclosedBy sentBy
-disclosed-sent n k h s [] = refl
-disclosed-sent n k h s (m ∷ ms) = rw (act-discloses n k h (sendOf s m), disclosed-sent n k h (stateAfter s (step s m)) ms)
+disclosed-sent : (among : Component → Bool) (k h : ℕ) (s : State) (ms : List Move) → disclosedWhere among k h s ms ≡ sentBy (disclosesAt among k h) s ms
+unfolding disclosedWhere sentBy
+disclosed-sent among k h s [] = refl
+disclosed-sent among k h s (m ∷ ms) = rw (act-discloses among k h (sendOf s m), disclosed-sent among k h (stateAfter s (step s m)) ms)
 
 owed-acts : (w : Act → ℕ) (s : State) → stateOwed w s ≡ weightOf w (stateActs s)
 unfolding stateOwed owed stateActs
 owed-acts w s = refl
 
--- What a component has disclosed and still infers is at most what its sheet infers for it.
-pub run-counts : (sheet : Sheet) (ms : List Move) → All (λ a. passes a ≡ true) (sheetActs sheet) → (n k h : ℕ)
-    → atMost (fin (disclosedBy n k h (start sheet) ms) ⊕ disclosed k h (ofComponent n (stateActs (runStates (start sheet) ms)))) (disclosed k h (ofComponent n (sheetActs sheet))) ≡ true
-run-counts sheet ms p n k h =
+-- What the components that a test tells have disclosed and still infer is at most what their sheet infers for them.
+pub counts-where : (sheet : Sheet) (ms : List Move) → All (λ a. passes a ≡ true) (sheetActs sheet) → (among : Component → Bool) (k h : ℕ)
+    → atMost (fin (disclosedWhere among k h (start sheet) ms) ⊕ disclosed k h (actsWhere among (stateActs (runStates (start sheet) ms)))) (disclosed k h (actsWhere among (sheetActs sheet))) ≡ true
+counts-where sheet ms p among k h =
     let t : Took (λ a. passes a ≡ true) (start sheet) (λ w. sentBy w (start sheet) ms) (runStates (start sheet) ms)
     = took (λ a. passes a ≡ true) (λ a k. k) sheet (all-map (λ a (k : passes a ≡ true). rw (bare-passes a) k) p) ms in
-    let c : atMost (fin (sentBy (disclosesAt n k h) (start sheet) ms) ⊕ stateOwed (disclosesAt n k h) (runStates (start sheet) ms)) (stateOwed (disclosesAt n k h) (start sheet)) ≡ true
-    = t .cost (disclosesAt n k h) in
-    let a : disclosed k h (ofComponent n (stateActs (runStates (start sheet) ms))) ≡ stateOwed (disclosesAt n k h) (runStates (start sheet) ms)
-    = component-count n k h (stateActs (runStates (start sheet) ms)) ∙ sym (owed-acts (disclosesAt n k h) (runStates (start sheet) ms)) in
-    let b : disclosed k h (ofComponent n (sheetActs sheet)) ≡ stateOwed (disclosesAt n k h) (start sheet)
-    = component-count n k h (sheetActs sheet) ∙ ap (weightOf (disclosesAt n k h)) (sym (start-acts sheet)) ∙ sym (owed-acts (disclosesAt n k h) (start sheet)) in
-    rw (a, b, disclosed-sent n k h (start sheet) ms) c
+    let c : atMost (fin (sentBy (disclosesAt among k h) (start sheet) ms) ⊕ stateOwed (disclosesAt among k h) (runStates (start sheet) ms)) (stateOwed (disclosesAt among k h) (start sheet)) ≡ true
+    = t .cost (disclosesAt among k h) in
+    let a : disclosed k h (actsWhere among (stateActs (runStates (start sheet) ms))) ≡ stateOwed (disclosesAt among k h) (runStates (start sheet) ms)
+    = count-where among k h (stateActs (runStates (start sheet) ms)) ∙ sym (owed-acts (disclosesAt among k h) (runStates (start sheet) ms)) in
+    let b : disclosed k h (actsWhere among (sheetActs sheet)) ≡ stateOwed (disclosesAt among k h) (start sheet)
+    = count-where among k h (sheetActs sheet) ∙ ap (weightOf (disclosesAt among k h)) (sym (start-acts sheet)) ∙ sym (owed-acts (disclosesAt among k h) (start sheet)) in
+    rw (a, b, disclosed-sent among k h (start sheet) ms) c
 
 without : (n : ℕ) (a b : Count) → atMost (fin n ⊕ a) b ≡ true → atMost a b ≡ true
 without n a b h =
@@ -206,15 +206,26 @@ without n a b h =
     at-most-trans a (fin n ⊕ a) b k h
 
 -- Not beyond the start.
+pub beyond-where : (sheet : Sheet) (ms : List Move) → All (λ a. passes a ≡ true) (sheetActs sheet) → (among : Component → Bool)
+    → NotBeyond (actsWhere among (stateActs (runStates (start sheet) ms))) (actsWhere among (sheetActs sheet))
+beyond-where sheet ms p among = record {
+  reads = λ k. flags-where sheet ms p among (isRead k);
+  writes = λ k. flags-where sheet ms p among (isWrite k);
+  accesses = λ k. flags-where sheet ms p among (isAccess k);
+  counts = λ k h. without (disclosedWhere among k h (start sheet) ms) (disclosed k h (actsWhere among (stateActs (runStates (start sheet) ms))))
+      (disclosed k h (actsWhere among (sheetActs sheet))) (counts-where sheet ms p among k h);
+}
+
+-- The same of one component, by its number.
+pub run-counts : (sheet : Sheet) (ms : List Move) → All (λ a. passes a ≡ true) (sheetActs sheet) → (n k h : ℕ)
+    → atMost (fin (disclosedBy n k h (start sheet) ms) ⊕ disclosed k h (ofComponent n (stateActs (runStates (start sheet) ms)))) (disclosed k h (ofComponent n (sheetActs sheet))) ≡ true
+unfolding disclosedBy ofComponent
+run-counts sheet ms p n k h = counts-where sheet ms p (isNumber n) k h
+
 pub run-not-beyond : (sheet : Sheet) (ms : List Move) → All (λ a. passes a ≡ true) (sheetActs sheet) → (n : ℕ)
     → NotBeyond (ofComponent n (stateActs (runStates (start sheet) ms))) (ofComponent n (sheetActs sheet))
-run-not-beyond sheet ms p n = record {
-  reads = λ k. component-flags sheet ms p n (isRead k);
-  writes = λ k. component-flags sheet ms p n (isWrite k);
-  accesses = λ k. component-flags sheet ms p n (isAccess k);
-  counts = λ k h. without (disclosedBy n k h (start sheet) ms) (disclosed k h (ofComponent n (stateActs (runStates (start sheet) ms))))
-      (disclosed k h (ofComponent n (sheetActs sheet))) (run-counts sheet ms p n k h);
-}
+unfolding ofComponent
+run-not-beyond sheet ms p n = beyond-where sheet ms p (isNumber n)
 
 -- No finite count exceeded.
 pub within-grant : (g : Count) (n : ℕ) (a b : Count) → atMost (fin n ⊕ a) b ≡ true → atMost b g ≡ true → isWithin g n a ≡ true

@@ -26,7 +26,7 @@ guaranteed sheet charter a accepted ms = record {
   not-beyond = run-not-beyond (a .sheet) ms (accepted-typed sheet charter a accepted);
   no-error = run-fine (a .policy) (a .sheet) ms (accepted-fine sheet charter a accepted);
   within = λ l member k h below₁₆ below₆₄.
-      within-grant (countGranted h (a .policy) k (l .component .path)) (disclosedBy (l .component .number) k h (start (a .sheet)) ms)
+      within-grant (countGranted h (a .policy) k (l .component)) (disclosedBy (l .component .number) k h (start (a .sheet)) ms)
       (disclosed k h (ofComponent (l .component .number) (stateActs (reached a ms)))) (disclosed k h (ofComponent (l .component .number) (sheetActs (a .sheet))))
       (run-counts (a .sheet) ms (accepted-typed sheet charter a accepted) (l .component .number) k h)
       (accepted-count sheet charter a accepted l member k h below₁₆ below₆₄);

@@ -61,9 +61,16 @@ passes a = (inScope a && onChannel a) && (carriesObject a && inPath a)
 unfoldable pub isTyped : State → Bool
 isTyped s = every passes (stateActs s)
 
--- What a component infers: "what its threads' remaining texts need, joined as parallel parts".
+-- What the components that `among` tells infer: "what [their] threads' remaining texts need, joined as parallel parts".
+unfoldable pub actsWhere : (Component → Bool) → List Act → List Act
+actsWhere among all = only (λ a. among (a .component)) all
+
+-- The component of a number, and what it infers.
+unfoldable pub isNumber : ℕ → Component → Bool
+isNumber n c = eqb (c .number) n
+
 unfoldable pub ofComponent : ℕ → List Act → List Act
-ofComponent n all = only (λ a. eqb (a .component .number) n) all
+ofComponent n all = actsWhere (isNumber n) all
 
 -- "It is not beyond the start if, for each kind, every flag in it was inferred from the sheet for that post, and every count is at
 -- most the one inferred there".
@@ -88,17 +95,17 @@ nextOf (repl p) rest = none
 unfoldable pub nextAct : State → Thread → Option Act
 nextAct s t = nextOf (t .process) (threadActs (s .types) t)
 
--- A permission that a path's grant holds: a flag, or a count of at least one.
-unfoldable pub grantsNeed : List Tree → List ℕ → Need → Bool
-grantsNeed policy path Nothing = true
-grantsNeed policy path (Read k) = flagGranted 1 policy k path
-grantsNeed policy path (Write k) = flagGranted 2 policy k path
-grantsNeed policy path (Access k) = flagGranted 4 policy k path
-grantsNeed policy path (Disclose k h) = atMost (fin 1) (countGranted h policy k path)
+-- A permission that a component's grant holds: a flag, or a count of at least one.
+unfoldable pub grantsNeed : List Tree → Component → Need → Bool
+grantsNeed policy c Nothing = true
+grantsNeed policy c (Read k) = flagGranted 1 policy k c
+grantsNeed policy c (Write k) = flagGranted 2 policy k c
+grantsNeed policy c (Access k) = flagGranted 4 policy k c
+grantsNeed policy c (Disclose k h) = atMost (fin 1) (countGranted h policy k c)
 
 -- "it is an error if it fails 7 to 10 under the names' types, or needs a permission that its path's grant lacks"
 unfoldable pub isFine : List Tree → Act → Bool
-isFine policy a = passes a && grantsNeed policy (a .component .path) (needOf a)
+isFine policy a = passes a && grantsNeed policy (a .component) (needOf a)
 
 unfoldable pub nextFine : List Tree → Option Act → Bool
 nextFine policy none = true
@@ -123,16 +130,19 @@ unfoldable pub isTaken : Result → Bool
 isTaken (refuses n) = false
 isTaken (takes s bytes) = true
 
--- how often an act at a component discloses data of kind k into group h
-unfoldable pub disclosuresOfAct : ℕ → ℕ → ℕ → Option Act → ℕ
-disclosuresOfAct n k h none = 0
-disclosuresOfAct n k h (some a) = cond (eqb (a .component .number) n) (disclosures k h (needOf a)) 0
+-- how often an act at such a component discloses data of kind k into group h
+unfoldable pub disclosuresOfAct : (Component → Bool) → ℕ → ℕ → Option Act → ℕ
+disclosuresOfAct among k h none = 0
+disclosuresOfAct among k h (some a) = cond (among (a .component)) (disclosures k h (needOf a)) 0
 
 -- "A post hands over a link of kind t in group G by each taken 02 or 04 whose send, at that post, needs disclose G of t."
+unfoldable pub disclosedWhere : (Component → Bool) → ℕ → ℕ → State → List Move → ℕ
+disclosedWhere among k h s [] = 0
+disclosedWhere among k h s (m ∷ ms) =
+    cond (isTaken (step s m)) (disclosuresOfAct among k h (sendOf s m)) 0 + disclosedWhere among k h (stateAfter s (step s m)) ms
+
 unfoldable pub disclosedBy : ℕ → ℕ → ℕ → State → List Move → ℕ
-disclosedBy n k h s [] = 0
-disclosedBy n k h s (m ∷ ms) =
-    cond (isTaken (step s m)) (disclosuresOfAct n k h (sendOf s m)) 0 + disclosedBy n k h (stateAfter s (step s m)) ms
+disclosedBy n k h s ms = disclosedWhere (isNumber n) k h s ms
 
 -- "the links it has handed over since the start plus those it still infers are at most that count", wherever that is finite
 unfoldable pub isWithin : Count → ℕ → Count → Bool
@@ -160,7 +170,7 @@ pub record Guaranteed (a : Accepted) (ms : List Move) : Type 0 where
   -- of each component, kind and group whose count is finite: "the links it has handed over since the start plus those it still
   -- infers are at most that count"
   pub within : (l : Located) → List·Memᴰ l (located (a .sheet)) → (kind group : ℕ) → kind < 16 → group < 64
-      → isWithin (countGranted group (a .policy) kind (l .component .path))
+      → isWithin (countGranted group (a .policy) kind (l .component))
       (disclosedBy (l .component .number) kind group (start (a .sheet)) ms)
       (disclosed kind group (ofComponent (l .component .number) (stateActs (reached a ms))))
       ≡ true

@@ -58,8 +58,8 @@ unfolding checked interfaceFor written
 refused-leaves s c output n e = record { answer = rw e refl; lent = rw e refl }
 
 -- Questions 1 to 18 decide, and where they pass, what is delivered is the interface.
-module _ (s c table : List ℕ) (r : Judged) (j : Judges s c table r) where
-  pub refuses : (output : List ℕ) → r .fault < 19 → Checked s c output output (answer-case.Refused (r .fault))
+module _ (s c table nodes : List ℕ) (r : Judged) (j : Judges s c table nodes r) where
+  pub refuses : (output : List ℕ) → r .fault < 64 → Checked s c output output (answer-case.Refused (r .fault))
   refuses output h = refused-leaves s c output (r .fault) (first-fails s c (omega (arith, j .first)) ∙ ap failed (sym (j .first)))
 
   delivered : (output output′ : List ℕ) (answer : Answer) (p : Passed s c)
@@ -70,11 +70,11 @@ module _ (s c table : List ℕ) (r : Judged) (j : Judges s c table r) where
     lent = rw (p .passes) (d .lent (each-byte (interface-bytes s c (p .accepted .sheet) (p .end) (sheet-parts s c (p .reads)))));
   }
 
-  pub delivers : (output output′ : List ℕ) (answer : Answer) → 19 ≤ r .fault
+  pub delivers : (output output′ : List ℕ) (answer : Answer) → 64 ≤ r .fault
       → Delivered (interfaceBytes (tableEntries table (r .components))) output output′ answer → Checked s c output output′ answer
   delivers output output′ answer h d =
       let p = first-passes s c (omega (arith, j .first)) in
-      delivered output output′ answer p (rw (j .held (p .accepted) (p .passes)) at d)
+      delivered output output′ answer p (rw (j .held (p .accepted .sheet) (p .end) (p .reads)) at d)
 
 -- A sheet that does not read is refused with the reading's question.
 pub unread-refused : (s c output : List ℕ) (r : NumberRead) (q w : Refusal) → number r ≡ countedIn (sheetOf s c) → r ≡ number-read.Refused q

@@ -1,4 +1,4 @@
--- The first question that fails, `firstFailed` of what `judged` answers: below 19 it is the number that `judged` fails with; else
+-- The first question that fails, `firstFailed` of what `judged` answers: below 64 it is the number that `judged` fails with; else
 -- `judged` passes, since each number that it fails with is below 19, and the sheet reads.
 use Prim.Native.Nat.{ℕ, _<_, _≤_}
 use mathlib.Core.Path.{_≡_, refl}
@@ -9,10 +9,10 @@ use Rattle.reading.specs.Read.{Read, got, refused}
 use Rattle.reading.specs.System.{sheetOf}
 use Rattle.reading.proofs.QuestionLaws.{sheet-question}
 use Rattle.inference.specs.Acts.{Act, sheetActs}
-use Rattle.inference.specs.Interface.{Entry, interface}
+use Rattle.inference.specs.Interface.{Required, requiredOf}
 use Rattle.policy.specs.Syntax.{Tree}
 use Rattle.policy.specs.Reading.{readPolicy}
-use Rattle.service.specs.Questions.{Asked, passed, failed, ask, afterReading, typed, wellFormed, satisfied, Accepted, judged}
+use Rattle.service.specs.Questions.{Asked, passed, failed, ask, afterReading, typed, wellFormed, satisfied, Accepted, judgedFrom, judged}
 use Rattle.service.specs.Told.{firstFailed}
 use Rattle.service.proofs.JudgeLaws.{policy-eleven}
 
@@ -47,9 +47,9 @@ module _ {A : Type 0} (P : A → Type 0) where
   ends-formed policy rest e =
       ends-ask 12 _ _ (omega arith) (ends-ask 13 _ _ (omega arith) (ends-ask 14 _ _ (omega arith) (ends-ask 15 _ _ (omega arith) e)))
 
-  ends-satisfied : (policy : List Tree) (entries : List Entry) (rest : Asked A) → Ends P rest → Ends P (satisfied policy entries rest)
+  ends-satisfied : (policy : List Tree) (required : Required) (rest : Asked A) → Ends P rest → Ends P (satisfied policy required rest)
   unfolding satisfied
-  ends-satisfied policy entries rest e = ends-ask 16 _ _ (omega arith) (ends-ask 17 _ _ (omega arith) (ends-ask 18 _ _ (omega arith) e))
+  ends-satisfied policy required rest e = ends-ask 16 _ _ (omega arith) (ends-ask 17 _ _ (omega arith) (ends-ask 18 _ _ (omega arith) e))
 
 -- The bytes read as the sheet that is accepted.
 pub record ReadsAs (s c : List ℕ) (a : Accepted) : Type 0 where
@@ -57,13 +57,13 @@ pub record ReadsAs (s c : List ℕ) (a : Accepted) : Type 0 where
   pub reads : sheetOf s c ≡ got (a .sheet) end
 
 judged-ends : (s c : List ℕ) → Ends (ReadsAs s c) (judged s c)
-unfolding judged
+unfolding judged judgedFrom
 judged-ends s c =
     ends-reading (ReadsAs s c) (sheetOf s c) _ (λ q at e. let h = sheet-question s c e in omega (arith, h .last)) (λ sheet k e.
     ends-typed (ReadsAs s c) (sheetActs sheet) _
     (ends-reading (ReadsAs s c) (readPolicy c) _ (λ q at f. omega (arith, policy-eleven c q at f)) (λ policy m f.
     ends-formed (ReadsAs s c) policy _
-    (ends-satisfied (ReadsAs s c) policy (interface sheet) _
+    (ends-satisfied (ReadsAs s c) policy (requiredOf sheet) _
     (ends-passed (ReadsAs s c) (record { sheet = sheet; policy = policy }) (record { end = k; reads = e }))))))
 
 pub passed-reads : (s c : List ℕ) (a : Accepted) → judged s c ≡ passed a → ReadsAs s c a
@@ -81,18 +81,18 @@ pub record Passed (s c : List ℕ) : Type 0 where
   pub end : ℕ
   pub reads : sheetOf s c ≡ got (accepted .sheet) end
 
-pub first-passes : (s c : List ℕ) → 19 ≤ firstFailed (judged s c) → Passed s c
+pub first-passes : (s c : List ℕ) → 64 ≤ firstFailed (judged s c) → Passed s c
 unfolding Ends firstFailed
 first-passes s c h = go (judged s c) refl (judged-ends s c) h
   where
-    go : (x : Asked Accepted) → judged s c ≡ x → Ends (ReadsAs s c) x → 19 ≤ firstFailed x → Passed s c
+    go : (x : Asked Accepted) → judged s c ≡ x → Ends (ReadsAs s c) x → 64 ≤ firstFailed x → Passed s c
     go (passed a) e r h = record { accepted = a; passes = e; end = r .end; reads = r .reads }
     go (failed n) e r h = absurd (omega (arith, r, h))
 
-pub first-fails : (s c : List ℕ) → firstFailed (judged s c) < 19 → judged s c ≡ failed (firstFailed (judged s c))
+pub first-fails : (s c : List ℕ) → firstFailed (judged s c) < 64 → judged s c ≡ failed (firstFailed (judged s c))
 unfolding firstFailed
 first-fails s c h = go (judged s c) h
   where
-    go : (x : Asked Accepted) → firstFailed x < 19 → x ≡ failed (firstFailed x)
+    go : (x : Asked Accepted) → firstFailed x < 64 → x ≡ failed (firstFailed x)
     go (passed a) h = absurd (omega (arith, h))
     go (failed n) h = refl

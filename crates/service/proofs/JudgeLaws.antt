@@ -12,7 +12,7 @@ use Rattle.reading.specs.System.{sheetOf}
 use Rattle.inference.specs.Lists.{every, only, gather, rising}
 use Rattle.inference.specs.Acts.{Act, Located, actsOf, sheetActs, located}
 use Rattle.inference.specs.Typing.{inScope, onChannel, carriesObject, inPath}
-use Rattle.inference.specs.Interface.{Entry, entryOf, interface, entriesOf, holdsAny}
+use Rattle.inference.specs.Interface.{Entry, entryOf, interface, entriesOf, holdsAny, Required, requiredOf}
 use Rattle.inference.specs.Walks.{worstAll}
 use Rattle.inference.proofs.FaultLaws.{firstNo, sheet-fault}
 use Rattle.policy.specs.Syntax.{Tree}
@@ -21,8 +21,8 @@ use Rattle.policy.specs.WellFormed.{kindsDistinct, noneAbove, sameHeads, fenced
 use Rattle.fit.specs.Satisfies.{hasTree, pathReached, covered}
 use Rattle.policy.specs.Loads.{policyFault}
 use Rattle.fit.specs.Faults.{entryFault, entriesFault}
-use Rattle.service.specs.Questions.{Asked, passed, failed, ask, afterReading, typed, wellFormed, satisfied, Accepted, judged}
-use Rattle.service.specs.Later.{policyThenEntries, afterPolicy, laterFault}
+use Rattle.service.specs.Questions.{Asked, passed, failed, ask, afterReading, typed, wellFormed, satisfied, Accepted, judgedFrom, judged}
+use Rattle.service.specs.Later.{orPassed, policyThenEntries, afterPolicy, laterFault}
 use Rattle.service.specs.Told.{firstFailed}
 
 -- a number below a bound ends the questions, any other lets them go on
@@ -90,19 +90,19 @@ pub data AllHold : List Entry → Type 0 where
   hold-none : AllHold []
   hold-more : {e : Entry} {rest : List Entry} → holdsAny e ≡ true → AllHold rest → AllHold (e ∷ rest)
 
-entry-first : (policy : List Tree) (e : Entry) → holdsAny e ≡ true
-    → entryFault policy e ≡ firstOf (hasTree policy e) (pathReached policy e) (covered policy e)
+entry-first : (policy : List Tree) (required : Required) (e : Entry) → holdsAny e ≡ true
+    → entryFault policy required e ≡ firstOf (hasTree policy e) (pathReached policy e) (covered policy required e)
 unfolding entryFault firstOf
-entry-first policy e h = rw h refl
+entry-first policy required e h = rw h refl
 
-entries-first : (policy : List Tree) {es : List Entry} → AllHold es
-    → entriesFault policy es ≡ firstOf (every (hasTree policy) es) (every (pathReached policy) es) (every (covered policy) es)
+entries-first : (policy : List Tree) (required : Required) {es : List Entry} → AllHold es
+    → entriesFault policy required es ≡ firstOf (every (hasTree policy) es) (every (pathReached policy) es) (every (covered policy required) es)
 unfolding entriesFault every
-entries-first policy hold-none = unfold firstOf in refl
-entries-first policy (hold-more {e = e} {rest = rest} h more) =
-    ap₂ min (entry-first policy e h) (entries-first policy more)
-    ∙ first-both (hasTree policy e) (pathReached policy e) (covered policy e)
-    (every (hasTree policy) rest) (every (pathReached policy) rest) (every (covered policy) rest)
+entries-first policy required hold-none = unfold firstOf in refl
+entries-first policy required (hold-more {e = e} {rest = rest} h more) =
+    ap₂ min (entry-first policy required e h) (entries-first policy required more)
+    ∙ first-both (hasTree policy e) (pathReached policy e) (covered policy required e)
+    (every (hasTree policy) rest) (every (pathReached policy) rest) (every (covered policy required) rest)
 
 asked-three : {A : Type 0} (a b c : Bool) (rest : Asked A) → ask 16 a (ask 17 b (ask 18 c rest)) ≡ endsBelow 19 (firstOf a b c) rest
 unfolding ask endsBelow firstOf
@@ -111,12 +111,12 @@ asked-three true false c rest = refl
 asked-three true true false rest = refl
 asked-three true true true rest = refl
 
-entries-end : {A : Type 0} (policy : List Tree) (es : List Entry) → AllHold es → (rest : Asked A)
-    → satisfied policy es rest ≡ endsBelow 19 (entriesFault policy es) rest
+entries-end : {A : Type 0} (policy : List Tree) (required : Required) → AllHold (required .entries) → (rest : Asked A)
+    → satisfied policy required rest ≡ endsBelow 19 (entriesFault policy required (required .entries)) rest
 unfolding satisfied
-entries-end policy es h rest =
-    asked-three (every (hasTree policy) es) (every (pathReached policy) es) (every (covered policy) es) rest
-    ∙ ap (λ (n : ℕ). endsBelow 19 n rest) (sym (entries-first policy h))
+entries-end policy required h rest =
+    asked-three (every (hasTree policy) (required .entries)) (every (pathReached policy) (required .entries)) (every (covered policy required) (required .entries)) rest
+    ∙ ap (λ (n : ℕ). endsBelow 19 n rest) (sym (entries-first policy required h))
 
 -- the entries of an interface hold a permission each
 hold-append : {xs ys : List Entry} → AllHold xs → AllHold ys → AllHold (xs ++ ys)
@@ -137,8 +137,8 @@ unfolding gather entriesOf
 hold-gather [] = hold-none
 hold-gather (l ∷ rest) = hold-append (hold-only (map (entryOf (l .component) (actsOf l)) (rising 0 16))) (hold-gather rest)
 
-interface-holds : (sheet : Sheet) → AllHold (interface sheet)
-unfolding interface
+interface-holds : (sheet : Sheet) → AllHold (requiredOf sheet .entries)
+unfolding requiredOf interface
 interface-holds sheet = hold-gather (located sheet)
 
 -- a charter that does not read fails question 11
@@ -162,7 +162,7 @@ goes-on bound number rest h = rw (le-ltb number bound h) refl
 -- Questions 11 to 18 after a sheet that passes 1 to 10.
 unfoldable later : Sheet → Read (List Tree) → Asked Accepted
 later sheet read =
-    afterReading read (λ policy. wellFormed policy (satisfied policy (interface sheet) (passed (record { sheet = sheet; policy = policy }))))
+    afterReading read (λ policy. wellFormed policy (satisfied policy (requiredOf sheet) (passed (record { sheet = sheet; policy = policy }))))
 
 judged-by : (c : List ℕ) (r : Read Sheet) (sheet : Sheet) (k : ℕ) → r ≡ got sheet k
     → afterReading r (λ sh. typed (sheetActs sh) (later sh (readPolicy c))) ≡ typed (sheetActs sheet) (later sheet (readPolicy c))
@@ -171,59 +171,71 @@ judged-by c r sheet k e = rw e refl
 
 judged-from : (s c : List ℕ) (sheet : Sheet) (k : ℕ) → sheetOf s c ≡ got sheet k
     → judged s c ≡ typed (sheetActs sheet) (later sheet (readPolicy c))
-unfolding judged later
+unfolding judged judgedFrom later
 judged-from s c sheet k e = judged-by c (sheetOf s c) sheet k e
 
 judged-read : (s c : List ℕ) (sheet : Sheet) (k : ℕ) → sheetOf s c ≡ got sheet k
     → judged s c ≡ endsBelow 11 (worstAll (located sheet)) (later sheet (readPolicy c))
 judged-read s c sheet k e = judged-from s c sheet k e ∙ typed-ends sheet (later sheet (readPolicy c))
 
+-- 64 lets the questions go on where 19 did
+ends-passed : {A : Type 0} (number : ℕ) (rest : Asked A) → endsBelow 19 number rest ≡ endsBelow 64 (orPassed number) rest
+unfolding endsBelow orPassed
+ends-passed number rest = go (ltb number 19) refl
+  where
+    go : (b : Bool) → ltb number 19 ≡ b → cond b (failed number) rest ≡ cond (ltb (cond b number 64) 64) (failed (cond b number 64)) rest
+    go true e = rw (lt-ltb number 64 (omega (arith, ltb-true number 19 e))) refl
+    go false e = refl
+
 later-policy : (sheet : Sheet) (policy : List Tree) (rest : Asked Accepted)
-    → wellFormed policy (satisfied policy (interface sheet) rest) ≡ endsBelow 19 (policyThenEntries policy (interface sheet)) rest
+    → wellFormed policy (satisfied policy (requiredOf sheet) rest) ≡ endsBelow 64 (policyThenEntries policy (requiredOf sheet)) rest
 later-policy sheet policy rest =
-    policy-ends policy (satisfied policy (interface sheet) rest)
-    ∙ ap (endsBelow 16 (policyFault policy)) (entries-end policy (interface sheet) (interface-holds sheet) rest)
+    policy-ends policy (satisfied policy (requiredOf sheet) rest)
+    ∙ ap (endsBelow 16 (policyFault policy)) (entries-end policy (requiredOf sheet) (interface-holds sheet) rest ∙ ends-passed _ rest)
     ∙ go (ltb (policyFault policy) 16) refl
   where
     go : (b : Bool) → ltb (policyFault policy) 16 ≡ b
-        → endsBelow 16 (policyFault policy) (endsBelow 19 (entriesFault policy (interface sheet)) rest)
-        ≡ endsBelow 19 (policyThenEntries policy (interface sheet)) rest
-    go true e = unfold endsBelow policyThenEntries in rw (e, lt-ltb (policyFault policy) 19 (omega (arith, ltb-true (policyFault policy) 16 e))) refl
+        → endsBelow 16 (policyFault policy) (endsBelow 64 (orPassed (entriesFault policy (requiredOf sheet) (requiredOf sheet .entries))) rest)
+        ≡ endsBelow 64 (policyThenEntries policy (requiredOf sheet)) rest
+    go true e = unfold endsBelow policyThenEntries in rw (e, lt-ltb (policyFault policy) 64 (omega (arith, ltb-true (policyFault policy) 16 e))) refl
     go false e = unfold endsBelow policyThenEntries in rw e refl
 
--- No number is above 19, with which questions 11 to 18 pass.
-entries-most : (policy : List Tree) (es : List Entry) → entriesFault policy es ≤ 19
-unfolding entriesFault
-entries-most policy [] = omega arith
-entries-most policy (e ∷ rest) = omega (arith, entries-most policy rest)
+-- No number is above 64, with which questions 11 to 18 pass.
+passed-most : (number : ℕ) → orPassed number ≤ 64
+unfolding orPassed
+passed-most number = go (ltb number 19) refl
+  where
+    go : (b : Bool) → ltb number 19 ≡ b → cond b number 64 ≤ 64
+    go true e = omega (arith, ltb-true number 19 e)
+    go false e = omega arith
 
-later-most : (policy : List Tree) (es : List Entry) → policyThenEntries policy es ≤ 19
+later-most : (policy : List Tree) (required : Required) → policyThenEntries policy required ≤ 64
 unfolding policyThenEntries
-later-most policy es = go (ltb (policyFault policy) 16) refl
+later-most policy required = go (ltb (policyFault policy) 16) refl
   where
-    go : (b : Bool) → ltb (policyFault policy) 16 ≡ b → cond b (policyFault policy) (entriesFault policy es) ≤ 19
+    go : (b : Bool) → ltb (policyFault policy) 16 ≡ b → cond b (policyFault policy) (orPassed (entriesFault policy required (required .entries))) ≤ 64
     go true e = omega (arith, ltb-true (policyFault policy) 16 e)
-    go false e = entries-most policy es
+    go false e = passed-most (entriesFault policy required (required .entries))
 
-first-of-last : (number : ℕ) (a : Accepted) → number ≤ 19 → firstFailed (endsBelow 19 number (passed a)) ≡ number
+first-of-last : (number : ℕ) (a : Accepted) → number ≤ 64 → firstFailed (endsBelow 64 number (passed a)) ≡ number
 unfolding endsBelow firstFailed
-first-of-last number a h = go (ltb number 19) refl
+first-of-last number a h = go (ltb number 64) refl
   where
-    go : (b : Bool) → ltb number 19 ≡ b → firstFailed (cond b (failed number) (passed a)) ≡ number
+    go : (b : Bool) → ltb number 64 ≡ b → firstFailed (cond b (failed number) (passed a)) ≡ number
     go true e = refl
-    go false e = omega (arith, ltb-false number 19 e)
+    go false e = omega (arith, ltb-false number 64 e)
 
 later-first : (sheet : Sheet) (c : List ℕ) (r : Read (List Tree)) → readPolicy c ≡ r
-    → firstFailed (later sheet r) ≡ afterPolicy r (interface sheet)
+    → firstFailed (later sheet r) ≡ afterPolicy r (requiredOf sheet)
 unfolding later afterPolicy afterReading firstFailed
 later-first sheet c (got policy next) e =
     ap firstFailed (later-policy sheet policy (passed (record { sheet = sheet; policy = policy })))
-    ∙ first-of-last (policyThenEntries policy (interface sheet)) (record { sheet = sheet; policy = policy }) (later-most policy (interface sheet))
+    ∙ first-of-last (policyThenEntries policy (requiredOf sheet)) (record { sheet = sheet; policy = policy }) (later-most policy (requiredOf sheet))
 later-first sheet c (refused q at) e = refl
 
 -- The first question that a sheet fails: by the reading, else by the walk's answer, else by the charter's.
 pub judged-refused : (s c : List ℕ) (q at : ℕ) → sheetOf s c ≡ refused q at → judged s c ≡ failed q
-unfolding judged
+unfolding judged judgedFrom
 judged-refused s c q at e = rw e (unfold afterReading in refl)
 
 pub judged-typing : (s c : List ℕ) (sheet : Sheet) (k : ℕ) → sheetOf s c ≡ got sheet k → worstAll (located sheet) < 11
@@ -233,7 +245,7 @@ judged-typing s c sheet k e h =
     sym (ap firstFailed (judged-read s c sheet k e ∙ ends-now 11 (worstAll (located sheet)) (later sheet (readPolicy c)) h))
 
 pub judged-later : (s c : List ℕ) (sheet : Sheet) (k : ℕ) → sheetOf s c ≡ got sheet k → 11 ≤ worstAll (located sheet)
-    → laterFault c (interface sheet) ≡ firstFailed (judged s c)
+    → laterFault c (requiredOf sheet) ≡ firstFailed (judged s c)
 unfolding laterFault
 judged-later s c sheet k e h =
     sym (ap firstFailed (judged-read s c sheet k e ∙ goes-on 11 (worstAll (located sheet)) (later sheet (readPolicy c)) h)

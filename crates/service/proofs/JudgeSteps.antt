@@ -22,8 +22,8 @@ use Rattle.reading.specs.declared.Refusal.{Refusal}
 use Rattle.reading.proofs.Parts.{never, passed as test-passed}
 use Rattle.reading.proofs.ReadLaws.{one-tree}
 use Rattle.reading.proofs.TreeLaws.{SheetParts, sheet-parts}
-use Rattle.inference.specs.Interface.{Entry, interface}
-use Rattle.inference.specs.Rows.{tableEntries}
+use Rattle.inference.specs.Interface.{Entry, interface, Required, requiredOf}
+use Rattle.inference.specs.Rows.{tableEntries, tableRequired}
 use Rattle.inference.specs.Walks.{InferredSheet}
 use Rattle.inference.specs.declared.SystemWalk.{SystemWalk}
 use Rattle.interface.proofs.TableLaws.{Clear as ClearFrom}
@@ -32,28 +32,35 @@ use Rattle.policy.specs.Syntax.{Tree}
 use Rattle.policy.specs.Reading.{readPolicy}
 use Rattle.policy.specs.Loads.{AllHeld, Bounded, LoadedPolicy, unread, loaded, policyFault}
 use Rattle.policy.specs.declared.PolicyRead.{PolicyRead}
+use Rattle.policy.specs.declared.Trees.{Trees}
 use Rattle.fit.specs.Faults.{entriesFault}
-use Rattle.service.specs.Questions.{passed, failed, Accepted, judged}
-use Rattle.service.specs.Later.{policyThenEntries, afterPolicy, laterFault}
-use Rattle.service.specs.Told.{firstFailed, Reads, Ready, Judges}
-use Rattle.service.proofs.JudgeLaws.{judged-refused, judged-typing, judged-later}
-use Rattle.service.proofs.FirstLaws.{passed-reads}
+use Rattle.service.specs.Questions.{failed, judged}
+use Rattle.service.specs.Later.{orPassed, policyThenEntries, afterPolicy, laterFault}
+use Rattle.service.specs.declared.Judged.{Judged}
+use Rattle.service.specs.Told.{firstFailed, Reads, Ready, HoldsPolicy, JudgesLater, Judges}
+use Rattle.service.proofs.JudgeLaws.{policy-eleven, judged-refused, judged-typing, judged-later}
 
 ended-otherwise : {P : Type 0} {m : ℕ} {q : Refusal} → end-case.At m ≡ end-case.Refused q → P
 ended-otherwise e = let z : _≡_ {A = ℕ} 0 1 = cc in absurd (omega arith)
 
 -- Questions 11 to 18.
 module _ (c nodes : List ℕ) (p : PolicyRead) where
-  reads-not : (r : Read (List Tree)) → LoadedPolicy c r nodes p → (q w : Refusal) → p .end ≡ end-case.Refused q → w ≡ whyNone (p .end) → (es : List Entry)
-      → w .question ≡ afterPolicy r es
+  reads-not : (r : Read (List Tree)) → LoadedPolicy c r nodes p → (q w : Refusal) → p .end ≡ end-case.Refused q → w ≡ whyNone (p .end) → (required : Required)
+      → w .question ≡ afterPolicy r required
   unfolding afterPolicy
-  reads-not r (unread {why = why} e f) q w h k es = rw e (ap (λ (x : Refusal). x .question) (k ∙ ap whyNone f))
-  reads-not r (loaded {next = next} e f b held) q w h k es = ended-otherwise (sym f ∙ h)
+  reads-not r (unread {why = why} e f) q w h k required = rw e (ap (λ (x : Refusal). x .question) (k ∙ ap whyNone f))
+  reads-not r (loaded {next = next} e f b held) q w h k required = ended-otherwise (sym f ∙ h)
 
-  pub not-read : LoadedPolicy c (readPolicy c) nodes p → (q w : Refusal) → p .end ≡ end-case.Refused q → w ≡ whyNone (p .end) → (es : List Entry)
-      → w .question ≡ laterFault c es
+  reads-eleven : (r : Read (List Tree)) → readPolicy c ≡ r → LoadedPolicy c r nodes p → (q w : Refusal) → p .end ≡ end-case.Refused q → w ≡ whyNone (p .end)
+      → w .question ≡ 11
+  reads-eleven r f (unread {why = why} e g) q w h k =
+      ap (λ (x : Refusal). x .question) (k ∙ ap whyNone g) ∙ policy-eleven c (why .question) (why .at) (f ∙ e)
+  reads-eleven r f (loaded e g b held) q w h k = ended-otherwise (sym g ∙ h)
+
+  not-read : LoadedPolicy c (readPolicy c) nodes p → (q w : Refusal) → p .end ≡ end-case.Refused q → w ≡ whyNone (p .end) → (required : Required)
+      → w .question ≡ laterFault c required
   unfolding laterFault
-  not-read l q w h k es = reads-not (readPolicy c) l q w h k es
+  not-read l q w h k required = reads-not (readPolicy c) l q w h k required
 
   rows-bounded : (r : Read (List Tree)) → LoadedPolicy c r nodes p → (m : ℕ) → p .end ≡ end-case.At m → Bounded (p .trees)
   rows-bounded r (unread e f) m h = ended-otherwise (sym h ∙ f)
@@ -63,30 +70,76 @@ module _ (c nodes : List ℕ) (p : PolicyRead) where
   bounded l m h = rows-bounded (readPolicy c) l m h
 
   by-policy : (r : Read (List Tree)) → LoadedPolicy c r nodes p → (m : ℕ) → p .end ≡ end-case.At m → (fault : ℕ)
-      → ((policy : List Tree) → AllHeld c nodes (p .trees) 0 policy → fault ≡ policyFault policy) → fault < 16 → (es : List Entry) → fault ≡ afterPolicy r es
+      → ((policy : List Tree) → AllHeld c nodes (p .trees) 0 policy → fault ≡ policyFault policy) → fault < 16 → (required : Required) → fault ≡ afterPolicy r required
   unfolding afterPolicy policyThenEntries
-  by-policy r (unread e f) m h fault k lt es = ended-otherwise (sym h ∙ f)
-  by-policy r (loaded {policy = policy} e f b held) m h fault k lt es = rw (e, ← k policy held, lt-ltb fault 16 lt) refl
+  by-policy r (unread e f) m h fault k lt required = ended-otherwise (sym h ∙ f)
+  by-policy r (loaded {policy = policy} e f b held) m h fault k lt required = rw (e, ← k policy held, lt-ltb fault 16 lt) refl
 
-  pub policy-decides : LoadedPolicy c (readPolicy c) nodes p → (m : ℕ) → p .end ≡ end-case.At m → (fault : ℕ)
-      → ((policy : List Tree) → AllHeld c nodes (p .trees) 0 policy → fault ≡ policyFault policy) → fault < 16 → (es : List Entry) → fault ≡ laterFault c es
+  by-charter : LoadedPolicy c (readPolicy c) nodes p → (m : ℕ) → p .end ≡ end-case.At m → (fault : ℕ)
+      → ((policy : List Tree) → AllHeld c nodes (p .trees) 0 policy → fault ≡ policyFault policy) → fault < 16 → (required : Required) → fault ≡ laterFault c required
   unfolding laterFault
-  policy-decides l m h fault k lt es = by-policy (readPolicy c) l m h fault k lt es
+  by-charter l m h fault k lt required = by-policy (readPolicy c) l m h fault k lt required
 
   by-entries : (r : Read (List Tree)) → LoadedPolicy c r nodes p → (m : ℕ) → p .end ≡ end-case.At m → (fault v : ℕ)
       → ((policy : List Tree) → AllHeld c nodes (p .trees) 0 policy → fault ≡ policyFault policy) → 16 ≤ fault
-      → (es : List Entry) → ((policy : List Tree) → AllHeld c nodes (p .trees) 0 policy → v ≡ entriesFault policy es) → v ≡ afterPolicy r es
+      → (required : Required) → ((policy : List Tree) → AllHeld c nodes (p .trees) 0 policy → v ≡ entriesFault policy required (required .entries)) → orPassed v ≡ afterPolicy r required
   unfolding afterPolicy policyThenEntries
-  by-entries r (unread e f) m h fault v k le es q = ended-otherwise (sym h ∙ f)
-  by-entries r (loaded {policy = policy} e f b held) m h fault v k le es q = rw (e, ← k policy held, le-ltb fault 16 le) (q policy held)
+  by-entries r (unread e f) m h fault v k le required q = ended-otherwise (sym h ∙ f)
+  by-entries r (loaded {policy = policy} e f b held) m h fault v k le required q = rw (e, ← k policy held, le-ltb fault 16 le) (ap orPassed (q policy held))
 
-  pub entries-decide : LoadedPolicy c (readPolicy c) nodes p → (m : ℕ) → p .end ≡ end-case.At m → (fault v : ℕ)
+  by-required : LoadedPolicy c (readPolicy c) nodes p → (m : ℕ) → p .end ≡ end-case.At m → (fault v : ℕ)
       → ((policy : List Tree) → AllHeld c nodes (p .trees) 0 policy → fault ≡ policyFault policy) → 16 ≤ fault
-      → (es : List Entry) → ((policy : List Tree) → AllHeld c nodes (p .trees) 0 policy → v ≡ entriesFault policy es) → v ≡ laterFault c es
+      → (required : Required) → ((policy : List Tree) → AllHeld c nodes (p .trees) 0 policy → v ≡ entriesFault policy required (required .entries)) → orPassed v ≡ laterFault c required
   unfolding laterFault
-  entries-decide l m h fault v k le es q = by-entries (readPolicy c) l m h fault v k le es q
+  by-required l m h fault v k le required q = by-entries (readPolicy c) l m h fault v k le required q
 
-pub ruleset policy-judging = (needs, not-read, bounded, policy-decides, entries-decide)
+  -- the trees, where the charter reads
+  rows-held : (r : Read (List Tree)) → readPolicy c ≡ r → LoadedPolicy c r nodes p → (m : ℕ) → p .end ≡ end-case.At m → HoldsPolicy c nodes (p .trees)
+  rows-held r g (unread e f) m h = ended-otherwise (sym h ∙ f)
+  rows-held r g (loaded {policy = policy} {next = next} e f b held) m h = record { policy = policy; end = next; reads = g ∙ e; bounded = b; held = held }
+
+  -- the three returns
+  module _ (l : LoadedPolicy c (readPolicy c) nodes p) (required : Required) (n : ℕ) where
+    pub charter-unread : (q w : Refusal) → p .end ≡ end-case.Refused q → w ≡ whyNone (p .end)
+        → JudgesLater c nodes required n (record { fault = w .question; components = n; trees = p .trees })
+    charter-unread q w h k = record {
+      first = not-read l q w h k required;
+      number = refl;
+      trees-held = λ past. absurd (omega (arith, past, reads-eleven (readPolicy c) refl l q w h k));
+    }
+
+    pub policy-decides : (m : ℕ) → p .end ≡ end-case.At m → (fault : ℕ)
+        → ((policy : List Tree) → AllHeld c nodes (p .trees) 0 policy → fault ≡ policyFault policy) → fault < 16
+        → JudgesLater c nodes required n (record { fault = fault; components = n; trees = p .trees })
+    policy-decides m h fault k lt = record {
+      first = by-charter l m h fault k lt required;
+      number = refl;
+      trees-held = λ past. rows-held (readPolicy c) refl l m h;
+    }
+
+    entries-decide : (m : ℕ) → p .end ≡ end-case.At m → (fault v w : ℕ)
+        → ((policy : List Tree) → AllHeld c nodes (p .trees) 0 policy → fault ≡ policyFault policy) → 16 ≤ fault
+        → ((policy : List Tree) → AllHeld c nodes (p .trees) 0 policy → v ≡ entriesFault policy required (required .entries)) → w ≡ orPassed v
+        → JudgesLater c nodes required n (record { fault = w; components = n; trees = p .trees })
+    entries-decide m h fault v w k le q is = record {
+      first = is ∙ by-required l m h fault v k le required q;
+      number = refl;
+      trees-held = λ past. rows-held (readPolicy c) refl l m h;
+    }
+
+-- The entries' own number, or 64.
+module _ (c nodes table : List ℕ) (p : PolicyRead) (n : ℕ) (l : LoadedPolicy c (readPolicy c) nodes p) (m : ℕ) (h : p .end ≡ end-case.At m) (fault v : ℕ)
+    (k : (policy : List Tree) → AllHeld c nodes (p .trees) 0 policy → fault ≡ policyFault policy) (le : 16 ≤ fault)
+    (q : (policy : List Tree) → AllHeld c nodes (p .trees) 0 policy → v ≡ entriesFault policy (tableRequired table n) (tableEntries table n)) where
+  pub entries-fail : v < 19 → JudgesLater c nodes (tableRequired table n) n (record { fault = v; components = n; trees = p .trees })
+  unfolding tableRequired orPassed
+  entries-fail lt = entries-decide c nodes p l (tableRequired table n) n m h fault v v k le q (rw (lt-ltb v 19 lt) refl)
+
+  pub entries-pass : 19 ≤ v → JudgesLater c nodes (tableRequired table n) n (record { fault = 64; components = n; trees = p .trees })
+  unfolding tableRequired orPassed
+  entries-pass ge = entries-decide c nodes p l (tableRequired table n) n m h fault v 64 k le q (rw (le-ltb v 19 ge) refl)
+
+pub ruleset policy-judging = (needs, charter-unread, bounded, policy-decides, entries-fail, entries-pass)
 
 -- Questions 7 to 18 of a sheet that reads.
 pub sheet-reads : (s c : List ℕ) (sheet : Sheet) (k : ℕ) → sheetOf s c ≡ got sheet k → readSheet s ≡ got sheet k
@@ -117,22 +170,29 @@ module _ (s c table table′ : List ℕ) (walk : SystemWalk) (ready : Ready s c 
       ap₂ tableEntries (here .counted) (here .number)
       ∙ sheet-table s c (reads .tree) (reads .end) whole (ready .rows) (ready .room) table (ready .long) (unfold ClearFrom in λ i p. ready .zeros i)
 
-  holds : (a : Accepted) → judged s c ≡ passed a → tableEntries table′ (walk .components) ≡ interface (a .sheet)
-  holds a e = table-is ∙ ap interface (one-tree s c (reads .reads) (passed-reads s c a e .reads))
+  holds : (tree : Sheet) (end : ℕ) → sheetOf s c ≡ got tree end → tableEntries table′ (walk .components) ≡ interface tree
+  holds tree end e = table-is ∙ ap interface (one-tree s c (reads .reads) e)
 
-  pub typing-fails : walk .fault < 11 → Judges s c table′ (record { fault = walk .fault; components = walk .components })
-  typing-fails h = record {
+  requires-is : tableRequired table′ (walk .components) ≡ requiredOf (reads .tree)
+  unfolding tableRequired requiredOf
+  requires-is = ap (λ (es : List Entry). record { entries = es }) table-is
+
+  pub typing-fails : (nodes : List ℕ) (trees : Trees) → walk .fault < 11
+      → Judges s c table′ nodes (record { fault = walk .fault; components = walk .components; trees = trees })
+  typing-fails nodes trees h = record {
     first = here .first ∙ judged-typing s c (reads .tree) (reads .end) (reads .reads) (omega (arith, here .first));
     few = few-components;
     held = holds;
+    trees-held = λ past. absurd (omega arith);
   }
 
-  pub typing-passes : (fault : ℕ) → 11 ≤ walk .fault → fault ≡ laterFault c (tableEntries table′ (walk .components))
-      → Judges s c table′ (record { fault = fault; components = walk .components })
-  typing-passes fault h e = record {
-    first = e ∙ ap (laterFault c) table-is ∙ judged-later s c (reads .tree) (reads .end) (reads .reads) (omega (arith, here .first));
-    few = few-components;
-    held = holds;
+  pub typing-passes : (nodes : List ℕ) (r : Judged) → 11 ≤ walk .fault
+      → JudgesLater c nodes (tableRequired table′ (walk .components)) (walk .components) r → Judges s c table′ nodes r
+  typing-passes nodes r h j = record {
+    first = j .first ∙ ap (laterFault c) requires-is ∙ judged-later s c (reads .tree) (reads .end) (reads .reads) (omega (arith, here .first));
+    few = omega (arith, j .number, few-components);
+    held = rw (j .number) holds;
+    trees-held = j .trees-held;
   }
 
 -- Questions 1 to 6.

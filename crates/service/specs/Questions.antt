@@ -8,7 +8,7 @@ use Rattle.reading.specs.System.{sheetOf}
 use Rattle.inference.specs.Lists.{every}
 use Rattle.inference.specs.Acts.{Act, sheetActs}
 use Rattle.inference.specs.Typing.{inScope, onChannel, carriesObject, inPath}
-use Rattle.inference.specs.Interface.{Entry, interface}
+use Rattle.inference.specs.Interface.{Required, requiredOf}
 use Rattle.policy.specs.Syntax.{Tree}
 use Rattle.policy.specs.Reading.{readPolicy}
 use Rattle.policy.specs.WellFormed.{kindsDistinct, noneAbove, sameHeads, fenced}
@@ -46,22 +46,26 @@ wellFormed policy rest =
     (ask 15 (fenced policy) rest)))
 
 -- 16 to 18.
-unfoldable pub satisfied : {A : Type 0} → List Tree → List Entry → Asked A → Asked A
-satisfied policy entries rest =
-    ask 16 (every (hasTree policy) entries)
-    (ask 17 (every (pathReached policy) entries)
-    (ask 18 (every (covered policy) entries) rest))
+unfoldable pub satisfied : {A : Type 0} → List Tree → Required → Asked A → Asked A
+satisfied policy required rest =
+    ask 16 (every (hasTree policy) (required .entries))
+    (ask 17 (every (pathReached policy) (required .entries))
+    (ask 18 (every (covered policy required) (required .entries)) rest))
 
 -- A sheet that its policy accepts.
 pub record Accepted : Type 0 where
   pub sheet : Sheet
   pub policy : List Tree
 
+-- Questions 1 to 18, from what the readings of a sheet and of a charter answer.
+unfoldable pub judgedFrom : Read Sheet → Read (List Tree) → Asked Accepted
+judgedFrom sheetRead charterRead =
+    afterReading sheetRead (λ sheet.
+    typed (sheetActs sheet)
+    (afterReading charterRead (λ policy.
+    wellFormed policy
+    (satisfied policy (requiredOf sheet) (passed (record { sheet = sheet; policy = policy }))))))
+
 -- Questions 1 to 18.
 unfoldable pub judged : List ℕ → List ℕ → Asked Accepted
-judged s c =
-    afterReading (sheetOf s c) (λ sheet.
-    typed (sheetActs sheet)
-    (afterReading (readPolicy c) (λ policy.
-    wellFormed policy
-    (satisfied policy (interface sheet) (passed (record { sheet = sheet; policy = policy }))))))
+judged s c = judgedFrom (sheetOf s c) (readPolicy c)

@@ -6,10 +6,15 @@ use lib.ListN.{length, getD}
 use Rattle.reading.specs.Read.{got}
 use Rattle.reading.specs.Syntax.{Sheet, components}
 use Rattle.reading.specs.System.{sheetOf}
-use Rattle.inference.specs.Interface.{interface}
+use Rattle.inference.specs.Interface.{interface, Required}
 use Rattle.inference.specs.Rows.{tableEntries}
-use Rattle.service.specs.Questions.{Asked, passed, failed, Accepted, judged}
+use Rattle.policy.specs.Loads.{Bounded, AllHeld}
+use Rattle.policy.specs.Reading.{readPolicy}
+use Rattle.policy.specs.Syntax.{Tree}
+use Rattle.policy.specs.declared.Trees.{Trees}
+use Rattle.service.specs.Questions.{Asked, passed, failed, judged}
 use Rattle.service.specs.Check.{fitting, written, checked}
+use Rattle.service.specs.Later.{laterFault}
 use Rattle.service.specs.declared.Answer.{Answer}
 use Rattle.service.specs.declared.Answer.the-variants as answer-case
 use Rattle.service.specs.declared.Judged.{Judged}
@@ -18,9 +23,9 @@ abbrev pub told : Answer → Asked ℕ
 told (answer-case.Accepted n) = passed n
 told (answer-case.Refused n) = failed n
 
--- The first question that fails, or 19 where questions 1 to 18 pass.
+-- The first question that fails, or 64, a number that no question has, where questions 1 to 18 pass.
 unfoldable pub firstFailed : {A : Type 0} → Asked A → ℕ
-firstFailed (passed a) = 19
+firstFailed (passed a) = 64
 firstFailed (failed n) = n
 
 -- What `check` promises: its answer and the final bytes of the lent output are those of the definition.
@@ -42,11 +47,27 @@ pub record Ready (s charter table : List ℕ) : Type 0 where
   pub long : length table ≡ rows * 1097
   pub zeros : (i : ℕ) → getD table i 0 ≡ 0
 
--- What questions 1 to 18 come to, and a table that holds the interface of a sheet that passes them.
-pub record Judges (sheet charter table : List ℕ) (r : Judged) : Type 0 where
+-- A charter that reads, and its trees in the table of nodes.
+pub record HoldsPolicy (charter nodes : List ℕ) (trees : Trees) : Type 0 where
+  pub policy : List Tree
+  pub end : ℕ
+  pub reads : readPolicy charter ≡ got policy end
+  pub bounded : Bounded trees
+  pub held : AllHeld charter nodes trees 0 policy
+
+-- What questions 11 to 18 come to, and past 11 the charter's trees.
+pub record JudgesLater (charter nodes : List ℕ) (required : Required) (components : ℕ) (r : Judged) : Type 0 where
+  pub first : r .fault ≡ laterFault charter required
+  pub number : r .components ≡ components
+  pub trees-held : 11 < r .fault → HoldsPolicy charter nodes (r .trees)
+
+-- What questions 1 to 18 come to; a table that holds the interface of a sheet that reads, whether it passes them or not; and past
+-- 11 the charter's trees.
+pub record Judges (sheet charter table nodes : List ℕ) (r : Judged) : Type 0 where
   pub first : r .fault ≡ firstFailed (judged sheet charter)
   pub few : r .components ≤ 32
-  pub held : (a : Accepted) → judged sheet charter ≡ passed a → tableEntries table (r .components) ≡ interface (a .sheet)
+  pub held : (tree : Sheet) (end : ℕ) → sheetOf sheet charter ≡ got tree end → tableEntries table (r .components) ≡ interface tree
+  pub trees-held : 11 < r .fault → HoldsPolicy charter nodes (r .trees)
 
 -- Bytes that are written where there is room for them.
 pub record Delivered (bytes output output′ : List ℕ) (r : Answer) : Type 0 where

@@ -27,13 +27,19 @@ fn deliver(table: &[u16], components: usize, output: &mut [u8]) -> Answer
     Answer::Accepted(len)
 }
 
-// Questions 7 to 19 of a sheet that reads, with a clear table for its components.
-fn check_read(sheet: &[u8], charter: &[u8], table: &mut [u16], output: &mut [u8]) -> Answer
-    requires { ⌜ Ready (now sheet) (now charter) (now table) ⌝ }
+// Questions 7 to 19 of a sheet that reads, with a clear table for its components and a table for the charter's nodes.
+fn check_read(
+    sheet: &[u8],
+    charter: &[u8],
+    table: &mut [u16],
+    nodes: &mut [usize],
+    output: &mut [u8],
+) -> Answer
+    requires { ⌜ Ready (now sheet) (now charter) (now table) × (length (now nodes) ≡ 320) ⌝ }
     ensures { λ r. ⌜ Checked (now (sheet .entry)) (now (charter .entry)) (now (output .entry)) (now (output .exit)) r ⌝ }
 {
-    let judged = judge_read(sheet, charter, table);
-    if judged.fault < 19 {
+    let judged = judge_read(sheet, charter, table, nodes);
+    if judged.fault < 64 {
         return Answer::Refused(judged.fault);
     }
     deliver(table, judged.components, output)
@@ -48,10 +54,11 @@ pub fn check(sheet: &[u8], charter: &[u8], output: &mut [u8]) -> Answer
     let NumberRead::Found(components) = read else {
         return Answer::Refused(refusal(read).question);
     };
+    let mut nodes = [0usize; 320];
     if components.value <= 4 {
         let mut few = [0u16; 4388];
-        return check_read(sheet, charter, &mut few, output);
+        return check_read(sheet, charter, &mut few, &mut nodes, output);
     }
     let mut table = [0u16; 35104];
-    check_read(sheet, charter, &mut table, output)
+    check_read(sheet, charter, &mut table, &mut nodes, output)
 }

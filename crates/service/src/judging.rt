@@ -2,13 +2,13 @@
 ghost use mathlib.Core.Path.{_≡_};
 ghost use Prim.Native.Nat.{_≤_};
 ghost use lib.ListN.{length};
-ghost use Rattle.inference.specs.Rows.{tableEntries};
+ghost use Rattle.inference.specs.Rows.{tableRequired};
 ghost use Rattle.service.specs.Questions.{judged};
-ghost use Rattle.service.specs.Told.{firstFailed, Ready, Judges};
-ghost use Rattle.service.specs.Later.{laterFault};
+ghost use Rattle.service.specs.Told.{firstFailed, Ready, JudgesLater, Judges};
 use crate::Judged;
 use fit::entries::fit;
 use inference::sheet::infer;
+use policy::read::no_trees;
 use policy::read::read_policy;
 use policy::wellformed::policy_fault;
 use reading::End;
@@ -17,37 +17,48 @@ use reading::bytes::refusal;
 use reading::system::read;
 use reading::system::why_none;
 
-// Questions 11 to 18, with a table for the charter's nodes: the first that fails, or 19.
-fn judge_with(charter: &[u8], table: &[u16], components: usize, nodes: &mut [usize]) -> usize
+// Questions 11 to 18 of a charter and a table of components, with a table for the charter's nodes: the first that fails, or 64.
+fn judge_with(charter: &[u8], table: &[u16], components: usize, nodes: &mut [usize]) -> Judged
     requires { ⌜ (components ≤ 32) × (length (now charter) ≤ 4096) × (length (now nodes) ≡ 320) ⌝ }
-    ensures { λ r. ⌜ r ≡ laterFault (now (charter .entry)) (tableEntries (now (table .entry)) components) ⌝ }
+    ensures { λ r. ⌜ JudgesLater (now (charter .entry)) (now (nodes .exit)) (tableRequired (now (table .entry)) components) components r ⌝ }
 {
     let policy = read_policy(charter, nodes);
     let end = policy.end;
-    let End::At(_) = end else {
-        return why_none(end).question;
-    };
     let trees = policy.trees;
+    let End::At(_) = end else {
+        return Judged {
+            fault: why_none(end).question,
+            components,
+            trees,
+        };
+    };
     let fault = policy_fault(charter, nodes, trees);
     if fault < 16 {
-        return fault;
+        return Judged {
+            fault,
+            components,
+            trees,
+        };
     }
-    fit(charter, nodes, trees, table, components)
+    let fault = fit(charter, nodes, trees, table, components);
+    if fault < 19 {
+        return Judged {
+            fault,
+            components,
+            trees,
+        };
+    }
+    Judged {
+        fault: 64,
+        components,
+        trees,
+    }
 }
 
-// Questions 11 to 18 of a charter and a table of components: the first that fails, or 19.
-fn judge(charter: &[u8], table: &[u16], components: usize) -> usize
-    requires { ⌜ (components ≤ 32) × (length (now charter) ≤ 4096) ⌝ }
-    ensures { λ r. ⌜ r ≡ laterFault (now (charter .entry)) (tableEntries (now (table .entry)) components) ⌝ }
-{
-    let mut nodes = [0usize; 320];
-    judge_with(charter, table, components, &mut nodes)
-}
-
-// Questions 7 to 18 of a sheet that reads, with a clear table for its components.
-pub fn judge_read(sheet: &[u8], charter: &[u8], table: &mut [u16]) -> Judged
-    requires { ⌜ Ready (now sheet) (now charter) (now table) ⌝ }
-    ensures { λ r. ⌜ Judges (now (sheet .entry)) (now (charter .entry)) (now (table .exit)) r ⌝ }
+// Questions 7 to 18 of a sheet that reads, with a clear table for its components and a table for the charter's nodes.
+pub fn judge_read(sheet: &[u8], charter: &[u8], table: &mut [u16], nodes: &mut [usize]) -> Judged
+    requires { ⌜ Ready (now sheet) (now charter) (now table) × (length (now nodes) ≡ 320) ⌝ }
+    ensures { λ r. ⌜ Judges (now (sheet .entry)) (now (charter .entry)) (now (table .exit)) (now (nodes .exit)) r ⌝ }
 {
     let walk = infer(sheet, table);
     let components = walk.components;
@@ -55,13 +66,13 @@ pub fn judge_read(sheet: &[u8], charter: &[u8], table: &mut [u16]) -> Judged
         return Judged {
             fault: walk.fault,
             components,
+            trees: no_trees(),
         };
     }
-    let fault = judge(charter, table, components);
-    Judged { fault, components }
+    judge_with(charter, table, components, nodes)
 }
 
-// Questions 1 to 18 of a sheet and a charter: the first that fails, or 19.
+// Questions 1 to 18 of a sheet and a charter: the first that fails, or 64.
 pub fn first_failed(sheet: &[u8], charter: &[u8]) -> usize
     ensures { λ r. ⌜ r ≡ firstFailed (judged (now (sheet .entry)) (now (charter .entry))) ⌝ }
 {
@@ -69,12 +80,13 @@ pub fn first_failed(sheet: &[u8], charter: &[u8]) -> usize
     let NumberRead::Found(components) = read else {
         return refusal(read).question;
     };
+    let mut nodes = [0usize; 320];
     if components.value <= 4 {
         let mut few = [0u16; 4388];
-        let judged = judge_read(sheet, charter, &mut few);
+        let judged = judge_read(sheet, charter, &mut few, &mut nodes);
         return judged.fault;
     }
     let mut table = [0u16; 35104];
-    let judged = judge_read(sheet, charter, &mut table);
+    let judged = judge_read(sheet, charter, &mut table, &mut nodes);
     judged.fault
 }

@@ -2,6 +2,8 @@
 pub mod checking;
 pub mod judging;
 
+use policy::Trees;
+
 // What a service answers: the length written (check) or the number of moves (play); or the number of the first question
 // that fails.
 pub enum Answer {
@@ -9,8 +11,10 @@ pub enum Answer {
     Refused(usize),
 }
 
-// What questions 1 to 18 come to: the first that fails, or 19; and the number of components in the sheet's table.
+// What questions 1 to 18 come to: the first that fails, or 64, a number that no question has; the number of components in the
+// sheet's table; and the charter's trees, where they were read into the table of nodes.
 pub struct Judged {
     pub fault: usize,
     pub components: usize,
+    pub trees: Trees,
 }

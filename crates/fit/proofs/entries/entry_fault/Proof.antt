@@ -8,11 +8,11 @@ use Rattle.fit.proofs.entries.entry_fault.Statement.{statement}
 use Rattle.fit.proofs.entries.entry_fault.Tie as tie
 
 returns : tie.Need-returns
-returns c = λ policy held. no-entry policy _ (map-none _ (sym (c .before .map-at .ensures) ∙ c .if1 .taken))
+returns c = λ policy held required. no-entry policy required _ (map-none _ (sym (c .before .map-at .ensures) ∙ c .if1 .taken))
 
 returns-2 : tie.Need-returns-2
-returns-2 c = λ policy held.
-    no-tree policy _ _ _ held (c .before .before .before .before .before .before .before .before .pre .2 .few) (search needs) _ _ _ _ (c .before .before .tree-for .ensures)
+returns-2 c = λ policy held required.
+    no-tree policy required _ _ _ held (c .before .before .before .before .before .before .before .before .pre .2 .few) (search needs) _ _ _ _ (c .before .before .tree-for .ensures)
     (map-some _ (λ e. c .before .before .before .if1 .left (c .before .before .before .before .map-at .ensures ∙ e))) (c .if2 .taken)
 
 tree-fault-requires : tie.Need-tree-fault-requires
@@ -20,8 +20,8 @@ tree-fault-requires c κs =
     (omega (arith, c .span-of .ensures .1, c .before .before .before .before .before .before .before .before .before .pre .2 .rows (c .before .before .before .tree-for .result)), search needs, search needs)
 
 returns-3 : tie.Need-returns-3
-returns-3 c = λ policy held.
-    in-tree policy _ _ _ held (c .before .before .before .before .before .before .before .before .before .before .pre .2 .few) (search needs) _ _ _ _ (c .before .before .before .before .tree-for .ensures)
+returns-3 c = λ policy held required.
+    in-tree policy required _ _ _ held (c .before .before .before .before .before .before .before .before .before .before .pre .2 .few) (search needs) _ _ _ _ (c .before .before .before .before .tree-for .ensures)
     (map-some _ (λ e. c .before .before .before .before .before .if1 .left (c .before .before .before .before .before .before .map-at .ensures ∙ e))) (c .before .before .if2 .left)
     _ _ _ (c .before .span-of .ensures .0) (c .before .span-of .ensures .1) (c .tree-fault .ensures)
 

@@ -4,6 +4,9 @@ use borrow.Author.Needs.{needs}
 use Rattle.service.proofs.judging.first_failed.Statement.{statement}
 use Rattle.service.proofs.judging.first_failed.Tie as tie
 
+judge-read-requires-2 : tie.Need-judge-read-requires-2
+judge-read-requires-2 c κs = (search judging, search judging)
+
 pub first-failed-spec : {M : Type 1} → statement M
 first-failed-spec =
     tie.close
@@ -14,8 +17,10 @@ first-failed-spec =
     (λ c κs. search needs)
     (λ c. search judging)
     (λ c. search needs)
+    (λ c. search needs)
     (λ c κs. search judging)
     (λ c. search needs)
     (λ c. search needs)
-    (λ c κs. search judging)
+    (λ c. search needs)
+    judge-read-requires-2
     (λ c. search needs))

@@ -4,9 +4,19 @@ use borrow.Author.Needs.{needs}
 use Rattle.service.proofs.judging.judge_read.Statement.{statement}
 use Rattle.service.proofs.judging.judge_read.Tie as tie
 
-judge-requires : tie.Need-judge-requires
-judge-requires c κs = (few-components _ _ _ _ _ (c .before .before .before .before .before .before .before .before .before .before .pre) (c .before .before .before .before .before .infer .ensures), search judging)
+judge-with-requires : tie.Need-judge-with-requires
+judge-with-requires c κs =
+    (few-components _ _ _ _ _ (c .before .before .before .before .before .before .before .before .before .before .before .before .pre .0) (c .before .before .before .before .before .before .infer .ensures), search judging, search judging)
 
 pub judge-read-spec : {M : Type 1} → statement M
 judge-read-spec =
-    tie.close (tie.spec (λ c κs. search needs) (λ c. search needs) (λ c. search judging) judge-requires (λ c. search needs) (λ c. search judging))
+    tie.close
+    (tie.spec
+    (λ c κs. search needs)
+    (λ c κs. search needs)
+    (λ c. search needs)
+    (λ c. search judging)
+    judge-with-requires
+    (λ c. search needs)
+    (λ c. search needs)
+    (λ c. search judging))

@@ -22,4 +22,6 @@ judge-with-spec =
     (λ c. search policy-judging)
     fit-requires
     (λ c. search needs)
+    (λ c. search policy-judging)
+    (λ c. search needs)
     (λ c. search policy-judging))
