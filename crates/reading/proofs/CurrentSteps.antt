@@ -4,12 +4,12 @@ use mathlib.Core.List.{List}
 use mathlib.Core.Path.{_≡_}
 use native.Mathlib.Omega.{arith}
 use borrow.Author.Needs.{needs}
-use Rattle.reading.specs.Dialects.{current, NoWider}
+use Rattle.reading.specs.Dialects.{current}
 use Rattle.reading.specs.Read.{Read}
 use Rattle.reading.specs.Types.{typeAtIn}
 use Rattle.reading.specs.Forms.{processAtIn, systemAtIn}
 use Rattle.reading.specs.System.{sheetOfIn}
-use Rattle.reading.specs.Told.{countedIn}
+use Rattle.reading.specs.Told.{NoWider, countedIn}
 use Rattle.reading.specs.declared.Dialect.{Dialect}
 use Rattle.reading.specs.declared.Form.{Form}
 

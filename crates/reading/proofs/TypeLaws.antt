@@ -8,7 +8,7 @@ use native.Mathlib.Omega.{arith}
 use borrow.Author.Tests.{ltb-false, lt-ltb, le-ltb}
 use lib.Dec.{ltb, lit<}
 use Rattle.reading.proofs.Parts.{parts, below-found}
-use Rattle.reading.specs.Dialects.{NoWider}
+use Rattle.reading.specs.Told.{NoWider}
 use Rattle.reading.specs.Read.{got, andThen, below}
 use Rattle.reading.specs.Types.{channel, numberOf, shape, groupsThenKindIn, typeAtIn}
 use Rattle.reading.specs.declared.Dialect.{Dialect}

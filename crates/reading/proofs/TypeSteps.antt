@@ -9,9 +9,8 @@ use mir.Val.{Fits}
 use Rattle.reading.proofs.Parts.{below-found}
 use Rattle.reading.proofs.Steps.{steps}
 use Rattle.reading.proofs.TypeLaws.{few-groups}
-use Rattle.reading.specs.Dialects.{NoWider}
 use Rattle.reading.specs.Read.{Read, got, andThen, below}
-use Rattle.reading.specs.Told.{number}
+use Rattle.reading.specs.Told.{NoWider, number}
 use Rattle.reading.specs.Types.{channel, groupsThenKindIn}
 use Rattle.reading.specs.declared.Dialect.{Dialect}
 use Rattle.reading.specs.declared.Number.{Number}

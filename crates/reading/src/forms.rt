@@ -3,7 +3,6 @@ ghost use mathlib.Core.Path.{_≡_};
 ghost use mathlib.Core.Bool.{_&&_};
 ghost use lib.Dec.{ltb};
 ghost use Rattle.reading.specs.Read.{got, refused};
-ghost use Rattle.reading.specs.Dialects.{NoWider};
 ghost use Rattle.reading.specs.Forms.{
   limited,
   newFormIn,
@@ -17,7 +16,7 @@ ghost use Rattle.reading.specs.Forms.{
   processAt,
   systemAt,
 };
-ghost use Rattle.reading.specs.Told.{number, form as told, refusalOf, pathOf};
+ghost use Rattle.reading.specs.Told.{NoWider, number, form as told, refusalOf, pathOf};
 use crate::Act;
 use crate::Dialect;
 use crate::Form;

@@ -1,7 +1,6 @@
 // A whole encoded system: the free names, one system, and nothing after it.
 ghost use mathlib.Core.Path.{_≡_};
 ghost use Prim.Native.Nat.{_<_};
-ghost use Rattle.reading.specs.Dialects.{NoWider};
 ghost use Rattle.reading.specs.System.{
   component,
   readProcessIn,
@@ -12,7 +11,7 @@ ghost use Rattle.reading.specs.System.{
   sheetOf,
 };
 ghost use Rattle.reading.specs.declared.OwnFields.{OwnFields};
-ghost use Rattle.reading.specs.Told.{number, ending, ended, counted, countedIn, whyNone, whyOf, pathOf};
+ghost use Rattle.reading.specs.Told.{NoWider, number, ending, ended, counted, countedIn, whyNone, whyOf, pathOf};
 use crate::Dialect;
 use crate::End;
 use crate::Form;

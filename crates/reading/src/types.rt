@@ -1,9 +1,8 @@
 // Types: how a stored type is read into a number, and which shape a type has.
 ghost use mathlib.Core.Path.{_≡_};
 ghost use Prim.Native.Nat.{_≤_};
-ghost use Rattle.reading.specs.Dialects.{NoWider};
 ghost use Rattle.reading.specs.Types.{shape, groupsThenKindIn, typeAtIn, typeAt};
-ghost use Rattle.reading.specs.Told.{number};
+ghost use Rattle.reading.specs.Told.{NoWider, number};
 use crate::Dialect;
 use crate::Number;
 use crate::NumberRead;
