@@ -139,6 +139,11 @@ module _ (c nodes table : List ℕ) (p : PolicyRead) (n : ℕ) (l : LoadedPolicy
   unfolding tableRequired orPassed
   entries-pass ge = entries-decide c nodes p l (tableRequired table n) n m h fault v 64 k le q (rw (le-ltb v 19 ge) refl)
 
+-- A table of another length is never lent.
+pub no-table : (c nodes : List ℕ) (required : Required) (components : ℕ) (r : Judged) → length nodes ≡ 320 → (length nodes ≡ 320 → ⊥)
+    → JudgesLater c nodes required components r
+no-table c nodes required components r e n = absurd (n e)
+
 pub ruleset policy-judging = (needs, charter-unread, bounded, policy-decides, entries-fail, entries-pass)
 
 -- Questions 7 to 18 of a sheet that reads.

@@ -22,6 +22,14 @@ fn judge_with(charter: &[u8], table: &[u16], components: usize, nodes: &mut [usi
     requires { ⌜ (components ≤ 32) × (length (now charter) ≤ 4096) × (length (now nodes) ≡ 320) ⌝ }
     ensures { λ r. ⌜ JudgesLater (now (charter .entry)) (now (nodes .exit)) (tableRequired (now (table .entry)) components) components r ⌝ }
 {
+    // Never so; said for the compiler, which then tests no index of the table again.
+    if nodes.len() != 320 {
+        return Judged {
+            fault: 11,
+            components,
+            trees: no_trees(),
+        };
+    }
     let policy = read_policy(charter, nodes);
     let end = policy.end;
     let trees = policy.trees;

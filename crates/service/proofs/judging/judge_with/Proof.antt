@@ -1,5 +1,5 @@
 -- A charter that does not read leaves with its refusal; else its own questions decide, then those of the entries.
-use Rattle.service.proofs.JudgeSteps.{policy-judging}
+use Rattle.service.proofs.JudgeSteps.{policy-judging, no-table}
 use borrow.Author.Needs.{needs}
 use Rattle.service.proofs.judging.judge_with.Statement.{statement}
 use Rattle.service.proofs.judging.judge_with.Tie as tie
@@ -11,6 +11,8 @@ pub judge-with-spec : {M : Type 1} → statement M
 judge-with-spec =
     tie.close
     (tie.spec
+    (λ c κs. search needs)
+    (λ c. search (needs, no-table))
     (λ c κs. search needs)
     (λ c. search needs)
     (λ c. search needs)
