@@ -1,13 +1,14 @@
--- An entry of a table is covered where its flags and its counts are, each taken by itself; and the first question that any
--- entry fails is the least of those of the entries.
+-- What an entry of a table lacks, found by its flags and then by its groups; it is covered where it lacks nothing. And the first
+-- question that any entry fails is the least of those of the entries.
 use Prim.Native.Nat.{ℕ, zero, suc, _+_, _-_, _<_, _≤_, min}
 use mathlib.Core.Path.{_≡_, refl, sym, ap, ap₂, _∙_}
 use mathlib.Core.List.{List, [], _∷_, _++_, map}
 use mathlib.Core.Bool.{Bool, true, false, cond, not, _&&_, _||_}
+use mathlib.Core.Option.{Option, some, none}
 use native.Mathlib.Omega.{arith}
 use lib.ListN.{length, take, getD}
 use lib.Dec.{ltb}
-use borrow.Author.Tests.{lt-ltb, le-ltb}
+use borrow.Author.Tests.{lt-ltb, le-ltb, ne-eqb}
 use Rattle.inference.specs.Lists.{every, any, only, gather, rising}
 use Rattle.inference.specs.Counts.{Count, atMost, isZero}
 use Rattle.inference.specs.Interface.{Disclosure, Entry, Permission, reading, writing, accessing, disclosing, flagged, permissions, holdsAny, Required}
@@ -20,129 +21,163 @@ use Rattle.fit.specs.Satisfies.{hasTree, pathReached, grantsOne, covered
 use Rattle.policy.specs.declared.Trees.{Trees}
 use Rattle.policy.specs.Loads.{AllHeld, startOf}
 use Rattle.fit.specs.Givers.{joinedAt, giversIn, indexOf}
-use Rattle.fit.specs.Covers.{allGiven, flagGiven, flagCovers, flagsCover, countCovers, countsCoverFrom, rowsFault}
+use Rattle.fit.specs.Uncovered.{first, firstMissing}
+use Rattle.fit.specs.Covers.{allGiven, flagGiven, flagCovers, countCovers, missingFlag, orNone, missingFrom, missingAt, permissionAt, missingOf, rowsFault}
+use Rattle.fit.specs.Search.{Gives}
 use Rattle.fit.specs.Faults.{entryFault, entriesFault}
-use Rattle.fit.proofs.GrantTrees.{TreeRows, entry-tree, tree-rows, entry-reached, entry-reading, entry-writing, entry-accessing, entry-disclosing}
+use Rattle.fit.proofs.GrantTrees.{TreeRows, tree-gives, entry-tree, tree-rows, entry-reached, entry-reading, entry-writing, entry-accessing, entry-disclosing}
 
-and-assoc : (a b c : Bool) → ((a && b) && c) ≡ (a && (b && c))
-and-assoc true b c = refl
-and-assoc false b c = refl
+-- What an entry lacks is the first permission that is not granted, so it is covered where it lacks nothing.
+unfoldable pub isNone : {A : Type 0} → Option A → Bool
+isNone none = true
+isNone (some a) = false
 
-every-append : {A : Type 0} (p : A → Bool) (xs ys : List A) → every p (xs ++ ys) ≡ (every p xs && every p ys)
-unfolding every
-every-append p [] ys = refl
-every-append p (x ∷ xs) ys = rw (every-append p xs ys) (sym (and-assoc (p x) (every p xs) (every p ys)))
-
-every-flagged : (p : Permission → Bool) (b : Bool) (q : Permission) → every p (flagged b q) ≡ (not b || p q)
-unfolding every flagged
-every-flagged p true q = go (p q)
+every-first : {A : Type 0} (p : A → Bool) (xs : List A) → every p xs ≡ isNone (first (λ x. not (p x)) xs)
+unfolding every first isNone
+every-first p [] = refl
+every-first p (x ∷ xs) = go (p x) (every-first p xs)
   where
-    go : (b : Bool) → (b && true) ≡ b
+    go : (b : Bool) → every p xs ≡ isNone (first (λ y. not (p y)) xs) → (b && every p xs) ≡ isNone (cond (not b) (some x) (first (λ y. not (p y)) xs))
+    go true e = e
+    go false e = unfold isNone in refl
+
+pub covered-first : (policy : List Tree) (required : Required) (e : Entry) → covered policy required e ≡ isNone (firstMissing policy required e)
+unfolding covered firstMissing
+covered-first policy required e = every-first (grantsOne policy required e) (permissions e)
+
+-- the first of a list that begins with a flag
+first-flagged : (p : Permission → Bool) (b : Bool) (q : Permission) (rest : List Permission)
+    → first p (flagged b q ++ rest) ≡ cond (not b || not (p q)) (first p rest) (some q)
+unfolding first flagged
+first-flagged p true q rest = go (p q)
+  where
+    go : (b : Bool) → cond b (some q) (first p rest) ≡ cond (not b) (first p rest) (some q)
     go true = refl
     go false = refl
-every-flagged p false q = refl
+first-flagged p false q rest = refl
 
--- a test of the chosen ones is a test of all, but for those that are not chosen
-every-only : {A B : Type 0} (q : B → Bool) (f : A → B) (p : B → Bool) (t : A → Bool) → ((a : A) → t a ≡ (not (q (f a)) || p (f a))) → (xs : List A)
-    → every p (only q (map f xs)) ≡ every t xs
-unfolding every only
-every-only q f p t e [] = refl
-every-only q f p t e (a ∷ rest) = rw (e a, ← every-only q f p t e rest) (go (q (f a)))
+group-at : (g : ℕ) → g < 64 → missingOf g ≡ some (disclosing g)
+unfolding missingOf permissionAt
+group-at g h = rw (lt-ltb g 67 (omega arith), ne-eqb g 64 (λ e. absurd (omega arith)), ne-eqb g 65 (λ e. absurd (omega arith)), ne-eqb g 66 (λ e. absurd (omega arith))) refl
+
+-- flags in their order, then the groups
+three : {a b d a′ b′ d′ : Bool} {groups : Option Permission} (group : ℕ) → a ≡ a′ → b ≡ b′ → d ≡ d′ → groups ≡ missingOf group
+    → cond a (cond b (cond d groups (some accessing)) (some writing)) (some reading)
+    ≡ missingOf (cond (ltb (cond a′ (cond b′ (cond d′ 67 66) 65) 64) 67) (cond a′ (cond b′ (cond d′ 67 66) 65) 64) group)
+unfolding missingOf permissionAt
+three {a′ = false} group p q r e = rw p refl
+three {a′ = true} {b′ = false} group p q r e = rw (p, q) refl
+three {a′ = true} {b′ = true} {d′ = false} group p q r e = rw (p, q, r) refl
+three {a′ = true} {b′ = true} {d′ = true} group p q r e = rw (p, q, r) e
+
+none-missing : (column : ℕ) → isNone (missingOf column) ≡ not (ltb column 67)
+unfolding isNone missingOf
+none-missing column = go (ltb column 67)
   where
-    go : (b : Bool) → every p (cond b (f a ∷ only q (map f rest)) (only q (map f rest))) ≡ ((not b || p (f a)) && every p (only q (map f rest)))
-    go true = unfold every in refl
+    go : (b : Bool) → isNone (cond b (some (permissionAt column)) none) ≡ not b
+    go true = refl
     go false = refl
 
-every-map : {A B : Type 0} (f : A → B) (p : B → Bool) (xs : List A) → every p (map f xs) ≡ every (λ a. p (f a)) xs
-unfolding every
-every-map f p [] = refl
-every-map f p (a ∷ rest) = ap (λ (b : Bool). p (f a) && b) (every-map f p rest)
-
 module _ (policy : List Tree) (required : Required) (table : List ℕ) (n k : ℕ) where
-  one : Permission → Bool
-  one q = grantsOne policy required (entryAt table n k) q
-
-  group-one : ℕ → Bool
-  group-one g = not (isSet (cell table n k g)) || one (disclosing g)
+  lacks : Permission → Bool
+  lacks q = not (grantsOne policy required (entryAt table n k) q)
 
   item : ℕ → Disclosure
   item g = record { group = g; count = countOf (cell table n k g) }
 
-  lists-one : every one (map (λ d. disclosing (d .group)) (disclosuresAt table n k)) ≡ every group-one (rising 0 (extentAt table n k))
-  unfolding disclosuresAt group-one item
-  lists-one =
-      every-map (λ d. disclosing (d .group)) one (only (λ d. not (isZero (d .count))) (map item (rising 0 (extentAt table n k))))
-      ∙ every-only (λ d. not (isZero (d .count))) item (λ d. one (disclosing (d .group))) group-one
-      (λ g. ap (λ (b : Bool). not b || one (disclosing g)) (sym (set-count (cell table n k g)))) (rising 0 (extentAt table n k))
+  -- the groups that are disclosed to among some
+  groupsOf : List ℕ → List Permission
+  groupsOf gs = map (λ d. disclosing (d .group)) (only (λ d. not (isZero (d .count))) (map item gs))
 
-  covered-parts : covered policy required (entryAt table n k)
-      ≡ ((not (isSet (cell table n k 64)) || one reading) && ((not (isSet (cell table n k 65)) || one writing)
-      && ((not (isSet (cell table n k 66)) || one accessing) && every group-one (rising 0 (extentAt table n k)))))
-  unfolding covered permissions entryAt one
-  covered-parts =
-      every-append (grantsOne policy required (entryAt table n k)) (flagged (isSet (cell table n k 64)) reading) _
-      ∙ ap₂ _&&_ (every-flagged (grantsOne policy required (entryAt table n k)) (isSet (cell table n k 64)) reading)
-      (every-append (grantsOne policy required (entryAt table n k)) (flagged (isSet (cell table n k 65)) writing) _
-      ∙ ap₂ _&&_ (every-flagged (grantsOne policy required (entryAt table n k)) (isSet (cell table n k 65)) writing)
-      (every-append (grantsOne policy required (entryAt table n k)) (flagged (isSet (cell table n k 66)) accessing) _
-      ∙ ap₂ _&&_ (every-flagged (grantsOne policy required (entryAt table n k)) (isSet (cell table n k 66)) accessing) lists-one))
+  missing-parts : firstMissing policy required (entryAt table n k)
+      ≡ cond (not (isSet (cell table n k 64)) || not (lacks reading))
+      (cond (not (isSet (cell table n k 65)) || not (lacks writing))
+      (cond (not (isSet (cell table n k 66)) || not (lacks accessing)) (first lacks (groupsOf (rising 0 (extentAt table n k)))) (some accessing))
+      (some writing)) (some reading)
+  unfolding firstMissing permissions entryAt lacks groupsOf disclosuresAt item
+  missing-parts =
+      first-flagged lacks (isSet (cell table n k 64)) reading _
+      ∙ ap (λ (x : Option Permission). cond (not (isSet (cell table n k 64)) || not (lacks reading)) x (some reading))
+      (first-flagged lacks (isSet (cell table n k 65)) writing _
+      ∙ ap (λ (x : Option Permission). cond (not (isSet (cell table n k 65)) || not (lacks writing)) x (some writing))
+      (first-flagged lacks (isSet (cell table n k 66)) accessing _))
 
-  module _ (c nodes : List ℕ) (start end : ℕ) (tree : TreeRows c nodes policy k start end)
-      (rows : List ℕ) (given : rows ≡ giversIn c nodes (pathAt table n) start (end - start)) where
-    group-rows : (g : ℕ) → g < extentAt table n k → group-one g ≡ countCovers g c nodes rows (cell table n k g)
-    unfolding group-one one countCovers
+  module _ (c nodes rows : List ℕ) (gives : Gives c nodes policy k (pathAt table n) rows) where
+    -- a flag that is not lacking is covered by the rows
+    flag-rows : (col : ℕ) (q : Permission) (v : ℕ) → grantsOne policy required (entryAt table n k) q ≡ flagGiven v c nodes rows
+        → (not (isSet (cell table n k col)) || not (lacks q)) ≡ flagCovers v c nodes rows (cell table n k col)
+    unfolding flagCovers lacks
+    flag-rows col q v e = ap (λ (b : Bool). not (isSet (cell table n k col)) || b) (twice (grantsOne policy required (entryAt table n k) q) ∙ e)
+      where
+        twice : (b : Bool) → not (not b) ≡ b
+        twice true = refl
+        twice false = refl
+
+    -- so is a count
+    group-rows : (g : ℕ) → g < extentAt table n k → lacks (disclosing g) ≡ not (atMost (countOf (cell table n k g)) (joinedAt g c nodes rows))
+    unfolding lacks
     group-rows g l =
-        ap (λ (b : Bool). not (isSet (cell table n k g)) || b)
-        (entry-disclosing c nodes policy k start end tree (pathAt table n) rows given required (entryAt table n k) (unfold entryAt in refl) (unfold entryAt in refl) g
+        ap not (entry-disclosing gives required (entryAt table n k) (unfold entryAt in refl) (unfold entryAt in refl) g
         ∙ ap (λ (x : Count). atMost x (joinedAt g c nodes rows)) (needed-cells required table n k g l))
 
-    groups-rows : (from m : ℕ) → from + m ≤ extentAt table n k
-        → every group-one (rising from m) ≡ every (λ g. countCovers g c nodes rows (cell table n k g)) (rising from m)
-    unfolding every rising
-    groups-rows from zero l = refl
-    groups-rows from (suc m) l = ap₂ _&&_ (group-rows from (omega arith)) (groups-rows (suc from) m (omega arith))
-
-    covered-rows : covered policy required (entryAt table n k)
-        ≡ (flagsCover c nodes rows table n k && countsCoverFrom 0 (extentAt table n k) c nodes rows table n k)
-    unfolding flagsCover flagCovers flagGiven countsCoverFrom
-    covered-rows =
-        covered-parts
-        ∙ ap₂ _&&_ (flag-one 64 reading 1 (unfold one in entry-reading c nodes policy k start end tree (pathAt table n) rows given required (entryAt table n k) (unfold entryAt in refl) (unfold entryAt in refl)))
-        (ap₂ _&&_ (flag-one 65 writing 2 (unfold one in entry-writing c nodes policy k start end tree (pathAt table n) rows given required (entryAt table n k) (unfold entryAt in refl) (unfold entryAt in refl)))
-        (ap₂ _&&_ (flag-one 66 accessing 4 (unfold one in entry-accessing c nodes policy k start end tree (pathAt table n) rows given required (entryAt table n k) (unfold entryAt in refl) (unfold entryAt in refl)))
-        (groups-rows 0 (extentAt table n k) (omega arith))))
-        ∙ four (flagCovers 1 c nodes rows (cell table n k 64)) (flagCovers 2 c nodes rows (cell table n k 65)) (flagCovers 4 c nodes rows (cell table n k 66))
-        (countsCoverFrom 0 (extentAt table n k) c nodes rows table n k)
+    groups-rows : (from m : ℕ) → from + m ≤ extentAt table n k → from + m ≤ 64
+        → first lacks (groupsOf (rising from m)) ≡ missingOf (missingFrom from m c nodes rows table n k)
+    unfolding rising groupsOf missingFrom first only item countCovers isSet
+    groups-rows from zero l w = unfold missingOf orNone in refl
+    groups-rows from (suc m) l w =
+        go (isSet (cell table n k from)) (atMost (countOf (cell table n k from)) (joinedAt from c nodes rows))
+        (set-count (cell table n k from)) (group-rows from (omega arith)) (groups-rows (suc from) m (omega arith) (omega arith))
       where
-        four : (x y z w : Bool) → (x && (y && (z && w))) ≡ ((x && (y && z)) && w)
-        four true true true w = refl
-        four true true false w = refl
-        four true false z w = refl
-        four false y z w = refl
+        later : List Disclosure
+        later = only (λ d. not (isZero (d .count))) (map item (rising (suc from) m))
 
-        flag-one : (col : ℕ) (q : Permission) (v : ℕ) → one q ≡ flagGiven v c nodes rows → (not (isSet (cell table n k col)) || one q) ≡ flagCovers v c nodes rows (cell table n k col)
-        flag-one col q v e = unfold flagCovers in ap (λ (b : Bool). not (isSet (cell table n k col)) || b) e
+        found : Option ℕ
+        found = first (λ g. not (countCovers g c nodes rows (cell table n k g))) (rising (suc from) m)
 
-    -- questions 17 and 18 of an entry, asked of the rows that give to its path
+        go : (b a : Bool) → not (isZero (countOf (cell table n k from))) ≡ b → lacks (disclosing from) ≡ not a
+            → first lacks (map (λ d. disclosing (d .group)) later) ≡ missingOf (orNone found)
+            → first lacks (map (λ d. disclosing (d .group)) (cond (not (isZero (countOf (cell table n k from)))) (item from ∷ later) later))
+            ≡ missingOf (orNone (cond (not (not b || a)) (some from) found))
+        go false a e f rest = rw e rest
+        go true true e f rest = rw (e, f) rest
+        go true false e f rest = rw (e, f) (unfold orNone in sym (group-at from (omega arith)))
+
+    -- the first permission that an entry lacks, found among the rows that give to its path
+    pub missing-rows : firstMissing policy required (entryAt table n k) ≡ missingOf (missingAt c nodes rows table n k)
+    unfolding missingAt missingFlag flagGiven any
+    missing-rows =
+        missing-parts
+        ∙ three (missingFrom 0 (extentAt table n k) c nodes rows table n k)
+        (flag-rows 64 reading 1 (entry-reading gives required (entryAt table n k) (unfold entryAt in refl) (unfold entryAt in refl)))
+        (flag-rows 65 writing 2 (entry-writing gives required (entryAt table n k) (unfold entryAt in refl) (unfold entryAt in refl)))
+        (flag-rows 66 accessing 4 (entry-accessing gives required (entryAt table n k) (unfold entryAt in refl) (unfold entryAt in refl)))
+        (groups-rows 0 (extentAt table n k) (omega arith) (unfold extentAt in omega arith))
+
+    pub covered-rows : covered policy required (entryAt table n k) ≡ not (ltb (missingAt c nodes rows table n k) 67)
+    covered-rows = covered-first policy required (entryAt table n k) ∙ ap isNone missing-rows ∙ none-missing (missingAt c nodes rows table n k)
+
+  -- questions 17 and 18 of an entry, asked of the rows that give to its path
+  module _ (c nodes : List ℕ) (start end : ℕ) (tree : TreeRows c nodes policy k start end)
+      (rows : List ℕ) (given : rows ≡ giversIn c nodes (pathAt table n) start (end - start)) where
     pub fault-rows : cond (pathReached policy (entryAt table n k)) (cond (covered policy required (entryAt table n k)) 19 18) 17 ≡ rowsFault c nodes rows table n k
     unfolding rowsFault allGiven
     fault-rows =
         ap₂ (λ (a b : Bool). cond a (cond b 19 18) 17)
-        (entry-reached c nodes policy k start end tree (pathAt table n) rows given required (entryAt table n k) (unfold entryAt in refl) (unfold entryAt in refl))
-        covered-rows
-        ∙ split (every (λ row. ltb row 64) rows) (flagsCover c nodes rows table n k) (countsCoverFrom 0 (extentAt table n k) c nodes rows table n k)
+        (entry-reached c nodes policy k start end tree (pathAt table n) rows given (entryAt table n k) (unfold entryAt in refl) (unfold entryAt in refl))
+        (covered-rows c nodes rows (tree-gives c nodes policy k start end tree (pathAt table n) rows given))
+        ∙ split (every (λ row. ltb row 64) rows) (ltb (missingAt c nodes rows table n k) 67)
       where
-        split : (a b d : Bool) → _≡_ {A = ℕ} (cond a (cond (b && d) 19 18) 17) (cond a (cond b (cond d 19 18) 18) 17)
-        split true true d = refl
-        split true false d = refl
-        split false b d = refl
+        split : (a b : Bool) → _≡_ {A = ℕ} (cond a (cond (not b) 19 18) 17) (cond a (cond b 18 19) 17)
+        split true true = refl
+        split true false = refl
+        split false b = refl
 
 -- The first question that an entry fails, by the tree of its kind.
 module _ (policy : List Tree) (required : Required) (c nodes : List ℕ) (trees : Trees) (held : AllHeld c nodes trees 0 policy) (few : trees .len ≤ 16)
     (kinds : length (trees .kinds) ≡ 16) (table : List ℕ) (n k t : ℕ) (at : t ≡ indexOf k (take (trees .len) (trees .kinds))) where
   pub no-tree : holdsAny (entryAt table n k) ≡ true → trees .len ≤ t → 16 ≡ entryFault policy required (entryAt table n k)
   unfolding entryFault
-  no-tree h none = rw (h, entry-tree c nodes trees policy held few kinds k t at (entryAt table n k) (unfold entryAt in refl), le-ltb t (trees .len) none) refl
+  no-tree h absent = rw (h, entry-tree c nodes trees policy held few kinds k t at (entryAt table n k) (unfold entryAt in refl), le-ltb t (trees .len) absent) refl
 
   pub in-tree : holdsAny (entryAt table n k) ≡ true → t < trees .len → (start end r : ℕ) → start ≡ startOf trees t → end ≡ getD (trees .ends) t 0
       → r ≡ rowsFault c nodes (giversIn c nodes (pathAt table n) start (end - start)) table n k → r ≡ entryFault policy required (entryAt table n k)

@@ -2,11 +2,12 @@
 use Prim.Native.Nat.{ℕ, zero, suc, _+_, _-_, _<_, _≤_}
 use mathlib.Core.Path.{_≡_, refl, sym, ap, ap₂, _∙_}
 use mathlib.Core.List.{List, [], _∷_}
-use mathlib.Core.Bool.{Bool, true, false, cond, not, _&&_, _||_}
+use mathlib.Core.Bool.{Bool, true, false, cond, not, _||_}
+use mathlib.Core.Option.{some}
 use native.Mathlib.Omega.{arith}
 use lib.Dec.{ltb, leb}
 use borrow.Author.Needs.{needs}
-use borrow.Author.Tests.{eq-eqb, ne-eqb, not-true, not-false}
+use borrow.Author.Tests.{eq-eqb, ne-eqb, lt-ltb, le-ltb, not-true, not-false}
 use Rattle.inference.specs.Lists.{every, any, rising}
 use Rattle.inference.specs.Counts.{fin, unlimited, atMost}
 use Rattle.inference.specs.Rows.{isSet, cell, countOf, extentAt}
@@ -14,7 +15,8 @@ use Rattle.interface.proofs.WriteLaws.{rising-next, rising-done}
 use Rattle.policy.specs.Syntax.{hasBit}
 use Rattle.fit.specs.declared.Total.{Total}
 use Rattle.fit.specs.Givers.{givenAt, joinedAt, totalOf, giversIn}
-use Rattle.fit.specs.Covers.{allGiven, flagGiven, flagCovers, flagsCover, countCovers, countsCoverFrom, rowsFault}
+use Rattle.fit.specs.Uncovered.{first}
+use Rattle.fit.specs.Covers.{allGiven, flagGiven, flagCovers, countCovers, missingFlag, orNone, missingFrom, missingAt, rowsFault}
 
 -- a count against a sum
 any-count : (x : _) → atMost x unlimited ≡ true
@@ -70,75 +72,73 @@ module _ (nodes rows table : List ℕ) (n k : ℕ) where
       → (c : List ℕ) → flagCovers value c nodes rows (cell table n k column) ≡ b
   is-flag value column needed b e h c = ap (flagCovers value c nodes rows) (sym e) ∙ sym (h c)
 
-  pub read-fails : (x : ℕ) (a : Bool) → x ≡ cell table n k 64 → ((c : List ℕ) → a ≡ flagCovers 1 c nodes rows x) → not a ≡ true
-      → (c : List ℕ) → false ≡ flagsCover c nodes rows table n k
-  unfolding flagsCover
-  read-fails x a e h f c = rw (is-flag 1 64 x a e h c, not-true a f) refl
+  pub read-missing : (x : ℕ) (a : Bool) → x ≡ cell table n k 64 → ((c : List ℕ) → a ≡ flagCovers 1 c nodes rows x) → not a ≡ true
+      → (c : List ℕ) → 64 ≡ missingFlag c nodes rows table n k
+  unfolding missingFlag
+  read-missing x a e h f c = rw (is-flag 1 64 x a e h c, not-true a f) refl
 
-  pub write-fails : (x y : ℕ) (a b : Bool) → x ≡ cell table n k 64 → ((c : List ℕ) → a ≡ flagCovers 1 c nodes rows x) → not a ≡ false
+  pub write-missing : (x y : ℕ) (a b : Bool) → x ≡ cell table n k 64 → ((c : List ℕ) → a ≡ flagCovers 1 c nodes rows x) → not a ≡ false
       → y ≡ cell table n k 65 → ((c : List ℕ) → b ≡ flagCovers 2 c nodes rows y) → not b ≡ true
-      → (c : List ℕ) → false ≡ flagsCover c nodes rows table n k
-  unfolding flagsCover
-  write-fails x y a b e h f e′ h′ f′ c = rw (is-flag 1 64 x a e h c, is-flag 2 65 y b e′ h′ c, not-false a f, not-true b f′) refl
+      → (c : List ℕ) → 65 ≡ missingFlag c nodes rows table n k
+  unfolding missingFlag
+  write-missing x y a b e h f e′ h′ f′ c = rw (is-flag 1 64 x a e h c, is-flag 2 65 y b e′ h′ c, not-false a f, not-true b f′) refl
 
-  pub access-decides : (x y z : ℕ) (a b d : Bool) → x ≡ cell table n k 64 → ((c : List ℕ) → a ≡ flagCovers 1 c nodes rows x) → not a ≡ false
-      → y ≡ cell table n k 65 → ((c : List ℕ) → b ≡ flagCovers 2 c nodes rows y) → not b ≡ false
-      → z ≡ cell table n k 66 → ((c : List ℕ) → d ≡ flagCovers 4 c nodes rows z)
-      → (c : List ℕ) → d ≡ flagsCover c nodes rows table n k
-  unfolding flagsCover
-  access-decides x y z a b d e h f e′ h′ f′ e″ h″ c = rw (is-flag 1 64 x a e h c, is-flag 2 65 y b e′ h′ c, is-flag 4 66 z d e″ h″ c, not-false a f, not-false b f′) refl
+  module _ (x y z : ℕ) (a b d : Bool) (e : x ≡ cell table n k 64) (h : (c : List ℕ) → a ≡ flagCovers 1 c nodes rows x) (f : not a ≡ false)
+      (e′ : y ≡ cell table n k 65) (h′ : (c : List ℕ) → b ≡ flagCovers 2 c nodes rows y) (f′ : not b ≡ false)
+      (e″ : z ≡ cell table n k 66) (h″ : (c : List ℕ) → d ≡ flagCovers 4 c nodes rows z) where
+    pub access-missing : not d ≡ true → (c : List ℕ) → 66 ≡ missingFlag c nodes rows table n k
+    unfolding missingFlag
+    access-missing g c =
+        rw (is-flag 1 64 x a e h c, is-flag 2 65 y b e′ h′ c, is-flag 4 66 z d e″ h″ c, not-false a f, not-false b f′, not-true d g) refl
+
+    pub no-flag-missing : not d ≡ false → (c : List ℕ) → 67 ≡ missingFlag c nodes rows table n k
+    unfolding missingFlag
+    no-flag-missing g c =
+        rw (is-flag 1 64 x a e h c, is-flag 2 65 y b e′ h′ c, is-flag 4 66 z d e″ h″ c, not-false a f, not-false b f′, not-false d g) refl
 
 -- The groups passed so far are covered, and those left decide.
 pub record GroupsSoFar (c nodes rows table : List ℕ) (n k m group : ℕ) : Type 0 where
   pub within : group ≤ m
-  pub same : countsCoverFrom 0 m c nodes rows table n k ≡ countsCoverFrom group (m - group) c nodes rows table n k
+  pub same : missingFrom 0 m c nodes rows table n k ≡ missingFrom group (m - group) c nodes rows table n k
 
 pub groups-start : (c nodes rows table : List ℕ) (n k m : ℕ) → GroupsSoFar c nodes rows table n k m 0
 groups-start c nodes rows table n k m = record { within = omega arith; same = let z : m - 0 ≡ m = omega arith in rw z refl }
 
 module _ (c nodes rows table : List ℕ) (n k m group : ℕ) (so : GroupsSoFar c nodes rows table n k m group) where
-  turn : group < m → countsCoverFrom 0 m c nodes rows table n k
-      ≡ (countCovers group c nodes rows (cell table n k group) && countsCoverFrom (group + 1) (m - (group + 1)) c nodes rows table n k)
-  unfolding countsCoverFrom every
-  turn here = so .same ∙ ap (λ (l : List ℕ). every (λ g. countCovers g c nodes rows (cell table n k g)) l) (rising-next group m here)
+  turn : group < m → missingFrom 0 m c nodes rows table n k
+      ≡ orNone (cond (not (countCovers group c nodes rows (cell table n k group))) (some group)
+      (first (λ g. not (countCovers g c nodes rows (cell table n k g))) (rising (group + 1) (m - (group + 1)))))
+  unfolding missingFrom first
+  turn here = so .same ∙ ap (λ (l : List ℕ). orNone (first (λ g. not (countCovers g c nodes rows (cell table n k g))) l)) (rising-next group m here)
 
-  pub group-fails : m ≡ extentAt table n k → (x : ℕ) (b : Bool) → group < m → x ≡ cell table n k group → b ≡ countCovers group c nodes rows x
-      → not b ≡ true → false ≡ countsCoverFrom 0 (extentAt table n k) c nodes rows table n k
-  group-fails is x b here e f g = rw (← is) (sym (turn here ∙ ap (λ (t : Bool). t && countsCoverFrom (group + 1) (m - (group + 1)) c nodes rows table n k)
-      (ap (countCovers group c nodes rows) (sym e) ∙ sym f ∙ not-true b g)))
+  is-count : (x : ℕ) (b : Bool) → x ≡ cell table n k group → b ≡ countCovers group c nodes rows x
+      → countCovers group c nodes rows (cell table n k group) ≡ b
+  is-count x b e f = ap (countCovers group c nodes rows) (sym e) ∙ sym f
+
+  pub group-missing : m ≡ extentAt table n k → (x : ℕ) (b : Bool) → group < m → x ≡ cell table n k group → b ≡ countCovers group c nodes rows x
+      → not b ≡ true → group ≡ missingFrom 0 (extentAt table n k) c nodes rows table n k
+  unfolding orNone
+  group-missing is x b here e f g = rw (← is) (sym (turn here ∙ rw (is-count x b e f, g) refl))
 
   pub group-passes : (x : ℕ) (b : Bool) → group < m → x ≡ cell table n k group → b ≡ countCovers group c nodes rows x → not b ≡ false
       → GroupsSoFar c nodes rows table n k m (group + 1)
-  group-passes x b here e f g = record {
-    within = omega arith;
-    same = turn here ∙ ap (λ (t : Bool). t && countsCoverFrom (group + 1) (m - (group + 1)) c nodes rows table n k)
-        (ap (countCovers group c nodes rows) (sym e) ∙ sym f ∙ not-false b g);
-  }
+  unfolding missingFrom
+  group-passes x b here e f g = record { within = omega arith; same = turn here ∙ rw (is-count x b e f, g) refl }
 
-  pub groups-end : m ≡ extentAt table n k → m ≤ group → true ≡ countsCoverFrom 0 (extentAt table n k) c nodes rows table n k
-  unfolding countsCoverFrom every
-  groups-end is done = rw (← is) (sym (so .same ∙ ap (λ (l : List ℕ). every (λ g. countCovers g c nodes rows (cell table n k g)) l) (rising-done group m done)))
+  pub no-group-missing : m ≡ extentAt table n k → m ≤ group → 67 ≡ missingFrom 0 (extentAt table n k) c nodes rows table n k
+  unfolding missingFrom first orNone
+  no-group-missing is done =
+      rw (← is) (sym (so .same ∙ ap (λ (l : List ℕ). orNone (first (λ g. not (countCovers g c nodes rows (cell table n k g))) l)) (rising-done group m done)))
 
--- Questions 17 and 18 of the rows.
-module _ (c nodes rows table : List ℕ) (n k : ℕ) where
-  pub not-given : (a : Bool) → a ≡ every (λ row. ltb row 64) rows → not a ≡ true → 17 ≡ rowsFault c nodes rows table n k
-  unfolding rowsFault allGiven
-  not-given a e f = rw (← e, not-true a f) refl
+-- Flags before groups.
+module _ (c nodes rows table : List ℕ) (n k flag : ℕ) (is : (b : List ℕ) → flag ≡ missingFlag b nodes rows table n k) where
+  pub flag-first : flag < 67 → flag ≡ missingAt c nodes rows table n k
+  unfolding missingAt
+  flag-first h = rw (← is c, lt-ltb flag 67 h) refl
 
-  pub flags-missing : (a b : Bool) → a ≡ every (λ row. ltb row 64) rows → not a ≡ false → b ≡ flagsCover c nodes rows table n k → not b ≡ true
-      → 18 ≡ rowsFault c nodes rows table n k
-  unfolding rowsFault allGiven
-  flags-missing a b e f g h = rw (← e, not-false a f, ← g, not-true b h) refl
-
-  pub counts-missing : (a b d : Bool) → a ≡ every (λ row. ltb row 64) rows → not a ≡ false → b ≡ flagsCover c nodes rows table n k → not b ≡ false
-      → d ≡ countsCoverFrom 0 (extentAt table n k) c nodes rows table n k → d ≡ false → 18 ≡ rowsFault c nodes rows table n k
-  unfolding rowsFault allGiven
-  counts-missing a b d e f g h i j = rw (← e, not-false a f, ← g, not-false b h, ← i, j) refl
-
-  pub all-covered : (a b d : Bool) → a ≡ every (λ row. ltb row 64) rows → not a ≡ false → b ≡ flagsCover c nodes rows table n k → not b ≡ false
-      → d ≡ countsCoverFrom 0 (extentAt table n k) c nodes rows table n k → d ≡ true → 19 ≡ rowsFault c nodes rows table n k
-  unfolding rowsFault allGiven
-  all-covered a b d e f g h i j = rw (← e, not-false a f, ← g, not-false b h, ← i, j) refl
+  pub group-then : (group : ℕ) → 67 ≤ flag → group ≡ missingFrom 0 (extentAt table n k) c nodes rows table n k → group ≡ missingAt c nodes rows table n k
+  unfolding missingAt
+  group-then group h e = rw (← is c, le-ltb flag 67 h) e
 
 pub ruleset entry-steps = (
   needs,
@@ -149,13 +149,16 @@ pub ruleset entry-steps = (
   flag-asked,
   count-spared,
   count-asked,
-  read-fails,
-  write-fails,
-  access-decides,
+  read-missing,
+  write-missing,
+  access-missing,
+  no-flag-missing,
   groups-start,
-  group-fails,
+  group-missing,
   group-passes,
-  groups-end,
+  no-group-missing,
+  flag-first,
+  group-then,
 )
 
 -- The rows that were found are those of the path in the table's row.
@@ -164,14 +167,16 @@ module _ (c nodes rows path path′ table : List ℕ) (n k start len : ℕ) (is 
   found-here : rows ≡ giversIn c nodes path′ start len
   found-here = found c ∙ ap (λ (p : List ℕ). giversIn c nodes p start len) is
 
-  pub path-missing : (a : Bool) → a ≡ every (λ row. ltb row 64) rows → not a ≡ true → 17 ≡ rowsFault c nodes (giversIn c nodes path′ start len) table n k
-  path-missing a e f = not-given c nodes rows table n k a e f ∙ ap (λ (r : List ℕ). rowsFault c nodes r table n k) found-here
+  module _ (a : Bool) (e : a ≡ every (λ row. ltb row 64) rows) where
+    pub path-missing : not a ≡ true → 17 ≡ rowsFault c nodes (giversIn c nodes path′ start len) table n k
+    unfolding rowsFault allGiven
+    path-missing f = rw (← found-here, ← e, not-true a f) refl
 
-  pub flag-missing : (a b : Bool) → a ≡ every (λ row. ltb row 64) rows → not a ≡ false → ((d : List ℕ) → b ≡ flagsCover d nodes rows table n k) → not b ≡ true
-      → 18 ≡ rowsFault c nodes (giversIn c nodes path′ start len) table n k
-  flag-missing a b e f g h = flags-missing c nodes rows table n k a b e f (g c) h ∙ ap (λ (r : List ℕ). rowsFault c nodes r table n k) found-here
+    module _ (f : not a ≡ false) (column : ℕ) (m : column ≡ missingAt c nodes rows table n k) where
+      pub one-missing : column < 67 → 18 ≡ rowsFault c nodes (giversIn c nodes path′ start len) table n k
+      unfolding rowsFault allGiven
+      one-missing h = rw (← found-here, ← e, not-false a f, ← m, lt-ltb column 67 h) refl
 
-  pub count-decides : (a b d : Bool) (v : ℕ) → a ≡ every (λ row. ltb row 64) rows → not a ≡ false → ((e : List ℕ) → b ≡ flagsCover e nodes rows table n k) → not b ≡ false
-      → d ≡ countsCoverFrom 0 (extentAt table n k) c nodes rows table n k → v ≡ cond d 19 18 → v ≡ rowsFault c nodes (giversIn c nodes path′ start len) table n k
-  count-decides a b true v e f g h i j = j ∙ all-covered c nodes rows table n k a b true e f (g c) h i refl ∙ ap (λ (r : List ℕ). rowsFault c nodes r table n k) found-here
-  count-decides a b false v e f g h i j = j ∙ counts-missing c nodes rows table n k a b false e f (g c) h i refl ∙ ap (λ (r : List ℕ). rowsFault c nodes r table n k) found-here
+      pub none-missing : 67 ≤ column → 19 ≡ rowsFault c nodes (giversIn c nodes path′ start len) table n k
+      unfolding rowsFault allGiven
+      none-missing h = rw (← found-here, ← e, not-false a f, ← m, le-ltb column 67 h) refl

@@ -1,9 +1,9 @@
 -- The tree of a kind in the table of a policy's nodes: which one it is, and questions 16 to 18 of an entry asked of its rows.
 use Prim.Native.Nat.{ℕ, suc, _+_, _-_, _≤_, _<_}
 use mathlib.Core.Path.{_≡_, refl, sym, ap, _∙_}
-use mathlib.Core.Bool.{Bool, true, false, cond}
+use mathlib.Core.Bool.{Bool, true, false, cond, _||_, true≢false}
 use mathlib.Core.List.{List, [], _∷_, map}
-use mathlib.Core.Option.{some}
+use mathlib.Core.Option.{Option, some, none as nothing}
 use native.Mathlib.Omega.{arith}
 use borrow.Author.Tests.{lt-ltb}
 use lib.Dec.{ltb, eqb, leb·suc-suc}
@@ -11,15 +11,16 @@ use lib.ListN.{length, getD, take, drop, length-take, drop-of-length-le}
 use lib.Seq.{drop-cons, getD-take}
 use Rattle.reading.specs.Forms.{member}
 use Rattle.inference.specs.Acts.{Component}
-use Rattle.inference.specs.Lists.{every, any}
-use Rattle.inference.specs.Counts.{atMost}
+use Rattle.inference.specs.Lists.{every, any, rising}
+use Rattle.inference.specs.Counts.{Count, atMost, _⊕_}
 use Rattle.inference.specs.Interface.{Entry, reading, writing, accessing, disclosing, Required, needed}
 use Rattle.policy.specs.Syntax.{Node, Tree, hasBit, alone}
 use Rattle.policy.specs.WellFormed.{groupsAt}
-use Rattle.fit.specs.Grants.{treeFor, reached, reachedIn, reachedFor, flagGranted, countGranted}
+use Rattle.fit.specs.Grants.{treeFor, reached, reachedIn, reachedFor, givenBy, flagGranted, listed, joined, countGranted}
 use Rattle.fit.specs.Satisfies.{isTree, hasTree, pathReached, grantsOne}
 use Rattle.policy.specs.Rows.{flats, flatten}
-use Rattle.fit.specs.Givers.{givenAt, joinedAt, indexOf, giversIn}
+use Rattle.fit.specs.Givers.{givenAt, joinedAt, indexOf, giverIn, giversIn}
+use Rattle.fit.specs.Search.{Gives}
 use Rattle.policy.specs.Loads.{startOf, Holds, AllHeld, held-none, held-more}
 use Rattle.policy.specs.declared.Trees.{Trees}
 use Rattle.fit.proofs.GrantLaws.{all-found, flag-given, counts-given}
@@ -127,7 +128,7 @@ module _ (c nodes : List ℕ) (trees : Trees) (policy : List Tree) (held : AllHe
         rows = rw (p, q) (l .held .rows);
       }
 
--- What these rows give to a path is what the policy grants it.
+-- The rows of the kind's tree give to a path what the policy grants it.
 module _ (c nodes : List ℕ) (policy : List Tree) (kind start end : ℕ) (tree : TreeRows c nodes policy kind start end)
     (path rows : List ℕ) (given : rows ≡ giversIn c nodes path start (end - start)) where
   reached-root : reachedFor policy kind path ≡ reached path (tree .root)
@@ -137,32 +138,58 @@ module _ (c nodes : List ℕ) (policy : List Tree) (kind start end : ℕ) (tree 
   pub path-reached : every (λ g. member g (groupsAt (reachedFor policy kind path))) path ≡ every (λ row. ltb row 64) rows
   path-reached = rw (reached-root, given) (sym (all-found c nodes path start (end - start) (tree .root) (tree .fits) (tree .rows)))
 
-  pub flag-granted : (v : ℕ) (o : Component) → o .path ≡ path → flagGranted v policy kind o ≡ any (λ row. hasBit v (givenAt c nodes row .map)) rows
-  unfolding flagGranted
-  flag-granted v o e = rw (e, reached-root, given) (sym (flag-given c nodes path start (end - start) (tree .root) (tree .fits) (tree .rows) v))
+  -- Question 17 of an entry.
+  pub entry-reached : (e : Entry) → e .kind ≡ kind → e .component .path ≡ path → pathReached policy e ≡ every (λ row. ltb row 64) rows
+  unfolding pathReached
+  entry-reached e of-kind of-path = rw (of-kind, of-path) path-reached
 
-  pub count-granted : (h : ℕ) (o : Component) → o .path ≡ path → countGranted h policy kind o ≡ joinedAt h c nodes rows
-  unfolding countGranted
-  count-granted h o e = rw (e, reached-root, given) (sym (counts-given c nodes path start (end - start) (tree .root) (tree .fits) (tree .rows) h))
+  pub tree-gives : Gives c nodes policy kind path rows
+  unfolding flagGranted countGranted
+  tree-gives = record {
+    flag = λ v o e. rw (e, reached-root, given) (sym (flag-given c nodes path start (end - start) (tree .root) (tree .fits) (tree .rows) v));
+    count = λ h o e. rw (e, reached-root, given) (sym (counts-given c nodes path start (end - start) (tree .root) (tree .fits) (tree .rows) h));
+  }
 
-  -- Questions 17 and 18 of an entry.
-  module _ (required : Required) (e : Entry) (of-kind : e .kind ≡ kind) (of-path : e .component .path ≡ path) where
-    pub entry-reached : pathReached policy e ≡ every (λ row. ltb row 64) rows
-    unfolding pathReached
-    entry-reached = rw (of-kind, of-path) path-reached
+-- Where the kind has no tree, nothing is granted, and no rows give nothing.
+module _ (c nodes : List ℕ) where
+  no-flag : (v : ℕ) (path from : List ℕ)
+      → any (λ g. hasBit v (givenBy g [] .map)) from ≡ any (λ row. hasBit v (givenAt c nodes row .map)) (map (λ g. giverIn path g 0 0 []) from)
+  unfolding any givenBy giverIn givenAt
+  no-flag v path [] = refl
+  no-flag v path (g ∷ from) = ap (λ (b : Bool). hasBit v 0 || b) (no-flag v path from)
 
-    pub entry-reading : grantsOne policy required e reading ≡ any (λ row. hasBit 1 (givenAt c nodes row .map)) rows
-    unfolding grantsOne
-    entry-reading = rw of-kind (flag-granted 1 (e .component) of-path)
+  no-count : (h : ℕ) (path from : List ℕ) → joined h [] from ≡ joinedAt h c nodes (map (λ g. giverIn path g 0 0 []) from)
+  unfolding joined joinedAt givenBy giverIn givenAt
+  no-count h path [] = refl
+  no-count h path (g ∷ from) = ap (λ (n : Count). listed h [] ⊕ n) (no-count h path from)
 
-    pub entry-writing : grantsOne policy required e writing ≡ any (λ row. hasBit 2 (givenAt c nodes row .map)) rows
-    unfolding grantsOne
-    entry-writing = rw of-kind (flag-granted 2 (e .component) of-path)
+  pub none-gives : (policy : List Tree) (kind : ℕ) (path rows : List ℕ) → isTree (treeFor kind policy) ≡ false
+      → rows ≡ giversIn c nodes path 0 0 → Gives c nodes policy kind path rows
+  unfolding isTree flagGranted countGranted reachedFor reachedIn flats rising
+  none-gives policy kind path rows e given = go (treeFor kind policy) refl e
+    where
+      go : (root : Option Node) → treeFor kind policy ≡ root → isTree root ≡ false → Gives c nodes policy kind path rows
+      go (some root) is h = absurd (true≢false h)
+      go nothing is h = record {
+        flag = λ v o f. rw (f, is, given) (no-flag v path path);
+        count = λ h o f. rw (f, is, given) (no-count h path path);
+      }
 
-    pub entry-accessing : grantsOne policy required e accessing ≡ any (λ row. hasBit 4 (givenAt c nodes row .map)) rows
-    unfolding grantsOne
-    entry-accessing = rw of-kind (flag-granted 4 (e .component) of-path)
+-- Question 18 of one permission of an entry.
+module _ {c nodes : List ℕ} {policy : List Tree} {kind : ℕ} {path rows : List ℕ} (gives : Gives c nodes policy kind path rows)
+    (required : Required) (e : Entry) (of-kind : e .kind ≡ kind) (of-path : e .component .path ≡ path) where
+  pub entry-reading : grantsOne policy required e reading ≡ any (λ row. hasBit 1 (givenAt c nodes row .map)) rows
+  unfolding grantsOne
+  entry-reading = rw of-kind (gives .flag 1 (e .component) of-path)
 
-    pub entry-disclosing : (h : ℕ) → grantsOne policy required e (disclosing h) ≡ atMost (needed required e h) (joinedAt h c nodes rows)
-    unfolding grantsOne
-    entry-disclosing h = ap (atMost (needed required e h)) (rw of-kind (count-granted h (e .component) of-path))
+  pub entry-writing : grantsOne policy required e writing ≡ any (λ row. hasBit 2 (givenAt c nodes row .map)) rows
+  unfolding grantsOne
+  entry-writing = rw of-kind (gives .flag 2 (e .component) of-path)
+
+  pub entry-accessing : grantsOne policy required e accessing ≡ any (λ row. hasBit 4 (givenAt c nodes row .map)) rows
+  unfolding grantsOne
+  entry-accessing = rw of-kind (gives .flag 4 (e .component) of-path)
+
+  pub entry-disclosing : (h : ℕ) → grantsOne policy required e (disclosing h) ≡ atMost (needed required e h) (joinedAt h c nodes rows)
+  unfolding grantsOne
+  entry-disclosing h = ap (atMost (needed required e h)) (rw of-kind (gives .count h (e .component) of-path))

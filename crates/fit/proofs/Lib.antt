@@ -4,3 +4,4 @@ pub mod GrantTrees
 pub mod GrantSteps
 pub mod EntryLaws
 pub mod EntrySteps
+pub mod SearchLaws

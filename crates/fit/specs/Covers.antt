@@ -1,12 +1,15 @@
 -- An entry of a table against the rows that give to its path: questions 17 and 18 as the code asks them.
 use Prim.Native.Nat.{ℕ}
 use mathlib.Core.List.{List}
-use mathlib.Core.Bool.{Bool, cond, not, _&&_, _||_}
-use lib.Dec.{ltb}
+use mathlib.Core.Bool.{Bool, cond, not, _||_}
+use mathlib.Core.Option.{Option, some, none}
+use lib.Dec.{ltb, eqb}
 use Rattle.inference.specs.Lists.{every, any, rising}
 use Rattle.inference.specs.Counts.{atMost}
+use Rattle.inference.specs.Interface.{Permission, reading, writing, accessing, disclosing}
 use Rattle.inference.specs.Rows.{isSet, cell, countOf, extentAt}
 use Rattle.policy.specs.Syntax.{hasBit}
+use Rattle.fit.specs.Uncovered.{first}
 use Rattle.fit.specs.Givers.{givenAt, joinedAt}
 
 -- each group of the path at a reached node
@@ -21,23 +24,41 @@ flagGiven value c nodes rows = any (λ row. hasBit value (givenAt c nodes row .m
 unfoldable pub flagCovers : ℕ → List ℕ → List ℕ → List ℕ → ℕ → Bool
 flagCovers value c nodes rows needed = not (isSet needed) || flagGiven value c nodes rows
 
-unfoldable pub flagsCover : List ℕ → List ℕ → List ℕ → List ℕ → ℕ → ℕ → Bool
-flagsCover c nodes rows table component kind =
-    flagCovers 1 c nodes rows (cell table component kind 64)
-    && (flagCovers 2 c nodes rows (cell table component kind 65) && flagCovers 4 c nodes rows (cell table component kind 66))
-
 -- a count that is granted, where it is needed
 unfoldable pub countCovers : ℕ → List ℕ → List ℕ → List ℕ → ℕ → Bool
 countCovers h c nodes rows needed = not (isSet needed) || atMost (countOf needed) (joinedAt h c nodes rows)
 
--- the counts from a group on
-unfoldable pub countsCoverFrom : ℕ → ℕ → List ℕ → List ℕ → List ℕ → List ℕ → ℕ → ℕ → Bool
-countsCoverFrom start n c nodes rows table component kind =
-    every (λ g. countCovers g c nodes rows (cell table component kind g)) (rising start n)
+-- the column of the first flag that is not covered, or 67
+unfoldable pub missingFlag : List ℕ → List ℕ → List ℕ → List ℕ → ℕ → ℕ → ℕ
+missingFlag c nodes rows table component kind =
+    cond (flagCovers 1 c nodes rows (cell table component kind 64))
+    (cond (flagCovers 2 c nodes rows (cell table component kind 65))
+    (cond (flagCovers 4 c nodes rows (cell table component kind 66)) 67 66) 65) 64
+
+-- a column, or 67 where there is none
+unfoldable pub orNone : Option ℕ → ℕ
+orNone none = 67
+orNone (some column) = column
+
+-- the first of n groups from one on that is not covered, or 67
+unfoldable pub missingFrom : ℕ → ℕ → List ℕ → List ℕ → List ℕ → List ℕ → ℕ → ℕ → ℕ
+missingFrom start n c nodes rows table component kind =
+    orNone (first (λ g. not (countCovers g c nodes rows (cell table component kind g))) (rising start n))
+
+-- the column of the first permission that is not covered, flags before groups; or 67
+unfoldable pub missingAt : List ℕ → List ℕ → List ℕ → List ℕ → ℕ → ℕ → ℕ
+missingAt c nodes rows table component kind =
+    cond (ltb (missingFlag c nodes rows table component kind) 67) (missingFlag c nodes rows table component kind)
+    (missingFrom 0 (extentAt table component kind) c nodes rows table component kind)
+
+-- the permission of a column, none at 67
+unfoldable pub permissionAt : ℕ → Permission
+permissionAt column = cond (eqb column 64) reading (cond (eqb column 65) writing (cond (eqb column 66) accessing (disclosing column)))
+
+unfoldable pub missingOf : ℕ → Option Permission
+missingOf column = cond (ltb column 67) (some (permissionAt column)) none
 
 -- the first of questions 17 and 18 that an entry fails, or 19
 unfoldable pub rowsFault : List ℕ → List ℕ → List ℕ → List ℕ → ℕ → ℕ → ℕ
 rowsFault c nodes rows table component kind =
-    cond (allGiven rows)
-    (cond (flagsCover c nodes rows table component kind)
-    (cond (countsCoverFrom 0 (extentAt table component kind) c nodes rows table component kind) 19 18) 18) 17
+    cond (allGiven rows) (cond (ltb (missingAt c nodes rows table component kind) 67) 18 19) 17

@@ -8,7 +8,7 @@ ghost use Rattle.inference.specs.Rows.{countOf, extentAt, pathAt, entryAt, rowE
 ghost use Rattle.policy.specs.Syntax.{Tree};
 ghost use Rattle.policy.specs.Loads.{Bounded, AllHeld};
 ghost use Rattle.fit.specs.Givers.{givenRows, totalOf, giversIn};
-ghost use Rattle.fit.specs.Covers.{flagCovers, flagsCover, countCovers, countsCoverFrom, rowsFault};
+ghost use Rattle.fit.specs.Covers.{flagCovers, countCovers, missingFlag, missingFrom, missingAt, rowsFault};
 ghost use Rattle.fit.specs.Faults.{entryFault, entriesFault};
 use crate::Givers;
 use crate::Total;
@@ -49,23 +49,27 @@ fn flag_covered(needed: usize, nodes: &[usize], givers: Givers, value: usize) ->
     flag_granted(nodes, givers, value)
 }
 
-fn flags_covered(
+// The column of the first flag of an entry that is needed and not granted, or 67.
+fn missing_flag(
     table: &[u16],
     component: usize,
     kind: usize,
     nodes: &[usize],
     givers: Givers,
-) -> bool
+) -> usize
     requires { ⌜ (component < 32) × (kind < 16) ⌝ }
-    ensures { λ r. ⌜ ((c : List ℕ) → r ≡ flagsCover c (now (nodes .entry)) (givenRows givers) (now (table .entry)) component kind) ⌝ }
+    ensures { λ r. ⌜ ((c : List ℕ) → r ≡ missingFlag c (now (nodes .entry)) (givenRows givers) (now (table .entry)) component kind) ⌝ }
 {
     if !flag_covered(count_at(table, component, kind, 64), nodes, givers, 1) {
-        return false;
+        return 64;
     }
     if !flag_covered(count_at(table, component, kind, 65), nodes, givers, 2) {
-        return false;
+        return 65;
     }
-    flag_covered(count_at(table, component, kind, 66), nodes, givers, 4)
+    if !flag_covered(count_at(table, component, kind, 66), nodes, givers, 4) {
+        return 66;
+    }
+    67
 }
 
 // Is a count of disclosures into a group granted, where it is needed?
@@ -78,16 +82,17 @@ fn count_covered(needed: usize, c: &[u8], nodes: &[usize], givers: Givers, group
     within(needed, count_granted(c, nodes, givers, group))
 }
 
-fn counts_covered(
+// The first group that an entry needs to disclose to more often than is granted, or 67.
+fn missing_group(
     c: &[u8],
     table: &[u16],
     component: usize,
     kind: usize,
     nodes: &[usize],
     givers: Givers,
-) -> bool
+) -> usize
     requires { ⌜ (component < 32) × (kind < 16) ⌝ }
-    ensures { λ r. ⌜ r ≡ countsCoverFrom 0 (extentAt (now (table .entry)) component kind) (now (c .entry)) (now (nodes .entry))
+    ensures { λ r. ⌜ r ≡ missingFrom 0 (extentAt (now (table .entry)) component kind) (now (c .entry)) (now (nodes .entry))
         (givenRows givers) (now (table .entry)) component kind ⌝ }
 {
     let extent = extent_at(table, component, kind);
@@ -100,11 +105,30 @@ fn counts_covered(
             givers,
             group,
         ) {
-            return false;
+            return group;
         }
         group += 1;
     }
-    true
+    67
+}
+
+// The column of the first permission of an entry that is not covered, in the order read, write, access, then groups; or 67.
+pub fn first_missing(
+    c: &[u8],
+    table: &[u16],
+    component: usize,
+    kind: usize,
+    nodes: &[usize],
+    givers: Givers,
+) -> usize
+    requires { ⌜ (component < 32) × (kind < 16) ⌝ }
+    ensures { λ r. ⌜ r ≡ missingAt (now (c .entry)) (now (nodes .entry)) (givenRows givers) (now (table .entry)) component kind ⌝ }
+{
+    let flag = missing_flag(table, component, kind, nodes, givers);
+    if flag < 67 {
+        return flag;
+    }
+    missing_group(c, table, component, kind, nodes, givers)
 }
 
 // The first of questions 17 and 18 that the entry of a component and a kind fails in the kind's tree, or 19.
@@ -125,14 +149,10 @@ fn tree_fault(
     if !all_given(found) {
         return 17;
     }
-    if !flags_covered(table, component, kind, nodes, found) {
+    if first_missing(c, table, component, kind, nodes, found) < 67 {
         return 18;
     }
-    if counts_covered(c, table, component, kind, nodes, found) {
-        19
-    } else {
-        18
-    }
+    19
 }
 
 // The first of questions 16 to 18 that the entry of a component and a kind fails, or 19.

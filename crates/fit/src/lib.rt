@@ -1,6 +1,8 @@
-// Whether a policy satisfies the interface that a table of components holds: questions 16 to 18.
+// Whether a policy satisfies the interface that a table of components holds: questions 16 to 18; and the first permission that it does
+// not cover.
 pub mod entries;
 pub mod grants;
+pub mod uncovered;
 
 // A sum of counts.
 pub struct Total {
@@ -12,4 +14,12 @@ pub struct Total {
 pub struct Givers {
     pub rows: [usize; 8],
     pub len: usize,
+}
+
+// A permission of the entry of a component and a kind by its column in the table: 64 read, 65 write, 66 access, below 64 the group
+// disclosed to; 67 is none.
+pub struct Missing {
+    pub component: usize,
+    pub kind: usize,
+    pub column: usize,
 }

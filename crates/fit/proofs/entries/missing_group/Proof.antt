@@ -2,8 +2,8 @@
 use Prim.Native.Nat.{_-_}
 use Rattle.fit.specs.Givers.{givenRows}
 use Rattle.fit.proofs.EntrySteps.{entry-steps, GroupsSoFar}
-use Rattle.fit.proofs.entries.counts_covered.Statement.{statement}
-use Rattle.fit.proofs.entries.counts_covered.Tie as tie
+use Rattle.fit.proofs.entries.missing_group.Statement.{statement}
+use Rattle.fit.proofs.entries.missing_group.Tie as tie
 
 abbrev Inv-loop : tie.InvT-loop
 Inv-loop c table component kind nodes givers extent group₀ group = GroupsSoFar c nodes (givenRows givers) table component kind extent group
@@ -11,8 +11,8 @@ Inv-loop c table component kind nodes givers extent group₀ group = GroupsSoFar
 abbrev μ-loop : tie.MeasureT-loop
 μ-loop c table component kind nodes givers extent group₀ group = extent - group
 
-pub counts-covered-spec : {M : Type 1} → statement M
-counts-covered-spec =
+pub missing-group-spec : {M : Type 1} → statement M
+missing-group-spec =
     tie.close
     (tie.spec
     Inv-loop

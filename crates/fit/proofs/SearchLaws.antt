@@ -1,0 +1,219 @@
+-- The search for the first uncovered permission: what is left of the entries decides, since those passed lack nothing. And there is an
+-- uncovered permission exactly where question 18 fails.
+use Prim.Native.Nat.{ℕ, suc, _+_, _-_, _<_, _≤_}
+use mathlib.Core.Path.{_≡_, refl, sym, ap, ap₂, _∙_}
+use mathlib.Core.List.{List, [], _∷_, _++_, map}
+use mathlib.Core.Bool.{Bool, true, false, cond, not, _&&_, _||_, true≢false}
+use mathlib.Core.Option.{Option, some, none}
+use native.Mathlib.Omega.{arith}
+use lib.ListN.{length, take, getD}
+use lib.Dec.{ltb}
+use borrow.Author.Needs.{needs}
+use borrow.Author.Tests.{lt-ltb, le-ltb}
+use Rattle.inference.specs.Lists.{every, only, gather, rising}
+use Rattle.inference.specs.Interface.{Disclosure, Entry, Permission, reading, writing, accessing, disclosing, isEmpty, flagged, permissions, holdsAny, Required}
+use Rattle.inference.specs.Rows.{pathAt, entryAt, rowEntries, tableEntries, tableRequired}
+use Rattle.interface.proofs.WriteLaws.{rising-next, rising-done}
+use Rattle.policy.specs.Syntax.{Tree}
+use Rattle.policy.specs.Loads.{AllHeld, startOf}
+use Rattle.policy.specs.declared.Trees.{Trees}
+use Rattle.fit.specs.Satisfies.{covered}
+use Rattle.fit.specs.Givers.{giversIn, indexOf}
+use Rattle.fit.specs.Covers.{missingAt, missingOf}
+use Rattle.fit.specs.Uncovered.{first, firstMissing, Uncovered, orFurther, firstUncovered}
+use Rattle.fit.specs.Search.{Gives, uncoveredAt}
+use Rattle.fit.specs.declared.Missing.{Missing}
+use Rattle.fit.proofs.GrantTrees.{has-tree, tree-rows, tree-gives, none-gives}
+use Rattle.fit.proofs.EntryLaws.{isNone, covered-first, missing-rows}
+
+-- Question 18 of some entries fails exactly where one of them lacks a permission.
+pub uncovered-none : (policy : List Tree) (required : Required) (es : List Entry)
+    → every (covered policy required) es ≡ isNone (firstUncovered policy required es)
+unfolding every firstUncovered
+uncovered-none policy required [] = unfold isNone in refl
+uncovered-none policy required (e ∷ rest) =
+    ap₂ _&&_ (covered-first policy required e) (uncovered-none policy required rest) ∙ go (firstMissing policy required e)
+  where
+    go : (m : Option Permission) → (isNone m && isNone (firstUncovered policy required rest)) ≡ isNone (orFurther e m (firstUncovered policy required rest))
+    go none = unfold isNone orFurther in refl
+    go (some p) = unfold isNone orFurther in refl
+
+-- An entry without a permission lacks none.
+no-permissions : (a b d : Bool) (ds : List Disclosure) → ((a || b) || (d || not (isEmpty ds))) ≡ false
+    → flagged a reading ++ (flagged b writing ++ (flagged d accessing ++ map (λ x. disclosing (x .group)) ds)) ≡ []
+unfolding flagged isEmpty
+no-permissions true b d ds h = absurd (true≢false h)
+no-permissions false true d ds h = absurd (true≢false h)
+no-permissions false false true ds h = absurd (true≢false h)
+no-permissions false false false [] h = refl
+no-permissions false false false (x ∷ ds) h = absurd (true≢false h)
+
+lacks-none : (policy : List Tree) (required : Required) (e : Entry) → holdsAny e ≡ false → firstMissing policy required e ≡ none
+unfolding firstMissing permissions holdsAny first
+lacks-none policy required e h = rw (no-permissions (e .read) (e .write) (e .access) (e .disclose) h) refl
+
+uncovered-only : (policy : List Tree) (required : Required) (es : List Entry)
+    → firstUncovered policy required (only holdsAny es) ≡ firstUncovered policy required es
+unfolding firstUncovered only
+uncovered-only policy required [] = refl
+uncovered-only policy required (e ∷ rest) = go (holdsAny e) refl (uncovered-only policy required rest)
+  where
+    go : (b : Bool) → holdsAny e ≡ b → firstUncovered policy required (only holdsAny rest) ≡ firstUncovered policy required rest
+        → firstUncovered policy required (cond b (e ∷ only holdsAny rest) (only holdsAny rest))
+        ≡ orFurther e (firstMissing policy required e) (firstUncovered policy required rest)
+    go true h i = unfold firstUncovered in ap (orFurther e (firstMissing policy required e)) i
+    go false h i = i ∙ rw (lacks-none policy required e h) (unfold orFurther in refl)
+
+-- What is found among the first, or else among the others.
+unfoldable orElse : {A : Type 0} → Option A → Option A → Option A
+orElse (some a) further = some a
+orElse none further = further
+
+uncovered-append : (policy : List Tree) (required : Required) (xs ys : List Entry)
+    → firstUncovered policy required (xs ++ ys) ≡ orElse (firstUncovered policy required xs) (firstUncovered policy required ys)
+unfolding firstUncovered orElse
+uncovered-append policy required [] ys = refl
+uncovered-append policy required (e ∷ xs) ys =
+    ap (orFurther e (firstMissing policy required e)) (uncovered-append policy required xs ys) ∙ go (firstMissing policy required e)
+  where
+    go : (m : Option Permission)
+        → orFurther e m (orElse (firstUncovered policy required xs) (firstUncovered policy required ys))
+        ≡ orElse (orFurther e m (firstUncovered policy required xs)) (firstUncovered policy required ys)
+    go (some p) = unfold orFurther orElse in refl
+    go none = unfold orFurther in refl
+
+-- A column is a permission, or none.
+module _ (table : List ℕ) (m : Missing) where
+  none-at : 67 ≤ m .column → none ≡ uncoveredAt table m
+  unfolding uncoveredAt
+  none-at h = rw (le-ltb (m .column) 67 h) refl
+
+  some-at : (rest : Option Uncovered) → m .column < 67 → orElse (uncoveredAt table m) rest ≡ uncoveredAt table m
+  unfolding uncoveredAt orElse
+  some-at rest h = rw (lt-ltb (m .column) 67 h) refl
+
+-- The rows that give to a path, where its kind has a tree and where it has none.
+module _ (trees : Trees) (few : trees .len ≤ 16) (kinds : length (trees .kinds) ≡ 16) (kind t : ℕ) (at : t ≡ indexOf kind (take (trees .len) (trees .kinds)))
+    (c nodes : List ℕ) (policy : List Tree) (held : AllHeld c nodes trees 0 policy) (path rows : List ℕ) where
+  pub absent-gives : trees .len ≤ t → rows ≡ giversIn c nodes path 0 (0 - 0) → Gives c nodes policy kind path rows
+  absent-gives h given =
+      none-gives c nodes policy kind path rows (has-tree c nodes trees policy held few kinds kind t at ∙ le-ltb t (trees .len) h) given
+
+  pub present-gives : t < trees .len → (start end : ℕ) → start ≡ startOf trees t → end ≡ getD (trees .ends) t 0
+      → rows ≡ giversIn c nodes path start (end - start) → Gives c nodes policy kind path rows
+  present-gives h start end p q given =
+      tree-gives c nodes policy kind start end (tree-rows c nodes trees policy held few kinds kind t at h start end p q) path rows given
+
+-- what `givers` finds for the path of a component
+pub found-gives : (nodes : List ℕ) (trees : Trees) (kind start end : ℕ) (path path′ rows : List ℕ)
+    → ((c ns : List ℕ) (policy : List Tree) → AllHeld c ns trees 0 policy → (p rs : List ℕ) → rs ≡ giversIn c ns p start (end - start) → Gives c ns policy kind p rs)
+    → path ≡ path′ → ((c : List ℕ) → rows ≡ giversIn c nodes path start (end - start))
+    → (c : List ℕ) (policy : List Tree) → AllHeld c nodes trees 0 policy → Gives c nodes policy kind path′ rows
+found-gives nodes trees kind start end path path′ rows gives is found c policy held =
+    gives c nodes policy held path′ rows (found c ∙ ap (λ (p : List ℕ). giversIn c nodes p start (end - start)) is)
+
+pub lacks-at : (c nodes : List ℕ) (trees : Trees) (table rows : List ℕ) (n k column : ℕ)
+    → ((b : List ℕ) (policy : List Tree) → AllHeld b nodes trees 0 policy → Gives b nodes policy k (pathAt table n) rows)
+    → column ≡ missingAt c nodes rows table n k
+    → (policy : List Tree) → AllHeld c nodes trees 0 policy → (required : Required) → firstMissing policy required (entryAt table n k) ≡ missingOf column
+lacks-at c nodes trees table rows n k column gives e policy held required =
+    missing-rows policy required table n k c nodes rows (gives c policy held) ∙ ap missingOf (sym e)
+
+-- The kinds passed so far lack nothing, so that those left decide.
+pub record KindsLeft (c nodes : List ℕ) (trees : Trees) (table : List ℕ) (n kind : ℕ) : Type 0 where
+  pub within : kind ≤ 16
+  pub same : (policy : List Tree) → AllHeld c nodes trees 0 policy → (required : Required)
+      → firstUncovered policy required (rowEntries table n) ≡ firstUncovered policy required (map (entryAt table n) (rising kind (16 - kind)))
+
+pub kinds-left : (c nodes : List ℕ) (trees : Trees) (table : List ℕ) (n : ℕ) → KindsLeft c nodes trees table n 0
+kinds-left c nodes trees table n = record {
+  within = omega arith;
+  same = λ policy held required. unfold rowEntries in uncovered-only policy required (map (entryAt table n) (rising 0 16));
+}
+
+module _ (c nodes : List ℕ) (trees : Trees) (table : List ℕ) (n kind column : ℕ) (left : KindsLeft c nodes trees table n kind) where
+  abbrev Lacks : Type 0
+  Lacks = (policy : List Tree) → AllHeld c nodes trees 0 policy → (required : Required) → firstMissing policy required (entryAt table n kind) ≡ missingOf column
+
+  kind-turn : kind < 16 → Lacks → (policy : List Tree) → AllHeld c nodes trees 0 policy → (required : Required)
+      → firstUncovered policy required (rowEntries table n)
+      ≡ orFurther (entryAt table n kind) (missingOf column) (firstUncovered policy required (map (entryAt table n) (rising (kind + 1) (16 - (kind + 1)))))
+  unfolding firstUncovered
+  kind-turn here lacks policy held required =
+      left .same policy held required
+      ∙ ap (λ (l : List ℕ). firstUncovered policy required (map (entryAt table n) l)) (rising-next kind 16 here)
+      ∙ ap (λ (m : Option Permission). orFurther (entryAt table n kind) m (firstUncovered policy required (map (entryAt table n) (rising (kind + 1) (16 - (kind + 1))))))
+      (lacks policy held required)
+
+  pub kind-lacks : kind < 16 → Lacks → column < 67 → (policy : List Tree) → AllHeld c nodes trees 0 policy → (required : Required)
+      → firstUncovered policy required (rowEntries table n) ≡ uncoveredAt table (record { component = n; kind = kind; column = column })
+  unfolding missingOf uncoveredAt
+  kind-lacks here lacks h policy held required =
+      kind-turn here lacks policy held required ∙ rw (lt-ltb column 67 h) (unfold orFurther entryAt in refl)
+
+  pub kind-covered : kind < 16 → Lacks → 67 ≤ column → KindsLeft c nodes trees table n (kind + 1)
+  unfolding missingOf
+  kind-covered here lacks h = record {
+    within = omega arith;
+    same = λ policy held required. kind-turn here lacks policy held required ∙ rw (le-ltb column 67 h) (unfold orFurther in refl);
+  }
+
+pub kinds-covered : (c nodes : List ℕ) (trees : Trees) (table : List ℕ) (n kind : ℕ) → KindsLeft c nodes trees table n kind → 16 ≤ kind
+    → (policy : List Tree) → AllHeld c nodes trees 0 policy → (required : Required)
+    → firstUncovered policy required (rowEntries table n) ≡ uncoveredAt table (record { component = n; kind = kind; column = 67 })
+unfolding firstUncovered
+kinds-covered c nodes trees table n kind left done policy held required =
+    left .same policy held required
+    ∙ ap (λ (l : List ℕ). firstUncovered policy required (map (entryAt table n) l)) (rising-done kind 16 done)
+    ∙ none-at table (record { component = n; kind = kind; column = 67 }) (omega arith)
+
+-- The same of components.
+pub record RowsLeft (c nodes : List ℕ) (trees : Trees) (table : List ℕ) (m i : ℕ) : Type 0 where
+  pub within : i ≤ m
+  pub same : (policy : List Tree) → AllHeld c nodes trees 0 policy
+      → firstUncovered policy (tableRequired table m) (tableEntries table m)
+      ≡ firstUncovered policy (tableRequired table m) (gather (rowEntries table) (rising i (m - i)))
+
+pub rows-left : (c nodes : List ℕ) (trees : Trees) (table : List ℕ) (m : ℕ) → RowsLeft c nodes trees table m 0
+unfolding tableEntries
+rows-left c nodes trees table m = record {
+  within = omega arith;
+  same = λ policy held. ap (λ (k : ℕ). firstUncovered policy (tableRequired table m) (gather (rowEntries table) (rising 0 k))) (omega arith);
+}
+
+module _ (c nodes : List ℕ) (trees : Trees) (table : List ℕ) (m i : ℕ) (left : RowsLeft c nodes trees table m i) (found : Missing) where
+  abbrev Finds : Type 0
+  Finds = (policy : List Tree) → AllHeld c nodes trees 0 policy → (required : Required)
+      → firstUncovered policy required (rowEntries table i) ≡ uncoveredAt table found
+
+  row-turn : i < m → Finds → (policy : List Tree) → AllHeld c nodes trees 0 policy
+      → firstUncovered policy (tableRequired table m) (tableEntries table m)
+      ≡ orElse (uncoveredAt table found) (firstUncovered policy (tableRequired table m) (gather (rowEntries table) (rising (i + 1) (m - (i + 1)))))
+  unfolding gather
+  row-turn here finds policy held =
+      left .same policy held
+      ∙ ap (λ (l : List ℕ). firstUncovered policy (tableRequired table m) (gather (rowEntries table) l)) (rising-next i m here)
+      ∙ uncovered-append policy (tableRequired table m) (rowEntries table i) (gather (rowEntries table) (rising (i + 1) (m - (i + 1))))
+      ∙ ap (λ (u : Option Uncovered). orElse u (firstUncovered policy (tableRequired table m) (gather (rowEntries table) (rising (i + 1) (m - (i + 1))))))
+      (finds policy held (tableRequired table m))
+
+  pub row-lacks : i < m → Finds → found .column < 67 → (policy : List Tree) → AllHeld c nodes trees 0 policy
+      → firstUncovered policy (tableRequired table m) (tableEntries table m) ≡ uncoveredAt table found
+  row-lacks here finds h policy held = row-turn here finds policy held ∙ some-at table found _ h
+
+  pub row-covered : i < m → Finds → 67 ≤ found .column → RowsLeft c nodes trees table m (i + 1)
+  row-covered here finds h = record {
+    within = omega arith;
+    same = λ policy held. row-turn here finds policy held ∙ rw (← none-at table found h) (unfold orElse in refl);
+  }
+
+pub rows-covered : (c nodes : List ℕ) (trees : Trees) (table : List ℕ) (m i : ℕ) → RowsLeft c nodes trees table m i → m ≤ i
+    → (policy : List Tree) → AllHeld c nodes trees 0 policy
+    → firstUncovered policy (tableRequired table m) (tableEntries table m) ≡ uncoveredAt table (record { component = i; kind = 0; column = 67 })
+unfolding firstUncovered gather
+rows-covered c nodes trees table m i left done policy held =
+    left .same policy held
+    ∙ ap (λ (l : List ℕ). firstUncovered policy (tableRequired table m) (gather (rowEntries table) l)) (rising-done i m done)
+    ∙ none-at table (record { component = i; kind = 0; column = 67 }) (omega arith)
+
+pub ruleset search-steps = (needs, found-gives, lacks-at, kinds-left, kind-lacks, kind-covered, kinds-covered, rows-left, row-lacks, row-covered, rows-covered)

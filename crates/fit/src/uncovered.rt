@@ -1,0 +1,127 @@
+// The first permission of an interface that the policy does not cover (document 02, Q-1): entries in order; read, write, access, then
+// disclose by group.
+ghost use mathlib.Core.Path.{_≡_};
+ghost use mathlib.Core.List.{List};
+ghost use Prim.Native.Nat.{ℕ, _<_, _≤_, _-_};
+ghost use Rattle.inference.specs.Interface.{Required};
+ghost use Rattle.inference.specs.Rows.{pathAt, entryAt, rowEntries, tableEntries, tableRequired};
+ghost use Rattle.policy.specs.Syntax.{Tree};
+ghost use Rattle.policy.specs.Loads.{Bounded, AllHeld};
+ghost use Rattle.fit.specs.Givers.{givenRows, giversIn};
+ghost use Rattle.fit.specs.Covers.{missingOf};
+ghost use Rattle.fit.specs.Uncovered.{firstMissing, firstUncovered};
+ghost use Rattle.fit.specs.Search.{Gives, uncoveredAt};
+use crate::Givers;
+use crate::Missing;
+use crate::entries::first_missing;
+use crate::grants::givers;
+use crate::grants::tree_for;
+use inference::rows::path_of;
+use policy::Span;
+use policy::Trees;
+use policy::wellformed::span_of;
+
+// The rows of a kind's tree; none where there is no such tree.
+fn rows_of(trees: Trees, kind: usize) -> Span
+    requires { ⌜ Bounded trees ⌝ }
+    ensures { λ r. ⌜ ((c nodes : List ℕ) (policy : List Tree) → AllHeld c nodes trees 0 policy → (path rows : List ℕ)
+        → rows ≡ giversIn c nodes path (r .from) (r .to - r .from) → Gives c nodes policy kind path rows) ⌝ }
+    ensures few { λ r. ⌜ r .to ≤ 64 ⌝ }
+{
+    let t = tree_for(trees, kind);
+    if trees.len <= t {
+        return Span { from: 0, to: 0 };
+    }
+    span_of(trees, t)
+}
+
+// What gives to a component's path in the tree of a kind.
+fn givers_of(
+    nodes: &[usize],
+    trees: Trees,
+    table: &[u16],
+    component: usize,
+    kind: usize,
+) -> Givers
+    requires { ⌜ (component < 32) × Bounded trees ⌝ }
+    ensures { λ r. ⌜ ((c : List ℕ) (policy : List Tree) → AllHeld c (now (nodes .entry)) trees 0 policy
+        → Gives c (now (nodes .entry)) policy kind (pathAt (now (table .entry)) component) (givenRows r)) ⌝ }
+{
+    givers(nodes, rows_of(trees, kind), path_of(table, component))
+}
+
+// The column of the first permission of an entry that is not covered, or 67.
+fn entry_missing(
+    c: &[u8],
+    nodes: &[usize],
+    trees: Trees,
+    table: &[u16],
+    component: usize,
+    kind: usize,
+) -> usize
+    requires { ⌜ (component < 32) × (kind < 16) × Bounded trees ⌝ }
+    ensures { λ r. ⌜ ((policy : List Tree) → AllHeld (now (c .entry)) (now (nodes .entry)) trees 0 policy
+        → (required : Required) → firstMissing policy required (entryAt (now (table .entry)) component kind) ≡ missingOf r) ⌝ }
+{
+    let givers = givers_of(nodes, trees, table, component, kind);
+    first_missing(c, table, component, kind, nodes, givers)
+}
+
+// The first uncovered permission of a component.
+fn row_missing(
+    c: &[u8],
+    nodes: &[usize],
+    trees: Trees,
+    table: &[u16],
+    component: usize,
+) -> Missing
+    requires { ⌜ (component < 32) × Bounded trees ⌝ }
+    ensures { λ r. ⌜ ((policy : List Tree) → AllHeld (now (c .entry)) (now (nodes .entry)) trees 0 policy
+        → (required : Required) → firstUncovered policy required (rowEntries (now (table .entry)) component) ≡ uncoveredAt (now (table .entry)) r) ⌝ }
+{
+    let mut kind: usize = 0;
+    while kind < 16 {
+        let column = entry_missing(c, nodes, trees, table, component, kind);
+        if column < 67 {
+            return Missing {
+                component,
+                kind,
+                column,
+            };
+        }
+        kind += 1;
+    }
+    Missing {
+        component,
+        kind,
+        column: 67,
+    }
+}
+
+// The first uncovered permission of the interface that a table holds.
+pub fn first_uncovered(
+    c: &[u8],
+    nodes: &[usize],
+    trees: Trees,
+    table: &[u16],
+    components: usize,
+) -> Missing
+    requires { ⌜ (components ≤ 32) × Bounded trees ⌝ }
+    ensures { λ r. ⌜ ((policy : List Tree) → AllHeld (now (c .entry)) (now (nodes .entry)) trees 0 policy
+        → firstUncovered policy (tableRequired (now (table .entry)) components) (tableEntries (now (table .entry)) components)
+        ≡ uncoveredAt (now (table .entry)) r) ⌝ }
+{
+    let mut component: usize = 0;
+    while component < components {
+        let missing = row_missing(c, nodes, trees, table, component);
+        if missing.column < 67 {
+            return missing;
+        }
+        component += 1;
+    }
+    Missing {
+        component,
+        kind: 0,
+        column: 67,
+    }
+}
