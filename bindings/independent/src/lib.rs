@@ -1,6 +1,6 @@
-//! Document 01 (flow sheets, charters and runs) and the sentence for a refused volunteer in plain Rust, written from the document and the list of
-//! readings that decides its open points. It shares no code with the proved library, but those readings it shares:
-//! an agreement of the two says nothing about an open point that the list itself reads wrongly.
+//! Document 01 (flow sheets, charters and runs) and the sentence for a refused sheet, in plain Rust, written from the documents and the
+//! list of readings that decides their open points. It shares no code with the proved library, but those readings it shares: an agreement
+//! of the two says nothing about an open point that the list itself reads wrongly.
 
 pub mod bytes;
 pub mod charter;
