@@ -1,4 +1,5 @@
-/* Checks and plays example W through the static library, and prints the entries of its interface and the records of its log. */
+/* Checks and plays example W through the static library, and prints the entries of its interface and the records of its log; then
+ * explains why another charter refuses it. */
 #include "velimhaw.h"
 #include "w.h"
 #include <inttypes.h>
@@ -7,6 +8,8 @@
 static const velimhaw_bytes sheet = {w_sheet, sizeof w_sheet};
 static const velimhaw_bytes charter = {w_charter, sizeof w_charter};
 static const velimhaw_bytes script = {w_script, sizeof w_script};
+static const velimhaw_bytes strict_charter = {w_strict_charter, sizeof w_strict_charter};
+static const velimhaw_bytes names = {(const uint8_t *)w_names, W_NAMES_LENGTH};
 
 /* The answer of a service. Whether it accepts. */
 static bool show_answer(const char *service, uint64_t answer) {
@@ -63,14 +66,25 @@ static void show_record(const velimhaw_record *r) {
         show_taken(r);
 }
 
-static void check_and_show(const char *service, velimhaw_lent output) {
-    uint64_t answer = velimhaw_check(sheet, charter, output);
+static void check_and_show(const char *service, velimhaw_bytes against, velimhaw_lent output) {
+    uint64_t answer = velimhaw_check(sheet, against, output);
     if (!show_answer(service, answer))
         return;
     velimhaw_bytes written = {output.bytes, (size_t)(answer - VELIMHAW_ACCEPTED)};
     velimhaw_entry entry;
     while (velimhaw_next_entry(&written, &entry))
         show_entry(&entry);
+}
+
+/* The sentence for a refusal with 18. It has no zero byte at its end, so its length is given. */
+static void explain_and_show(const char *service, velimhaw_bytes against) {
+    char line[VELIMHAW_SENTENCE_MAX];
+    velimhaw_lent whole_line = {(uint8_t *)line, sizeof line};
+    uint64_t answer = velimhaw_explain(sheet, against, names, whole_line);
+    if (answer > VELIMHAW_ACCEPTED)
+        printf("%s: %.*s\n", service, (int)(answer - VELIMHAW_ACCEPTED), line);
+    else
+        show_answer(service, answer);
 }
 
 static void play_and_show(const char *service, velimhaw_lent log) {
@@ -89,8 +103,10 @@ int main(void) {
     velimhaw_lent whole_output = {output, sizeof output};
     velimhaw_lent whole_log = {log, sizeof log};
     velimhaw_lent three_bytes = {output, 3};
-    check_and_show("check", whole_output);
+    check_and_show("check", charter, whole_output);
     play_and_show("play", whole_log);
-    check_and_show("check with 3 bytes of output", three_bytes);
+    check_and_show("check with 3 bytes of output", charter, three_bytes);
+    check_and_show("check against a stricter charter", strict_charter, whole_output);
+    explain_and_show("explain", strict_charter);
     return 0;
 }

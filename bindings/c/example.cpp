@@ -1,4 +1,5 @@
-// Checks and plays example W from C++ over the C header: entries and records as vectors, a refusal as an exception.
+// Checks and plays example W from C++ over the C header: entries and records as vectors, a refusal as an exception; then explains why
+// another charter refuses it.
 #include "velimhaw.h"
 #include "w.h"
 #include <array>
@@ -21,8 +22,8 @@ std::size_t accepted(std::uint64_t answer) {
     throw std::runtime_error("refused " + std::to_string(answer) + ", not met: " + (line ? line : "no question has this number"));
 }
 
-std::vector<velimhaw_entry> check(velimhaw_lent output) {
-    std::size_t length = accepted(velimhaw_check(bytes(w_sheet), bytes(w_charter), output));
+std::vector<velimhaw_entry> check(velimhaw_bytes charter, velimhaw_lent output) {
+    std::size_t length = accepted(velimhaw_check(bytes(w_sheet), charter, output));
     velimhaw_bytes rest = {output.bytes, length};
     std::vector<velimhaw_entry> entries;
     for (velimhaw_entry entry; velimhaw_next_entry(&rest, &entry);)
@@ -37,6 +38,15 @@ std::vector<velimhaw_record> play(velimhaw_lent log) {
     for (velimhaw_record record; velimhaw_next_record(&rest, &record);)
         records.push_back(record);
     return records;
+}
+
+// The sentence for a refusal with 18; empty where the charter accepts the sheet.
+std::string explain(velimhaw_bytes charter) {
+    std::string line(VELIMHAW_SENTENCE_MAX, ' ');
+    velimhaw_bytes names = {reinterpret_cast<const std::uint8_t *>(w_names), W_NAMES_LENGTH};
+    velimhaw_lent whole_line = {reinterpret_cast<std::uint8_t *>(&line[0]), line.size()};
+    line.resize(accepted(velimhaw_explain(bytes(w_sheet), charter, names, whole_line)));
+    return line;
 }
 
 void show(const velimhaw_entry &entry) {
@@ -54,14 +64,20 @@ int main() {
     std::array<std::uint8_t, VELIMHAW_INTERFACE_MAX> output{};
     std::array<std::uint8_t, VELIMHAW_LOG_MAX> log{};
     std::cout << "C++, check:\n";
-    for (const velimhaw_entry &entry : check({output.data(), output.size()}))
+    for (const velimhaw_entry &entry : check(bytes(w_charter), {output.data(), output.size()}))
         show(entry);
     std::cout << "C++, play:\n";
     for (const velimhaw_record &record : play({log.data(), log.size()}))
         show(record);
     try {
-        check({output.data(), 3});
+        check(bytes(w_charter), {output.data(), 3});
     } catch (const std::runtime_error &refusal) {
         std::cout << "C++, check with 3 bytes of output: " << refusal.what() << '\n';
+    }
+    try {
+        check(bytes(w_strict_charter), {output.data(), output.size()});
+    } catch (const std::runtime_error &refusal) {
+        std::cout << "C++, check against a stricter charter: " << refusal.what() << '\n';
+        std::cout << "C++, explain: " << explain(bytes(w_strict_charter)) << '\n';
     }
 }

@@ -1,5 +1,5 @@
-/* Tests velimhaw.h: entries and records taken off whole, truncated and malformed bytes, the lines of the questions, and the memory lent
- * to a refused call. All bytes stand right before a page that may not be touched, so a read past their end is a fault. */
+/* Tests velimhaw.h: entries and records taken off whole, truncated and malformed bytes, the lines of the questions, the memory lent to a
+ * refused call, and the sentence. All bytes stand right before a page that may not be touched, so a read past their end is a fault. */
 #define _DEFAULT_SOURCE
 #include "velimhaw.h"
 #include "w.h"
@@ -13,6 +13,11 @@
 static const uint8_t w_interface[] = {0x00, 0x02, 0x00, 0x01, 0x10, 0x01, 0x00, 0x01, 0x00, 0x00, 0x02, 0x00, 0x02, 0x05};
 static const uint8_t w_log[] = {0x00, 0x01, 0x00, 0x00, 0x01, 0x00, 0x00, 0x01, 0x00, 0x05, 0xff, 0xff,
                                 0x02, 0x00, 0xff, 0xff, 0x00, 0x02, 0x01, 0x00, 0x02, 0x00, 0x01, 0xff};
+
+static const velimhaw_bytes sheet_of_w = {w_sheet, sizeof w_sheet};
+static const velimhaw_bytes strict_charter = {w_strict_charter, sizeof w_strict_charter};
+static const velimhaw_bytes names_of_w = {(const uint8_t *)w_names, W_NAMES_LENGTH};
+static const char sentence_of_w[] = "Society/Indexers may not disclose to Society: Entries";
 
 static uint8_t *page_end;
 
@@ -143,7 +148,7 @@ static void test_refused_record(void) {
 
 static void test_questions(void) {
     for (uint64_t n = 0; n < 100; n++)
-        assert((velimhaw_question(n) != NULL) == ((n >= 1 && n <= 22) || (n >= 30 && n <= 35)));
+        assert((velimhaw_question(n) != NULL) == ((n >= 1 && n <= 22) || (n >= 30 && n <= 35) || n == 40));
     assert(velimhaw_question(UINT64_MAX) == NULL);
 }
 
@@ -185,6 +190,79 @@ static void test_accepted_calls(void) {
     assert(memcmp(log.bytes, w_log, sizeof w_log) == 0);
 }
 
+/* The sentence of W under a stricter charter: in a line of its length right before the page that may not be touched, and in a longer
+ * line, which keeps the bytes past it. */
+static void test_sentence_of_w(void) {
+    size_t length = sizeof sentence_of_w - 1;
+    velimhaw_lent line = {page_end - length, length};
+    assert(velimhaw_explain(sheet_of_w, strict_charter, names_of_w, line) == VELIMHAW_ACCEPTED + length);
+    assert(memcmp(line.bytes, sentence_of_w, length) == 0);
+    uint8_t bytes[VELIMHAW_SENTENCE_MAX], kept[VELIMHAW_SENTENCE_MAX];
+    memset(kept, 0xaa, sizeof kept);
+    memset(bytes, 0xaa, sizeof bytes);
+    velimhaw_lent longer = {bytes, sizeof bytes};
+    assert(velimhaw_explain(sheet_of_w, strict_charter, names_of_w, longer) == VELIMHAW_ACCEPTED + length);
+    assert(memcmp(bytes, sentence_of_w, length) == 0 && memcmp(bytes + length, kept, sizeof kept - length) == 0);
+}
+
+/* Names cut short anywhere, a line one byte short, another refusal and an acceptance: no sentence, and the line keeps its bytes. */
+static void test_no_sentence(void) {
+    static const uint8_t zero[] = {0};
+    velimhaw_bytes charter = {w_charter, sizeof w_charter}, no_tree = {zero, sizeof zero};
+    uint8_t bytes[VELIMHAW_SENTENCE_MAX], kept[VELIMHAW_SENTENCE_MAX];
+    memset(kept, 0xaa, sizeof kept);
+    memset(bytes, 0xaa, sizeof bytes);
+    velimhaw_lent line = {bytes, sizeof bytes}, short_line = {bytes, sizeof sentence_of_w - 2};
+    for (size_t length = 0; length < W_NAMES_LENGTH; length++) {
+        velimhaw_bytes names = at_end((const uint8_t *)w_names, length);
+        assert(velimhaw_explain(sheet_of_w, strict_charter, names, line) == 40);
+        assert(velimhaw_explain(sheet_of_w, charter, names, line) == VELIMHAW_ACCEPTED);
+        assert(velimhaw_explain(sheet_of_w, no_tree, names, line) == 16);
+    }
+    assert(velimhaw_explain(sheet_of_w, strict_charter, names_of_w, short_line) == 19);
+    assert(velimhaw_explain(sheet_of_w, charter, names_of_w, line) == VELIMHAW_ACCEPTED);
+    assert(memcmp(bytes, kept, sizeof kept) == 0);
+}
+
+/* One byte of W's names changed: at its place, to its value, they break their rules. */
+static void test_broken_names(void) {
+    static const struct { size_t at; char value; } changes[] = {
+        {0, '0'}, {0, '@'}, {0, '['}, {0, '`'}, {0, '{'}, {0, '\n'}, {7, '\r'}, {7, 'x'},
+        {W_NAMES_LENGTH - 2, 'g'} /* Kbg, which stands before it */, {W_NAMES_LENGTH - 1, 'x'}};
+    uint8_t bytes[VELIMHAW_SENTENCE_MAX];
+    velimhaw_lent line = {bytes, sizeof bytes};
+    for (size_t i = 0; i < sizeof changes / sizeof changes[0]; i++) {
+        velimhaw_bytes names = at_end((const uint8_t *)w_names, W_NAMES_LENGTH);
+        page_end[(ptrdiff_t)changes[i].at - (ptrdiff_t)W_NAMES_LENGTH] = (uint8_t)changes[i].value;
+        assert(velimhaw_explain(sheet_of_w, strict_charter, names, line) == 40);
+    }
+}
+
+/* 80 names of 20 letters, distinct by their first two. */
+static void write_longest_names(uint8_t *names) {
+    memset(names, 'X', VELIMHAW_NAMES_FILE_MAX);
+    for (int i = 0; i < 80; i++) {
+        names[21 * i] = (uint8_t)('a' + i / 8);
+        names[21 * i + 1] = (uint8_t)('a' + i % 8);
+        names[21 * i + 20] = '\n';
+    }
+}
+
+/* A component whose path has eight groups discloses a link, and a charter that gives those groups nothing. */
+static void test_longest_sentence(void) {
+    static const uint8_t deep_sheet[] = {2, 2, 0, 0, 0, 1, 0, 0, 2, 0, 2, 1, 2, 2, 2, 3, 2, 4, 2, 5, 2, 6, 4, 7, 6, 0, 1, 0};
+    static const uint8_t deep_charter[] = {1, 0, 0, 0, 1, 1, 0, 1, 2, 0, 1, 3, 0, 1, 4, 0, 1, 5, 0, 1, 6, 0, 1, 7, 0, 0};
+    static uint8_t longest[VELIMHAW_NAMES_FILE_MAX];
+    write_longest_names(longest);
+    velimhaw_bytes sheet = {deep_sheet, sizeof deep_sheet}, charter = {deep_charter, sizeof deep_charter};
+    velimhaw_bytes names = {longest, sizeof longest};
+    velimhaw_lent line = {page_end - VELIMHAW_SENTENCE_MAX, VELIMHAW_SENTENCE_MAX};
+    velimhaw_lent short_line = {page_end - VELIMHAW_SENTENCE_MAX, VELIMHAW_SENTENCE_MAX - 1};
+    assert(velimhaw_explain(sheet, charter, names, short_line) == 19);
+    assert(velimhaw_explain(sheet, charter, names, line) == VELIMHAW_ACCEPTED + VELIMHAW_SENTENCE_MAX);
+    assert(memcmp(line.bytes, "aaXX", 4) == 0 && page_end[-20] == 'i' && page_end[-19] == 'a' && page_end[-1] == 'X');
+}
+
 int main(void) {
     map_pages();
     test_entries_of_w();
@@ -198,6 +276,10 @@ int main(void) {
     test_refused_calls();
     test_shared_inputs();
     test_accepted_calls();
+    test_sentence_of_w();
+    test_no_sentence();
+    test_broken_names();
+    test_longest_sentence();
     printf("test: all passed\n");
     return 0;
 }

@@ -1,13 +1,15 @@
-/* Velimhaw's two services for C and C++: check a sheet against a charter, play a script on an accepted sheet; and what takes the bytes
- * they write apart. Link target/staticlib/libvelimhaw.a, which `rt staticlib velimhaw` writes (x86-64 Linux).
+/* Velimhaw's three services for C and C++: check a sheet against a charter, explain a refusal with 18, play a script on an accepted
+ * sheet; and what takes the bytes they write apart. Link target/staticlib/libvelimhaw.a, which `rt staticlib velimhaw` writes (x86-64
+ * Linux).
  *
  * An answer is one number. Below VELIMHAW_ACCEPTED it is the number of the first question that fails (docs/REFERENCE.md, question N;
- * velimhaw_question gives its line), and the output or log keeps its bytes. From VELIMHAW_ACCEPTED on the call was accepted: the answer
- * less VELIMHAW_ACCEPTED is the length written (check) or the number of moves (play), and the bytes past what was written keep theirs.
+ * velimhaw_question gives its line), and the output, line or log keeps its bytes. From VELIMHAW_ACCEPTED on the call was accepted: the
+ * answer less VELIMHAW_ACCEPTED is the length written (check, explain) or the number of moves (play), and the bytes past what was
+ * written keep theirs.
  *
  * Memory lent to a call:
  * - Any bytes may be lent, of any length that memory can have; every call ends without a fault.
- * - The output or log may not overlap any input. The inputs may overlap each other, or be the same.
+ * - The output, line or log may not overlap any input. The inputs may overlap each other, or be the same.
  * - No other thread may write what is lent before the call returns.
  * - An empty slice may have any pointer but NULL; nothing is read or written through it. */
 #ifndef VELIMHAW_H
@@ -23,11 +25,13 @@ extern "C" {
 
 #define VELIMHAW_ACCEPTED 64u
 
-/* Lengths in bytes. Longer inputs are refused, and an output or log of its length is always long enough. */
+/* Lengths in bytes. Longer inputs are refused, and an output, line or log of its length is always long enough. */
 #define VELIMHAW_SHEET_MAX 4096u
 #define VELIMHAW_CHARTER_MAX 4096u
 #define VELIMHAW_SCRIPT_MAX 7168u     /* 1,024 moves of seven bytes, the longest */
+#define VELIMHAW_NAMES_FILE_MAX 1680u /* 80 names of 20 letters, each with the byte that ends it */
 #define VELIMHAW_INTERFACE_MAX 18432u /* with so much output check never refuses with 19 */
+#define VELIMHAW_SENTENCE_MAX 230u    /* with so long a line explain never refuses with 19 */
 #define VELIMHAW_RECORD_LENGTH 8u
 #define VELIMHAW_LOG_MAX 8192u        /* with so much log play never refuses with 22 */
 
@@ -57,6 +61,26 @@ typedef struct {
 
 /* Checks a sheet against a charter, and writes the interface, the permissions that the sheet needs, into the output. */
 uint64_t velimhaw_check(velimhaw_bytes sheet, velimhaw_bytes charter, velimhaw_lent output);
+
+/* Says in words why a sheet is refused with 18, and writes that sentence into the line: the first permission that the charter does not
+ * cover, entries in order, and within one read, write, access, then disclose by rising group. As in
+ *
+ *     Society/Indexers may not disclose to Society: Entries
+ *
+ * it is the names of the component's path, the permission (a disclosure with the name of the group it goes into), and the name of the
+ * kind; ASCII, with neither a newline nor a zero byte at its end.
+ *
+ * Names are the bytes of a names file: the names of the 64 groups, then of the 16 kinds, each of 1 to 20 letters A-Z or a-z and ended by
+ * the byte 0A, no two alike among the groups, no two alike among the kinds, and nothing after.
+ *
+ * The answer is
+ * - 1 to 17, as check's, where another question fails first;
+ * - VELIMHAW_ACCEPTED where questions 1 to 18 pass: there is nothing to explain, and nothing is written;
+ * - 40 where question 18 fails and the names break their rules, which are asked of no other sheet;
+ * - 19 where question 18 fails and the line is shorter than the sentence;
+ * - VELIMHAW_ACCEPTED + n where question 18 fails and the sentence was written; it has n bytes, 1 to VELIMHAW_SENTENCE_MAX.
+ * It is never 18. Below VELIMHAW_ACCEPTED the line keeps its bytes; else those past the sentence do. */
+uint64_t velimhaw_explain(velimhaw_bytes sheet, velimhaw_bytes charter, velimhaw_bytes names, velimhaw_lent line);
 
 /* Plays a script on a sheet that its charter accepts, and writes a record of eight bytes for each move into the log. */
 uint64_t velimhaw_play(velimhaw_bytes sheet, velimhaw_bytes charter, velimhaw_bytes script, velimhaw_lent log);
@@ -218,8 +242,8 @@ static inline bool velimhaw_next_record(velimhaw_bytes *log_bytes, velimhaw_reco
 
 /* ---- The questions ---- */
 
-/* What a question asks for, in one line: 1 to 22 of a call, 30 to 35 of a move (docs/REFERENCE.md, question N). NULL for every other
- * number. */
+/* What a question asks for, in one line: 1 to 22 and 40 of a call, 30 to 35 of a move (docs/REFERENCE.md, question N). NULL for every
+ * other number. */
 static inline const char *velimhaw_question(uint64_t number) {
     switch (number) {
     case 1: return "sheet and charter of at most 4,096 bytes each";
@@ -240,7 +264,7 @@ static inline const char *velimhaw_question(uint64_t number) {
     case 16: return "a tree of the charter for each entry's kind";
     case 17: return "each group of each entry's path at a node that the path reaches";
     case 18: return "each entry covered by what the charter grants its path";
-    case 19: return "an output long enough for the interface";
+    case 19: return "an output long enough for the interface, or a line for the sentence";
     case 20: return "a start of at most 64 threads and 1,024 names";
     case 21: return "a script of at most 1,024 whole moves, each field in its range";
     case 22: return "a log of at least 8 bytes a move";
@@ -250,6 +274,7 @@ static inline const char *velimhaw_question(uint64_t number) {
     case 33: return "the name received of the type of the bound name";
     case 34: return "sender and receiver on the same channel";
     case 35: return "at most 64 threads and 1,024 names after the move";
+    case 40: return "a name of 1 to 20 letters, ended by 0A, for each of 64 groups and 16 kinds, no two alike in a list, and nothing after";
     default: return NULL;
     }
 }

@@ -4,13 +4,15 @@ use crate::subject::Subject;
 use independent::demand3::Watch;
 use independent::running::State;
 
-/// The inputs of one case; `output` and `log` are the lengths of the lent memory.
+/// The inputs of one case; `output`, `line` and `log` are the lengths of the lent memory.
 #[derive(Clone)]
 pub struct Case {
     pub sheet: Vec<u8>,
     pub charter: Vec<u8>,
+    pub names: Vec<u8>,
     pub script: Vec<u8>,
     pub output: usize,
+    pub line: usize,
     pub log: usize,
     pub pattern: u8,
 }
@@ -27,6 +29,10 @@ const MARGIN: usize = 24;
 impl Case {
     pub fn check(&self, subject: &dyn Subject) -> Outcome {
         self.lend(self.output, |output| subject.check(&self.sheet, &self.charter, output))
+    }
+
+    pub fn explain(&self, subject: &dyn Subject) -> Outcome {
+        self.lend(self.line, |line| subject.explain(&self.sheet, &self.charter, &self.names, line))
     }
 
     pub fn play(&self, subject: &dyn Subject) -> Outcome {
@@ -47,6 +53,7 @@ impl Case {
     /// What the two sides answer differently, or what one of them does to memory it may not touch.
     pub fn difference(&self, left: &dyn Subject, right: &dyn Subject) -> Option<String> {
         self.compare("check", 1, &self.check(left), &self.check(right))
+            .or_else(|| self.compare("explain", 1, &self.explain(left), &self.explain(right)))
             .or_else(|| self.compare("play", 8, &self.play(left), &self.play(right)))
     }
 
@@ -86,10 +93,11 @@ impl Case {
     }
 
     pub fn print(&self) {
-        for (name, bytes) in [("sheet", &self.sheet), ("charter", &self.charter), ("script", &self.script)] {
+        let inputs = [("sheet", &self.sheet), ("charter", &self.charter), ("names", &self.names), ("script", &self.script)];
+        for (name, bytes) in inputs {
             println!("{name} ({} bytes): {}", bytes.len(), hex(bytes));
         }
-        println!("output {} bytes, log {} bytes, pattern {:02x}", self.output, self.log, self.pattern);
+        println!("output {} bytes, line {} bytes, log {} bytes, pattern {:02x}", self.output, self.line, self.log, self.pattern);
     }
 }
 

@@ -2,7 +2,7 @@
 
 use crate::random::Random;
 use independent::charter::{Charter, Node, Tree};
-use independent::permissions::{Count, Entry, Permissions};
+use independent::permissions::{Count, Entry, Need, Permissions};
 use independent::sheet::Sheet;
 use std::collections::{BTreeMap, BTreeSet};
 
@@ -121,6 +121,27 @@ fn perturb_trees(random: &mut Random, charter: &mut Charter) {
     } else {
         let again = charter.trees[0].clone();
         charter.trees.push(again);
+    }
+}
+
+/// Takes a permission that some entry needs away from all nodes of its kind's trees.
+pub fn withhold(random: &mut Random, charter: &mut Charter, interface: &[Entry]) {
+    if interface.is_empty() {
+        return;
+    }
+    let entry = &interface[random.below(interface.len())];
+    let needs: Vec<Need> = entry.permissions.each().map(|(need, _)| need).collect();
+    let need = random.pick(&needs);
+    let trees = charter.trees.iter_mut().filter(|tree| tree.kind == entry.kind);
+    trees.for_each(|tree| each_node(&mut tree.root, &mut |node| remove(&mut node.grant, need)));
+}
+
+fn remove(grant: &mut Permissions, need: Need) {
+    match need {
+        Need::Read => grant.read = false,
+        Need::Write => grant.write = false,
+        Need::Access => grant.access = false,
+        Need::Disclose(group) => drop(grant.disclose.remove(&group)),
     }
 }
 

@@ -5,7 +5,7 @@ use crate::random::Random;
 /// A sheet and a charter near one limit.
 pub fn edge(random: &mut Random) -> (Vec<u8>, Vec<u8>) {
     let step = random.below(4);
-    match random.below(11) {
+    match random.below(12) {
         0 => (nested(&[3, 0, 0], 62 + step), vec![0]),
         1 => (nested(&[1], 62 + step).into_iter().chain(vec![0; 62 + step]).collect(), vec![0]),
         2 => (components(31 + step, &[4, 0, 0]), vec![0]),
@@ -16,6 +16,7 @@ pub fn edge(random: &mut Random) -> (Vec<u8>, Vec<u8>) {
         7 => (vec![0, 0], deep_charter(6 + step)),
         8 => (padded(4094 + step), vec![0]),
         9 => (vec![0, 0], padded(4094 + step)),
+        10 => long_path(random, 6 + step),
         _ => (bound_names(61 + step), vec![1, 0, 0, 0x17, 1, 0, 255, 255, 0]),
     }
 }
@@ -73,6 +74,20 @@ fn groups(count: usize) -> Vec<u8> {
     (0..count).for_each(|group| out.extend_from_slice(&[2, group as u8]));
     out.push(0);
     out
+}
+
+/// A component whose path has so many groups, with one act, and a charter that grants the path nothing.
+fn long_path(random: &mut Random, groups: usize) -> (Vec<u8>, Vec<u8>) {
+    let mut sheet = vec![3, 2, 0, 1, 15, 1, 1, 15, 0, 15];
+    let mut charter = vec![1, 15];
+    for group in 0..groups {
+        let last = group + 1 == groups;
+        sheet.extend_from_slice(&[if last { 4 } else { 2 }, group as u8]);
+        charter.extend_from_slice(&[group as u8, 0, !last as u8]);
+    }
+    let acts: [&[u8]; 4] = [&[5, 1, 0, 15, 0], &[6, 1, 2, 0], &[5, 0, 1, 1, 15, 0], &[6, 0, 1, 0]];
+    sheet.extend_from_slice(random.pick(&acts));
+    (sheet, charter)
 }
 
 /// Names bound by receives until so many are in scope.

@@ -2,7 +2,7 @@
 
 use crate::case::Case;
 use crate::random::Random;
-use crate::{charters, damage, edges, scripts, sheets};
+use crate::{charters, damage, edges, names, scripts, sheets};
 use independent::running::State;
 use independent::{sheet, typing};
 
@@ -21,8 +21,11 @@ pub fn case(random: &mut Random) -> Case {
             _ => damage::damage(random, &mut script),
         }
     }
-    let mut case = Case { sheet, charter, script, output: 0, log: 0, pattern: random.byte() };
-    (case.output, case.log) = (output_length(random, &case), log_length(random, &case));
+    let names = names::names(random);
+    let mut case = Case { sheet, charter, names, script, output: 0, line: 0, log: 0, pattern: random.byte() };
+    case.output = around(random, needed_output(&case), 3);
+    case.line = around(random, needed_line(&case), 3);
+    case.log = around(random, needed_log(&case), 9);
     case
 }
 
@@ -33,9 +36,13 @@ fn pair(random: &mut Random) -> (Vec<u8>, Vec<u8>) {
     let Some(read) = sheet::read(&bytes).ok().filter(|read| typing::check_sheet(read).is_ok()) else {
         return (bytes, vec![0]);
     };
-    let mut charter = charters::covering(random, &read, &typing::interface(&read));
+    let interface = typing::interface(&read);
+    let mut charter = charters::covering(random, &read, &interface);
     if random.chance(45) {
         (0..random.between(1, 2)).for_each(|_| charters::perturb(random, &mut charter));
+    }
+    if random.chance(25) {
+        (0..random.between(1, 2)).for_each(|_| charters::withhold(random, &mut charter, &interface));
     }
     (bytes, charter.write())
 }
@@ -61,16 +68,14 @@ fn needed_output(case: &Case) -> usize {
     independent::check(&case.sheet, &case.charter, &mut [0; 8192]).unwrap_or(0)
 }
 
+/// The length of the sentence, found with the longest line.
+fn needed_line(case: &Case) -> usize {
+    let mut line = [0; independent::sentence::LONGEST];
+    independent::explain(&case.sheet, &case.charter, &case.names, &mut line).unwrap_or(0)
+}
+
 fn needed_log(case: &Case) -> usize {
     8 * independent::script::read(&case.script).map_or(0, |moves| moves.len())
-}
-
-fn output_length(random: &mut Random, case: &Case) -> usize {
-    around(random, needed_output(case), 3)
-}
-
-fn log_length(random: &mut Random, case: &Case) -> usize {
-    around(random, needed_log(case), 9)
 }
 
 /// Mostly enough, sometimes short of the need, sometimes exact.
@@ -85,11 +90,11 @@ fn around(random: &mut Random, need: usize, near: usize) -> usize {
 
 /// The same case with every length of lent memory around the need.
 pub fn lengths(case: &Case) -> Vec<Case> {
-    let (output, log) = (needed_output(case), needed_log(case));
-    let mut cases = Vec::new();
-    for length in (output.saturating_sub(4)..=output + 4).chain([0]) {
-        cases.push(Case { output: length, log: (log + length).saturating_sub(output), ..case.clone() });
+    let (output, line, log) = (needed_output(case), needed_line(case), needed_log(case));
+    let mut cases = vec![Case { output: 0, line: 0, log: log.saturating_sub(8), ..case.clone() }];
+    for step in 0..=8 {
+        let near = |need: usize| (need + step).saturating_sub(4);
+        cases.push(Case { output: near(output), line: near(line), log: near(log), ..case.clone() });
     }
-    cases.push(Case { log: log.saturating_sub(8), ..case.clone() });
     cases
 }

@@ -7,18 +7,20 @@ mod charters;
 mod damage;
 mod edges;
 mod generate;
+mod names;
 mod random;
 mod scripts;
 mod sheets;
 mod shrink;
 mod subject;
+mod totals;
 
 use case::Case;
 use random::Random;
-use std::collections::BTreeMap;
 use std::process::ExitCode;
 use std::time::{Duration, Instant, SystemTime, UNIX_EPOCH};
 use subject::{Independent, Proved};
+use totals::Totals;
 
 struct Options {
     cases: u64,
@@ -26,17 +28,6 @@ struct Options {
     seed: u64,
     first: u64,
     show: bool,
-}
-
-#[derive(Default)]
-struct Totals {
-    cases: u64,
-    accepted: u64,
-    moves: u64,
-    taken: u64,
-    check: BTreeMap<u32, u64>,
-    play: BTreeMap<u32, u64>,
-    records: BTreeMap<(u8, u8), u64>,
 }
 
 fn main() -> ExitCode {
@@ -49,15 +40,6 @@ fn main() -> ExitCode {
     let outcome = run(&options, &mut totals);
     totals.print();
     outcome
-}
-
-impl Totals {
-    fn print(&self) {
-        println!("check, refused by number: {:?}", self.check);
-        println!("play, refused by number: {:?}", self.play);
-        println!("records, by number and label: {:?}", self.records);
-        println!("{} cases, {} accepted, {} moves, {} of them taken", self.cases, self.accepted, self.moves, self.taken);
-    }
 }
 
 fn options() -> Option<Options> {
@@ -105,7 +87,7 @@ fn run(options: &Options, totals: &mut Totals) -> ExitCode {
 
 /// Compares the two sides on a case, with `sweep` at every length around the need; the answer is a shown fault.
 fn examine(case: &Case, sweep: bool, totals: &mut Totals) -> Option<String> {
-    count(case, totals);
+    totals.count(case);
     if let Some(what) = case.violation() {
         report(case, &|case| case.violation().is_some());
         return Some(what);
@@ -121,25 +103,6 @@ fn examine(case: &Case, sweep: bool, totals: &mut Totals) -> Option<String> {
         }
     }
     None
-}
-
-fn count(case: &Case, totals: &mut Totals) {
-    totals.cases += 1;
-    totals.accepted += independent::accept(&case.sheet, &case.charter).is_ok() as u64;
-    let (checked, played) = (case.check(&Independent), case.play(&Independent));
-    tally(&mut totals.check, checked.answer);
-    tally(&mut totals.play, played.answer);
-    for record in played.records() {
-        totals.moves += 1;
-        totals.taken += (record[0] == 0) as u64;
-        *totals.records.entry((record[0], record[1])).or_insert(0) += 1;
-    }
-}
-
-fn tally(refused: &mut BTreeMap<u32, u64>, answer: Result<usize, u32>) {
-    if let Err(number) = answer {
-        *refused.entry(number).or_insert(0) += 1;
-    }
 }
 
 /// Prints a failing case, made as small as it gets.

@@ -10,6 +10,7 @@ pub fn shrink(case: Case, fails: &dyn Fn(&Case) -> bool) -> Case {
         let size = weight(&best);
         best = drop_moves(best, fails);
         best = drop_bytes(best, fails, |case| &mut case.script);
+        best = drop_bytes(best, fails, |case| &mut case.names);
         best = drop_bytes(best, fails, |case| &mut case.charter);
         best = drop_bytes(best, fails, |case| &mut case.sheet);
         best = lend_less(best, fails);
@@ -20,7 +21,8 @@ pub fn shrink(case: Case, fails: &dyn Fn(&Case) -> bool) -> Case {
 }
 
 fn weight(case: &Case) -> usize {
-    case.sheet.len() + case.charter.len() + case.script.len() + case.output + case.log
+    let lent = case.output + case.line + case.log;
+    case.sheet.len() + case.charter.len() + case.names.len() + case.script.len() + lent
 }
 
 /// Drops runs of things, long ones first, while the case built from the rest fails.
@@ -67,7 +69,10 @@ fn drop_moves(case: Case, fails: &dyn Fn(&Case) -> bool) -> Case {
 fn lend_less(case: Case, fails: &dyn Fn(&Case) -> bool) -> Case {
     let mut best = case;
     for length in [0, 1, 8, 16, 64, 256, 1024] {
-        for other in [Case { output: length, ..best.clone() }, Case { log: length, ..best.clone() }] {
+        let output = Case { output: length, ..best.clone() };
+        let line = Case { line: length, ..best.clone() };
+        let log = Case { log: length, ..best.clone() };
+        for other in [output, line, log] {
             if weight(&other) < weight(&best) && fails(&other) {
                 best = other;
             }

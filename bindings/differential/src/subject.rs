@@ -2,6 +2,8 @@
 
 pub trait Subject {
     fn check(&self, sheet: &[u8], charter: &[u8], output: &mut [u8]) -> Result<usize, u32>;
+    /// The length of the sentence, 0 for a sheet with nothing to explain.
+    fn explain(&self, sheet: &[u8], charter: &[u8], names: &[u8], line: &mut [u8]) -> Result<usize, u32>;
     fn play(&self, sheet: &[u8], charter: &[u8], script: &[u8], log: &mut [u8]) -> Result<usize, u32>;
 }
 
@@ -11,6 +13,10 @@ pub struct Independent;
 impl Subject for Independent {
     fn check(&self, sheet: &[u8], charter: &[u8], output: &mut [u8]) -> Result<usize, u32> {
         independent::check(sheet, charter, output)
+    }
+
+    fn explain(&self, sheet: &[u8], charter: &[u8], names: &[u8], line: &mut [u8]) -> Result<usize, u32> {
+        independent::explain(sheet, charter, names, line)
     }
 
     fn play(&self, sheet: &[u8], charter: &[u8], script: &[u8], log: &mut [u8]) -> Result<usize, u32> {
@@ -24,6 +30,14 @@ pub struct Proved;
 impl Subject for Proved {
     fn check(&self, sheet: &[u8], charter: &[u8], output: &mut [u8]) -> Result<usize, u32> {
         result(velimhaw::check(sheet, charter, output))
+    }
+
+    fn explain(&self, sheet: &[u8], charter: &[u8], names: &[u8], line: &mut [u8]) -> Result<usize, u32> {
+        match velimhaw::explain(sheet, charter, names, line) {
+            velimhaw::Explanation::Accepted => Ok(0),
+            velimhaw::Explanation::Sentence(length) => Ok(length),
+            velimhaw::Explanation::Refused(number) => Err(number as u32),
+        }
     }
 
     fn play(&self, sheet: &[u8], charter: &[u8], script: &[u8], log: &mut [u8]) -> Result<usize, u32> {

@@ -1,7 +1,7 @@
 //! Reached nodes, grants, and whether a charter covers an interface (questions 16 to 18).
 
 use crate::charter::{Charter, Node};
-use crate::permissions::{Entry, Permissions};
+use crate::permissions::{Entry, Need, Permissions};
 use crate::sheet::Sheet;
 use std::collections::BTreeMap;
 
@@ -50,4 +50,21 @@ pub fn check(sheet: &Sheet, charter: &Charter, interface: &[Entry]) -> Result<()
         return Err(18);
     }
     Ok(())
+}
+
+/// A permission that some component needs and its charter does not cover.
+#[derive(Clone, PartialEq, Eq, Debug)]
+pub struct Uncovered {
+    pub path: Vec<u8>,
+    pub need: Need,
+    pub kind: u8,
+}
+
+/// The first uncovered permission: entries in order, and within an entry the order of its permissions.
+pub fn first_uncovered(sheet: &Sheet, charter: &Charter, interface: &[Entry]) -> Option<Uncovered> {
+    interface.iter().find_map(|entry| {
+        let path = &sheet.paths[entry.component];
+        let need = entry.permissions.uncovered(&grant(charter, path, entry.kind))?;
+        Some(Uncovered { path: path.clone(), need, kind: entry.kind })
+    })
 }

@@ -76,20 +76,36 @@ impl Permissions {
         self.disclose.get(&group).copied().unwrap_or(Count::Finite(0))
     }
 
-    /// Whether every flag and every count here is also there.
-    pub fn within(&self, other: &Permissions) -> bool {
-        let flags = (!self.read || other.read) && (!self.write || other.write) && (!self.access || other.access);
-        flags && self.disclose.iter().all(|(&group, &count)| count <= other.count(group))
+    /// Each permission held, in order: read, write, access, then disclose by rising group. A flag has the count 1.
+    pub fn each(&self) -> impl Iterator<Item = (Need, Count)> + '_ {
+        let flags = [(self.read, Need::Read), (self.write, Need::Write), (self.access, Need::Access)];
+        let held = flags.into_iter().filter(|(held, _)| *held).map(|(_, need)| (need, Count::Finite(1)));
+        held.chain(self.disclose.iter().map(|(&group, &count)| (Need::Disclose(group), count)))
     }
 
-    /// Whether one act's need is granted.
-    pub fn grants(&self, need: Need) -> bool {
+    /// Whether one permission, needed so often, is covered.
+    pub fn covers(&self, need: Need, count: Count) -> bool {
         match need {
             Need::Read => self.read,
             Need::Write => self.write,
             Need::Access => self.access,
-            Need::Disclose(group) => self.count(group) >= Count::Finite(1),
+            Need::Disclose(group) => count <= self.count(group),
         }
+    }
+
+    /// The first permission here that is not covered there.
+    pub fn uncovered(&self, other: &Permissions) -> Option<Need> {
+        self.each().find(|&(need, count)| !other.covers(need, count)).map(|(need, _)| need)
+    }
+
+    /// Whether every flag and every count here is also there.
+    pub fn within(&self, other: &Permissions) -> bool {
+        self.uncovered(other).is_none()
+    }
+
+    /// Whether one act's need is granted.
+    pub fn grants(&self, need: Need) -> bool {
+        self.covers(need, Count::Finite(1))
     }
 
     /// Appends the permission map and, if there is one, the list.

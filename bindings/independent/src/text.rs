@@ -1,11 +1,13 @@
 //! What the list program and the run program write.
 
 use crate::permissions::{Count, Entry, Permissions};
+use crate::sentence;
 use crate::sheet::Sheet;
 
-/// The list program's text for a sheet and a charter.
-pub fn list(sheet: &[u8], charter: &[u8]) -> String {
+/// The list program's text for a sheet, a charter and a names file.
+pub fn list(sheet: &[u8], charter: &[u8], names: &[u8]) -> String {
     match crate::accept(sheet, charter) {
+        Err(18) => refused(18) + &explanation(sheet, charter, names),
         Err(number) => refused(number),
         Ok(accepted) => {
             let lines = accepted.interface.iter().map(|entry| line(&accepted.sheet, entry));
@@ -23,6 +25,15 @@ pub fn run(sheet: &[u8], charter: &[u8], script: &[u8]) -> Vec<u8> {
             log.truncate(8 * moves);
             log
         }
+    }
+}
+
+/// The line below `refused 18`: the sentence, or the number of the question that keeps it from being written.
+fn explanation(sheet: &[u8], charter: &[u8], names: &[u8]) -> String {
+    let mut line = [0; sentence::LONGEST];
+    match crate::explain(sheet, charter, names, &mut line) {
+        Err(number) => refused(number),
+        Ok(length) => String::from_utf8_lossy(&line[..length]).into_owned() + "\n",
     }
 }
 

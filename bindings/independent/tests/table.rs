@@ -1,11 +1,7 @@
 //! Document 01's table of answers, put to the independent implementation.
+mod society;
 
-const W: &str = "02 02 00 00 00 01 00 00 02 00 01 04 01 06 00 01 00 04 02 05 00 01 00 00 05 02 00 00 00";
-const CHARTER: &str = "01 00 00 08 02 01 10 01 00 01 00 00 02 05 00";
-
-fn bytes(hex: &str) -> Vec<u8> {
-    hex.split_whitespace().map(|byte| u8::from_str_radix(byte, 16).unwrap()).collect()
-}
+use society::{bytes, CHARTER, W};
 
 /// The interface that check writes, or its number; memory it may not write has to keep its bytes.
 fn check(sheet: &str, charter: &str) -> Result<Vec<u8>, u32> {
@@ -25,7 +21,7 @@ fn play(script: &str) -> Vec<u8> {
 #[test]
 fn w_is_accepted() {
     assert_eq!(check(W, CHARTER), Ok(bytes("00 02 00 01 10 01 00 01 00 00 02 00 02 05")));
-    assert_eq!(independent::text::list(&bytes(W), &bytes(CHARTER)), "accepted\n0 0.1 d0:1\n0 0.2 r a\n");
+    assert_eq!(independent::text::list(&bytes(W), &bytes(CHARTER), &[]), "accepted\n0 0.1 d0:1\n0 0.2 r a\n");
     assert_eq!(check("00 00", "00"), Ok(vec![]));
 }
 

@@ -1,9 +1,10 @@
-//! Velimhaw's two services from Rust: check a sheet against a charter, play a script on an accepted sheet. The work is done by the
-//! proved static library; this package declares its two functions, and takes their answers and the bytes they write apart.
+//! Velimhaw's three services from Rust: check a sheet against a charter, explain a refusal with 18, play a script on an accepted sheet.
+//! The work is done by the proved static library; this package declares its three functions, and takes their answers and the bytes they
+//! write apart.
 //!
-//! [`try_check`] and [`try_play`] answer what was written as an iterator, or the [`Refusal`]; [`check`] and [`play`] answer the plain
-//! number. Any bytes of any length may be lent. On refusal the output or log keeps its bytes, and so do on acceptance those past what
-//! is written.
+//! [`try_check`] and [`try_play`] answer what was written as an iterator, [`try_explain`] as a sentence, or the [`Refusal`]; [`check`],
+//! [`explain`] and [`play`] answer the plain number. Any bytes of any length may be lent. On refusal the output, line or log keeps its
+//! bytes, and so do on acceptance those past what is written.
 //!
 //! "Question N" is that of docs/REFERENCE.md.
 
@@ -17,4 +18,4 @@ pub use entries::{Disclosure, Entries, Entry};
 pub use limits::*;
 pub use records::{Record, Records};
 pub use refusal::{question, Refusal};
-pub use services::{check, play, try_check, try_play, Answer};
+pub use services::{check, explain, play, try_check, try_explain, try_play, Answer, Explanation};

@@ -6,8 +6,12 @@ pub const SHEET_MAX: usize = 4096;
 pub const CHARTER_MAX: usize = 4096;
 /// The bytes of a script, 1,024 moves of seven bytes, the longest; a longer one is refused.
 pub const SCRIPT_MAX: usize = 7168;
+/// The bytes of a names file, 80 names of 20 letters, each with the byte that ends it; a longer one breaks its rules.
+pub const NAMES_FILE_MAX: usize = 1680;
 /// The length of an output for which `check` never refuses with 19.
 pub const INTERFACE_MAX: usize = 18_432;
+/// The length of a line for which `explain` never refuses with 19: the bytes of the longest sentence.
+pub const SENTENCE_MAX: usize = 230;
 /// The length of a log for which `play` never refuses with 22.
 pub const LOG_MAX: usize = RECORD_LENGTH * MOVES_MAX;
 /// The length of a move's record.

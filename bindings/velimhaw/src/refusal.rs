@@ -14,7 +14,7 @@ impl Refusal {
         Refusal { number }
     }
 
-    /// The question's number: 1 to 22 of a call, 30 to 35 of a move.
+    /// The question's number: 1 to 22 and 40 of a call, 30 to 35 of a move.
     pub fn number(self) -> usize {
         self.number
     }
@@ -50,7 +50,7 @@ pub fn question(number: usize) -> Option<&'static str> {
         16 => "a tree of the charter for each entry's kind",
         17 => "each group of each entry's path at a node that the path reaches",
         18 => "each entry covered by what the charter grants its path",
-        19 => "an output long enough for the interface",
+        19 => "an output long enough for the interface, or a line for the sentence",
         20 => "a start of at most 64 threads and 1,024 names",
         21 => "a script of at most 1,024 whole moves, each field in its range",
         22 => "a log of at least 8 bytes a move",
@@ -60,6 +60,7 @@ pub fn question(number: usize) -> Option<&'static str> {
         33 => "the name received of the type of the bound name",
         34 => "sender and receiver on the same channel",
         35 => "at most 64 threads and 1,024 names after the move",
+        40 => "a name of 1 to 20 letters, ended by 0A, for each of 64 groups and 16 kinds, no two alike in a list, and nothing after",
         _ => return None,
     })
 }

@@ -1,8 +1,8 @@
-//! The two services: as the static library answers, and as results.
+//! The three services: as the static library answers, and as results.
 
 use crate::{Entries, Records, Refusal, RECORD_LENGTH};
 
-/// What a service answers.
+/// What `check` and `play` answer.
 #[derive(Clone, Copy, Debug, PartialEq, Eq)]
 pub enum Answer {
     /// The length written (check) or the number of moves (play).
@@ -21,6 +21,18 @@ impl Answer {
     }
 }
 
+/// What `explain` answers.
+#[derive(Clone, Copy, Debug, PartialEq, Eq)]
+pub enum Explanation {
+    /// Questions 1 to 18 pass: there is nothing to explain, and nothing is written.
+    Accepted,
+    /// Question 18 fails; the length of the sentence written, 1 to [`SENTENCE_MAX`](crate::SENTENCE_MAX).
+    Sentence(usize),
+    /// The number of the first question that fails: 1 to 17 as for `check`; where 18 fails, 40 for names that break their rules, 19 for
+    /// a line shorter than the sentence. The line keeps its bytes.
+    Refused(usize),
+}
+
 /// A slice as C takes it: where its bytes are, and how many.
 #[repr(C)]
 struct Bytes {
@@ -36,6 +48,7 @@ struct Lent {
 
 extern "C" {
     fn velimhaw_check(sheet: Bytes, charter: Bytes, output: Lent) -> u64;
+    fn velimhaw_explain(sheet: Bytes, charter: Bytes, names: Bytes, line: Lent) -> u64;
     fn velimhaw_play(sheet: Bytes, charter: Bytes, script: Bytes, log: Lent) -> u64;
 }
 
@@ -56,11 +69,28 @@ fn answer(code: u64) -> Answer {
     }
 }
 
+/// As [`answer`]; no sentence is empty, so 64 itself says that there is nothing to explain.
+fn explanation(code: u64) -> Explanation {
+    match answer(code) {
+        Answer::Refused(number) => Explanation::Refused(number),
+        Answer::Accepted(0) => Explanation::Accepted,
+        Answer::Accepted(length) => Explanation::Sentence(length),
+    }
+}
+
 /// Infers the permissions that a sheet needs, accepts or refuses it against the charter, and writes the interface into the output.
 pub fn check(sheet: &[u8], charter: &[u8], output: &mut [u8]) -> Answer {
     // SAFETY: each slice is valid for its length for the time of the call, and `output` is lent to the call alone. The function is
     // proved for any bytes in all three, and writes nothing but `output`.
     answer(unsafe { velimhaw_check(bytes(sheet), bytes(charter), lent(output)) })
+}
+
+/// Says in words why a sheet is refused with 18: writes the sentence for the first permission that the charter does not cover into the
+/// line. Names are the bytes of a names file: a name of 1 to 20 letters, ended by the byte 0A, for each of the 64 groups and then of the
+/// 16 kinds.
+pub fn explain(sheet: &[u8], charter: &[u8], names: &[u8], line: &mut [u8]) -> Explanation {
+    // SAFETY: as for `check`; the function is proved for any bytes in all four slices, and writes nothing but `line`.
+    explanation(unsafe { velimhaw_explain(bytes(sheet), bytes(charter), bytes(names), lent(line)) })
 }
 
 /// Runs a script of moves on a sheet that its charter accepts, and writes a record of eight bytes for each move into the log.
@@ -73,6 +103,16 @@ pub fn play(sheet: &[u8], charter: &[u8], script: &[u8], log: &mut [u8]) -> Answ
 pub fn try_check<'a>(sheet: &[u8], charter: &[u8], output: &'a mut [u8]) -> Result<Entries<'a>, Refusal> {
     let length = check(sheet, charter, output).result()?;
     Ok(Entries::new(&output[..length]))
+}
+
+/// As [`explain`]; answers the sentence written, nothing where questions 1 to 18 pass. A line of [`SENTENCE_MAX`](crate::SENTENCE_MAX)
+/// bytes is always long enough.
+pub fn try_explain<'a>(sheet: &[u8], charter: &[u8], names: &[u8], line: &'a mut [u8]) -> Result<Option<&'a str>, Refusal> {
+    match explain(sheet, charter, names, line) {
+        Explanation::Accepted => Ok(None),
+        Explanation::Sentence(length) => Ok(Some(std::str::from_utf8(&line[..length]).expect("a sentence is ASCII"))),
+        Explanation::Refused(number) => Err(Refusal::new(number)),
+    }
 }
 
 /// As [`play`]; answers the records written. A log of [`LOG_MAX`](crate::LOG_MAX) bytes is always long enough.

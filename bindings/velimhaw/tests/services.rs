@@ -81,6 +81,80 @@ fn a_refused_move_is_a_record() {
     assert_eq!(records, [Record::Refused(Refusal::new(33))]);
 }
 
+/// What `explain` answers for W, with a line of so many bytes, and the line.
+fn explained(charter: &[u8], names: &[u8], room: usize) -> (Explanation, Vec<u8>) {
+    let mut line = vec![KEPT; room];
+    (explain(&w::SHEET, charter, names, &mut line), line)
+}
+
+#[test]
+fn explain_w() {
+    let length = w::SENTENCE.len();
+    let (answer, line) = explained(&w::STRICT_CHARTER, &w::names(), length + 2);
+    assert_eq!(answer, Explanation::Sentence(length));
+    assert_eq!(line[..length], *w::SENTENCE.as_bytes());
+    assert_eq!(line[length..], [KEPT; 2]);
+    assert_eq!(explained(&w::STRICT_CHARTER, &w::names(), length), (answer, w::SENTENCE.into()));
+}
+
+#[test]
+fn nothing_to_explain() {
+    for names in [w::names(), vec![]] {
+        assert_eq!(explained(&w::CHARTER, &names, 4), (Explanation::Accepted, vec![KEPT; 4]));
+    }
+    assert_eq!(explain(&[0, 0], &[0], &[], &mut []), Explanation::Accepted);
+}
+
+#[test]
+fn a_refused_explanation_leaves_the_line() {
+    let (names, short) = (w::names(), w::SENTENCE.len() - 1);
+    let unended = &names[..names.len() - 1];
+    let cases: [(usize, &[u8], &[u8], usize); 6] = [
+        (16, &[0], unended, 300),
+        (11, &[], &names, 300),
+        (40, &w::STRICT_CHARTER, unended, 300),
+        (40, &w::STRICT_CHARTER, &[], 0),
+        (19, &w::STRICT_CHARTER, &names, short),
+        (19, &w::STRICT_CHARTER, &names, 0),
+    ];
+    for (number, charter, names, room) in cases {
+        assert_eq!(explained(charter, names, room), (Explanation::Refused(number), vec![KEPT; room]));
+    }
+}
+
+#[test]
+fn try_explain_answers_the_sentence() {
+    let mut line = [KEPT; SENTENCE_MAX];
+    assert_eq!(try_explain(&w::SHEET, &w::STRICT_CHARTER, &w::names(), &mut line), Ok(Some(w::SENTENCE)));
+    assert_eq!(try_explain(&w::SHEET, &w::CHARTER, &w::names(), &mut line), Ok(None));
+    assert_eq!(try_explain(&w::SHEET, &w::STRICT_CHARTER, b"?", &mut line), Err(Refusal::new(40)));
+    assert_eq!(try_explain(&[], &[], &[], &mut []), Err(Refusal::new(2)));
+}
+
+/// A component whose path has eight groups discloses a link, under a charter that gives those groups nothing.
+fn longest_path() -> (Vec<u8>, Vec<u8>) {
+    let mut sheet = vec![2, 2, 0, 0, 0, 1, 0, 0];
+    let mut charter = vec![1, 0];
+    for group in 0..7 {
+        sheet.extend([2, group]);
+        charter.extend([group, 0, 1]);
+    }
+    sheet.extend([4, 7, 6, 0, 1, 0]);
+    charter.extend([7, 0, 0]);
+    (sheet, charter)
+}
+
+#[test]
+fn the_longest_sentence_is_written() {
+    let (sheet, charter) = longest_path();
+    let names: Vec<u8> = (0..80u8).flat_map(|n| [b'a' + n / 8, b'a' + n % 8].into_iter().chain([b'X'; 18]).chain([b'\n'])).collect();
+    assert_eq!(names.len(), NAMES_FILE_MAX);
+    let mut line = [KEPT; SENTENCE_MAX];
+    assert_eq!(explain(&sheet, &charter, &names, &mut line[..SENTENCE_MAX - 1]), Explanation::Refused(19));
+    assert_eq!(explain(&sheet, &charter, &names, &mut line), Explanation::Sentence(SENTENCE_MAX));
+    assert!(line.starts_with(b"aaXX") && line.ends_with(b"XX"));
+}
+
 #[test]
 fn the_longest_script_is_played() {
     let script = [5, 4, 0, 1, 2, 3, 0].repeat(MOVES_MAX);
@@ -95,8 +169,9 @@ fn the_longest_script_is_played() {
 fn the_constants_of_the_header_are_these() {
     let header = include_str!("../../c/velimhaw.h");
     let sizes = [("SHEET_MAX", SHEET_MAX), ("CHARTER_MAX", CHARTER_MAX), ("SCRIPT_MAX", SCRIPT_MAX), ("INTERFACE_MAX", INTERFACE_MAX)];
+    let texts = [("NAMES_FILE_MAX", NAMES_FILE_MAX), ("SENTENCE_MAX", SENTENCE_MAX)];
     let more = [("RECORD_LENGTH", RECORD_LENGTH), ("LOG_MAX", LOG_MAX), ("MOVES_MAX", MOVES_MAX), ("UNLIMITED", UNLIMITED.into())];
-    for (name, value) in sizes.into_iter().chain(more) {
+    for (name, value) in sizes.into_iter().chain(texts).chain(more) {
         assert!(header.contains(&format!("#define VELIMHAW_{name} {value}u")), "{name}");
     }
 }

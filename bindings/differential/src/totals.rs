@@ -1,0 +1,76 @@
+//! What the cases of a run met: refusals by number, the first uncovered permissions by verb, records by label.
+
+use crate::case::Case;
+use crate::subject::Independent;
+use independent::permissions::Need;
+use std::collections::BTreeMap;
+
+#[derive(Default)]
+pub struct Totals {
+    pub cases: u64,
+    accepted: u64,
+    sentences: u64,
+    longest: usize,
+    moves: u64,
+    taken: u64,
+    check: BTreeMap<u32, u64>,
+    explain: BTreeMap<u32, u64>,
+    play: BTreeMap<u32, u64>,
+    verbs: BTreeMap<&'static str, u64>,
+    records: BTreeMap<(u8, u8), u64>,
+}
+
+impl Totals {
+    /// Adds what the independent implementation answers on a case.
+    pub fn count(&mut self, case: &Case) {
+        self.cases += 1;
+        self.accepted += independent::accept(&case.sheet, &case.charter).is_ok() as u64;
+        tally(&mut self.check, case.check(&Independent).answer);
+        self.count_explanation(case);
+        self.count_run(case);
+    }
+
+    fn count_explanation(&mut self, case: &Case) {
+        let answer = case.explain(&Independent).answer;
+        tally(&mut self.explain, answer);
+        self.sentences += (answer.unwrap_or(0) > 0) as u64;
+        self.longest = self.longest.max(answer.unwrap_or(0));
+        if let Ok(Some(uncovered)) = independent::uncovered(&case.sheet, &case.charter) {
+            *self.verbs.entry(verb(uncovered.need)).or_insert(0) += 1;
+        }
+    }
+
+    fn count_run(&mut self, case: &Case) {
+        let played = case.play(&Independent);
+        tally(&mut self.play, played.answer);
+        for record in played.records() {
+            self.moves += 1;
+            self.taken += (record[0] == 0) as u64;
+            *self.records.entry((record[0], record[1])).or_insert(0) += 1;
+        }
+    }
+
+    pub fn print(&self) {
+        println!("check, refused by number: {:?}", self.check);
+        println!("explain, refused by number: {:?}; {} sentences, the longest of {} bytes", self.explain, self.sentences, self.longest);
+        println!("first uncovered permission, by verb: {:?}", self.verbs);
+        println!("play, refused by number: {:?}", self.play);
+        println!("records, by number and label: {:?}", self.records);
+        println!("{} cases, {} accepted, {} moves, {} of them taken", self.cases, self.accepted, self.moves, self.taken);
+    }
+}
+
+fn tally(refused: &mut BTreeMap<u32, u64>, answer: Result<usize, u32>) {
+    if let Err(number) = answer {
+        *refused.entry(number).or_insert(0) += 1;
+    }
+}
+
+fn verb(need: Need) -> &'static str {
+    match need {
+        Need::Read => "read",
+        Need::Write => "write",
+        Need::Access => "access",
+        Need::Disclose(_) => "disclose",
+    }
+}
