@@ -1,12 +1,13 @@
 // What the programs `list` and `run` do, each on the files of the folder it is run in (an absent file as empty).
 use execution::play;
+use explaining::examine;
 use files::first;
 use files::load;
+use files::print_refusal;
 use files::print_refused;
 use libc::STDOUT_FILENO;
 use listing::entry_line;
 use service::Answer;
-use service::checking::check;
 
 // Prints the entry at a place of an interface, `between` before it and no newline after it; the place after the entry, or the
 // same place at the end.
@@ -37,29 +38,57 @@ fn print_entries(interface: &[u8], between: &[u8]) {
     }
 }
 
-// Prints what `list` prints for a sheet and a charter, its lines parted by `between`, and a newline: `accepted` and the interface,
-// an entry a line, or `refused N`. No interface is longer than the output that is lent (`always-room` in the crate service's
-// proofs/RoomLaws.antt).
-pub fn print_listing(sheet: &[u8], charter: &[u8], between: &[u8]) {
-    let mut output = [0u8; 18432];
-    let answer = check(sheet, charter, &mut output);
-    match answer {
+// Prints why question 18 refuses a sheet, `between` before it: the sentence, or the number of the question that its names file fails.
+fn print_explanation(explained: Answer, line: &[u8], between: &[u8]) {
+    io::write_all(STDOUT_FILENO, between);
+    match explained {
         Answer::Accepted(n) => {
-            io::write_all(STDOUT_FILENO, b"accepted");
-            print_entries(first(&output, n), between);
-            io::write_all(STDOUT_FILENO, b"\n");
+            io::write_all(STDOUT_FILENO, first(line, n));
         }
-        Answer::Refused(n) => print_refused(n),
+        Answer::Refused(n) => print_refusal(n),
     }
 }
 
-// The program `list`: reads `sheet.bin` and `charter.bin`, and prints `accepted` and the interface, or `refused N`.
+// Prints what `list` prints for a sheet, a charter and a names file, its lines parted by `between`, and a newline: `accepted` and the
+// interface, an entry a line, or `refused N`, and below 18 the sentence. No interface is longer than the output that is lent
+// (`always-room` in the crate service's proofs/RoomLaws.antt), and no sentence longer than the line (`sentence-length` in the crate
+// naming's proofs/SentenceLaws.antt).
+pub fn print_listing(sheet: &[u8], charter: &[u8], names: &[u8], between: &[u8]) {
+    let mut output = [0u8; 18432];
+    let mut line = [0u8; 230];
+    let examined = examine(sheet, charter, names, &mut output, &mut line);
+    let checked = examined.checked;
+    match checked {
+        Answer::Accepted(n) => {
+            io::write_all(STDOUT_FILENO, b"accepted");
+            print_entries(first(&output, n), between);
+        }
+        Answer::Refused(n) => {
+            print_refusal(n);
+            if n == 18 {
+                print_explanation(examined.explained, &line, between);
+            }
+        }
+    }
+    io::write_all(STDOUT_FILENO, b"\n");
+}
+
+// The program `list`: reads `sheet.bin`, `charter.bin` and `names.bin`, and prints `accepted` and the interface, or `refused N` and
+// below 18 the sentence. A names file of 80 names has at most 1,680 bytes, and a longer one fails question 40 however much of it is
+// read.
 pub fn list() {
     let mut sheet = [0u8; 4097];
     let mut charter = [0u8; 4097];
+    let mut names = [0u8; 1681];
     let s = load(b"sheet.bin", &mut sheet);
     let c = load(b"charter.bin", &mut charter);
-    print_listing(first(&sheet, s), first(&charter, c), b"\n");
+    let n = load(b"names.bin", &mut names);
+    print_listing(
+        first(&sheet, s),
+        first(&charter, c),
+        first(&names, n),
+        b"\n",
+    );
 }
 
 // The program `run`: reads `script.bin` too, and writes the log's bytes alone, or `refused N`. A script of 1,024 moves has at most

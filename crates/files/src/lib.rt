@@ -20,9 +20,14 @@ pub fn first(buf: &[u8], n: usize) -> &[u8] {
     &buf[..n]
 }
 
-// Prints the number of the question that failed.
-pub fn print_refused(number: usize) {
+// Prints the number of the question that failed, and no newline.
+pub fn print_refusal(number: usize) {
     io::write_all(STDOUT_FILENO, b"refused ");
     io::print_decimal(STDOUT_FILENO, number as u64);
+}
+
+// The same as a line.
+pub fn print_refused(number: usize) {
+    print_refusal(number);
     io::write_all(STDOUT_FILENO, b"\n");
 }

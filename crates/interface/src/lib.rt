@@ -134,7 +134,7 @@ fn store(out: &mut [u8], at: usize, value: usize)
 }
 
 // Stores a byte and answers the next place.
-fn put(out: &mut [u8], at: usize, value: usize) -> usize
+pub fn put(out: &mut [u8], at: usize, value: usize) -> usize
     requires { ⌜ at < 4294967296 ⌝ }
     ensures { λ r. ⌜ Stored (now (out .entry)) (now (out .exit)) at (value ∷ []) r ⌝ }
 {

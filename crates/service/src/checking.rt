@@ -14,7 +14,7 @@ use reading::bytes::refusal;
 use reading::system::read;
 
 // Question 19, and the interface.
-fn deliver(table: &[u16], components: usize, output: &mut [u8]) -> Answer
+pub fn deliver(table: &[u16], components: usize, output: &mut [u8]) -> Answer
     requires { ⌜ components ≤ 32 ⌝ }
     ensures { λ r. ⌜ Delivered (interfaceBytes (tableEntries (now (table .entry)) components)) (now (output .entry))
         (now (output .exit)) r ⌝ }

@@ -1,0 +1,3 @@
+-- What the contracts of the service `explain` cite.
+pub mod Explain
+pub mod Told

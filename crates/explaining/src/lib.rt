@@ -1,0 +1,165 @@
+// The service `explain`: the sentence for a sheet that question 18 refuses (document 02, Q-1).
+ghost use mathlib.Core.Path.{_≡_};
+ghost use Prim.Native.Nat.{_≤_};
+ghost use lib.ListN.{length};
+ghost use Rattle.service.specs.Told.{Ready, Checked, Judges};
+ghost use Rattle.explaining.specs.Told.{Explained, ExaminedAs};
+use fit::Missing;
+use fit::uncovered::first_uncovered;
+use inference::rows::path_of;
+use naming::names::read_names;
+use naming::sentence::put_sentence;
+use policy::Trees;
+use reading::End;
+use reading::NumberRead;
+use reading::Path;
+use reading::bytes::refusal;
+use reading::system::read;
+use reading::system::why_none;
+use service::Answer;
+use service::Judged;
+use service::checking::deliver;
+use service::judging::judge_read;
+
+// What `check` answers, and what `explain` answers.
+pub struct Examined {
+    pub checked: Answer,
+    pub explained: Answer,
+}
+
+// Question 19, and the sentence. Into no memory at all nothing is stored: that tells the sentence's length.
+fn say(
+    names: &[u8],
+    groups: &[u16],
+    kinds: &[u16],
+    path: Path,
+    missing: Missing,
+    line: &mut [u8],
+) -> Answer {
+    let mut nowhere = [0u8; 0];
+    let len = put_sentence(names, groups, kinds, path, missing, &mut nowhere);
+    if line.len() < len {
+        return Answer::Refused(19);
+    }
+    put_sentence(names, groups, kinds, path, missing, line);
+    Answer::Accepted(len)
+}
+
+// Question 40, and the sentence for the first uncovered permission.
+fn explain_missing(
+    names: &[u8],
+    charter: &[u8],
+    nodes: &[usize],
+    trees: Trees,
+    table: &[u16],
+    components: usize,
+    line: &mut [u8],
+) -> Answer {
+    let mut groups = [0u16; 64];
+    let mut kinds = [0u16; 16];
+    let read = read_names(names, &mut groups, &mut kinds);
+    let End::At(_) = read else {
+        return Answer::Refused(why_none(read).question);
+    };
+    let missing = first_uncovered(charter, nodes, trees, table, components);
+    if 67 <= missing.column {
+        return Answer::Accepted(0);
+    }
+    say(
+        names,
+        &groups,
+        &kinds,
+        path_of(table, missing.component),
+        missing,
+        line,
+    )
+}
+
+// What `explain` answers, from what questions 1 to 18 came to and the tables that they left.
+fn explain_judged(
+    names: &[u8],
+    charter: &[u8],
+    nodes: &[usize],
+    table: &[u16],
+    judged: Judged,
+    line: &mut [u8],
+) -> Answer {
+    if 64 <= judged.fault {
+        return Answer::Accepted(0);
+    }
+    if judged.fault != 18 {
+        return Answer::Refused(judged.fault);
+    }
+    explain_missing(
+        names,
+        charter,
+        nodes,
+        judged.trees,
+        table,
+        judged.components,
+        line,
+    )
+}
+
+// What `check` answers, from the same.
+fn check_judged(table: &[u16], judged: Judged, output: &mut [u8]) -> Answer {
+    if judged.fault < 64 {
+        return Answer::Refused(judged.fault);
+    }
+    deliver(table, judged.components, output)
+}
+
+// Both services of a sheet that reads, with a clear table for its components and a table for the charter's nodes.
+fn examine_read(
+    sheet: &[u8],
+    charter: &[u8],
+    names: &[u8],
+    table: &mut [u16],
+    nodes: &mut [usize],
+    output: &mut [u8],
+    line: &mut [u8],
+) -> Examined {
+    let judged = judge_read(sheet, charter, table, nodes);
+    Examined {
+        checked: check_judged(table, judged, output),
+        explained: explain_judged(names, charter, nodes, table, judged, line),
+    }
+}
+
+// Checks a sheet against a charter and, where question 18 refuses it, writes the sentence into the line: both services in one walk of
+// the sheet.
+pub fn examine(
+    sheet: &[u8],
+    charter: &[u8],
+    names: &[u8],
+    output: &mut [u8],
+    line: &mut [u8],
+) -> Examined {
+    let read = read(sheet, charter);
+    let NumberRead::Found(components) = read else {
+        let question = refusal(read).question;
+        return Examined {
+            checked: Answer::Refused(question),
+            explained: Answer::Refused(question),
+        };
+    };
+    let mut nodes = [0usize; 320];
+    if components.value <= 4 {
+        let mut few = [0u16; 4388];
+        return examine_read(sheet, charter, names, &mut few, &mut nodes, output, line);
+    }
+    let mut table = [0u16; 35104];
+    examine_read(
+        sheet, charter, names, &mut table, &mut nodes, output, line,
+    )
+}
+
+// Explains why question 18 refuses a sheet. The answer and the line's final bytes are those of the definition `explained`, for any
+// bytes in all four slices.
+pub fn explain(sheet: &[u8], charter: &[u8], names: &[u8], line: &mut [u8]) -> Answer
+    ensures { λ r. ⌜ Explained (now (sheet .entry)) (now (charter .entry)) (now (names .entry)) (now (line .entry)) (now (line .exit)) r ⌝ }
+{
+    let mut nowhere = [0u8; 0];
+    let examined = examine(sheet, charter, names, &mut nowhere, line);
+    examined.explained
+}
