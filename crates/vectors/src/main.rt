@@ -1,7 +1,7 @@
-// Puts stored cases through both services, and prints for each, by its number, what `list` and `run` write: the listing's lines
+// Puts stored cases through the services, and prints for each, by its number, what `list` and `run` write: the listing's lines
 // parted by semicolons, the log's bytes in hexadecimal. What is printed is compared with the file stdout, which the script `make`
-// writes from the cases, as it does data/cases.bin: for each case three two-byte lengths, low byte first, then the bytes of the
-// sheet, the charter and the script.
+// writes from the cases, as it does data/cases.bin: for each case four two-byte lengths, low byte first, then the bytes of the
+// sheet, the charter, the script and the names file.
 use commands::print_listing;
 use execution::play;
 use files::first;
@@ -62,10 +62,10 @@ fn say_log(log: &[u8]) {
     say(b"\n");
 }
 
-fn show_listing(number: u64, sheet: &[u8], charter: &[u8]) {
+fn show_listing(number: u64, sheet: &[u8], charter: &[u8], names: &[u8]) {
     io::print_decimal(STDOUT_FILENO, number);
     say(b" list: ");
-    print_listing(sheet, charter, b"; ");
+    print_listing(sheet, charter, names, b"; ");
 }
 
 fn show_run(number: u64, sheet: &[u8], charter: &[u8], script: &[u8]) {
@@ -87,14 +87,28 @@ fn show_run(number: u64, sheet: &[u8], charter: &[u8], script: &[u8]) {
 }
 
 // Reads a case whose parts have these lengths, and shows it.
-fn show_case(fd: i32, number: u64, sheet_len: usize, charter_len: usize, script_len: usize) {
+fn show_case(
+    fd: i32,
+    number: u64,
+    sheet_len: usize,
+    charter_len: usize,
+    script_len: usize,
+    names_len: usize,
+) {
     let mut sheet = [0u8; 4097];
     let mut charter = [0u8; 4097];
     let mut script = [0u8; 7169];
+    let mut names = [0u8; 1681];
     let s = next_bytes(fd, &mut sheet, sheet_len);
     let c = next_bytes(fd, &mut charter, charter_len);
     let m = next_bytes(fd, &mut script, script_len);
-    show_listing(number, first(&sheet, s), first(&charter, c));
+    let n = next_bytes(fd, &mut names, names_len);
+    show_listing(
+        number,
+        first(&sheet, s),
+        first(&charter, c),
+        first(&names, n),
+    );
     show_run(
         number,
         first(&sheet, s),
@@ -105,14 +119,15 @@ fn show_case(fd: i32, number: u64, sheet_len: usize, charter_len: usize, script_
 
 // Shows the next case of the file; whether there was one.
 fn show_next(fd: i32, number: u64) -> bool {
-    let mut h = [0u8; 6];
-    if io::read_full(fd, &mut h) < 6 {
+    let mut h = [0u8; 8];
+    if io::read_full(fd, &mut h) < 8 {
         return false;
     }
     let sheet_len = two_bytes(h[0], h[1]);
     let charter_len = two_bytes(h[2], h[3]);
     let script_len = two_bytes(h[4], h[5]);
-    show_case(fd, number, sheet_len, charter_len, script_len);
+    let names_len = two_bytes(h[6], h[7]);
+    show_case(fd, number, sheet_len, charter_len, script_len, names_len);
     true
 }
 
