@@ -149,9 +149,7 @@ pub fn examine(
         return examine_read(sheet, charter, names, &mut few, &mut nodes, output, line);
     }
     let mut table = [0u16; 35104];
-    examine_read(
-        sheet, charter, names, &mut table, &mut nodes, output, line,
-    )
+    examine_read(sheet, charter, names, &mut table, &mut nodes, output, line)
 }
 
 // Explains why question 18 refuses a sheet. The answer and the line's final bytes are those of the definition `explained`, for any

@@ -209,11 +209,11 @@ module _ (c nodes : List ℕ) (trees : Trees) (table : List ℕ) (m i : ℕ) (le
 
 pub rows-covered : (c nodes : List ℕ) (trees : Trees) (table : List ℕ) (m i : ℕ) → RowsLeft c nodes trees table m i → m ≤ i
     → (policy : List Tree) → AllHeld c nodes trees 0 policy
-    → firstUncovered policy (tableRequired table m) (tableEntries table m) ≡ uncoveredAt table (record { component = i; kind = 0; column = 67 })
+    → firstUncovered policy (tableRequired table m) (tableEntries table m) ≡ uncoveredAt table (record { component = 0; kind = 0; column = 67 })
 unfolding firstUncovered gather
 rows-covered c nodes trees table m i left done policy held =
     left .same policy held
     ∙ ap (λ (l : List ℕ). firstUncovered policy (tableRequired table m) (gather (rowEntries table) l)) (rising-done i m done)
-    ∙ none-at table (record { component = i; kind = 0; column = 67 }) (omega arith)
+    ∙ none-at table (record { component = 0; kind = 0; column = 67 }) (omega arith)
 
 pub ruleset search-steps = (needs, found-gives, lacks-at, kinds-left, kind-lacks, kind-covered, kinds-covered, rows-left, row-lacks, row-covered, rows-covered)

@@ -36,13 +36,7 @@ fn rows_of(trees: Trees, kind: usize) -> Span
 }
 
 // What gives to a component's path in the tree of a kind.
-fn givers_of(
-    nodes: &[usize],
-    trees: Trees,
-    table: &[u16],
-    component: usize,
-    kind: usize,
-) -> Givers
+fn givers_of(nodes: &[usize], trees: Trees, table: &[u16], component: usize, kind: usize) -> Givers
     requires { ⌜ (component < 32) × Bounded trees ⌝ }
     ensures { λ r. ⌜ ((c : List ℕ) (policy : List Tree) → AllHeld c (now (nodes .entry)) trees 0 policy
         → Gives c (now (nodes .entry)) policy kind (pathAt (now (table .entry)) component) (givenRows r)) ⌝ }
@@ -68,16 +62,11 @@ fn entry_missing(
 }
 
 // The first uncovered permission of a component.
-fn row_missing(
-    c: &[u8],
-    nodes: &[usize],
-    trees: Trees,
-    table: &[u16],
-    component: usize,
-) -> Missing
+fn row_missing(c: &[u8], nodes: &[usize], trees: Trees, table: &[u16], component: usize) -> Missing
     requires { ⌜ (component < 32) × Bounded trees ⌝ }
     ensures { λ r. ⌜ ((policy : List Tree) → AllHeld (now (c .entry)) (now (nodes .entry)) trees 0 policy
         → (required : Required) → firstUncovered policy required (rowEntries (now (table .entry)) component) ≡ uncoveredAt (now (table .entry)) r) ⌝ }
+    ensures few { λ r. ⌜ r .component < 32 ⌝ }
 {
     let mut kind: usize = 0;
     while kind < 16 {
@@ -110,6 +99,7 @@ pub fn first_uncovered(
     ensures { λ r. ⌜ ((policy : List Tree) → AllHeld (now (c .entry)) (now (nodes .entry)) trees 0 policy
         → firstUncovered policy (tableRequired (now (table .entry)) components) (tableEntries (now (table .entry)) components)
         ≡ uncoveredAt (now (table .entry)) r) ⌝ }
+    ensures few { λ r. ⌜ r .component < 32 ⌝ }
 {
     let mut component: usize = 0;
     while component < components {
@@ -120,7 +110,7 @@ pub fn first_uncovered(
         component += 1;
     }
     Missing {
-        component,
+        component: 0,
         kind: 0,
         column: 67,
     }

@@ -11,11 +11,6 @@ use Rattle.naming.specs.Sentence.{
   nameOf,
   slashed,
   pathNames,
-  mayNot,
-  readVerb,
-  writeVerb,
-  accessVerb,
-  discloseVerb,
   verb,
   ofKind,
   sentence,
@@ -23,7 +18,7 @@ use Rattle.naming.specs.Sentence.{
 
 -- All definitions that the cases compute with.
 computed : Unit {0}
-unfolding andThen any gather rising isLetter lettersAt endedAt nameAt namesAt same distinct listAt wholeAt readNames nameOf slashed pathNames mayNot readVerb writeVerb accessVerb discloseVerb verb ofKind sentence
+unfolding andThen any gather rising isLetter lettersAt endedAt nameAt namesAt same distinct listAt wholeAt readNames nameOf slashed pathNames verb ofKind sentence
 computed = tt
 
 -- So many names: some letters, then two that tell the number, aa, ab and on.

@@ -2,3 +2,6 @@
 pub mod NameLaws
 pub mod SentenceLaws
 pub mod Cases
+pub mod LetterSteps
+pub mod NameSteps
+pub mod SentenceSteps

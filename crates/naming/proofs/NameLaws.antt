@@ -42,7 +42,7 @@ letters-only (suc n) s at = go (isLetter (getD s at 0)) refl (letters-only n s (
     go true e h = unfold every in rw e h
     go false e h = unfold every in refl
 
-letters-few : (n : ℕ) (s : List ℕ) (at : ℕ) → length (lettersAt n s at) ≤ n
+pub letters-few : (n : ℕ) (s : List ℕ) (at : ℕ) → length (lettersAt n s at) ≤ n
 unfolding lettersAt
 letters-few zero s at = omega arith
 letters-few (suc n) s at = go (isLetter (getD s at 0)) (letters-few n s (at + 1))

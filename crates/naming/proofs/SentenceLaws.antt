@@ -113,7 +113,7 @@ module _ {groups : List (List ℕ)} (a : AreNames 64 groups) where
   -- A permission, up to the colon after it: the four verbs begin differently.
   verb-tells : (p q : Permission) (r m : List ℕ) → groupInRange p ≡ true → groupInRange q ≡ true
       → verb groups p ++ (58 ∷ r) ≡ verb groups q ++ (58 ∷ m) → (p ≡ q) × (r ≡ m)
-  unfolding groupInRange verb readVerb writeVerb accessVerb discloseVerb letterNext isLetter
+  unfolding groupInRange verb letterNext isLetter
   verb-tells reading reading r m i j e = let t : r ≡ m = cc in (refl, t)
   verb-tells reading writing r m i j e = let z : _≡_ {A = ℕ} 114 119 = cc in absurd (omega arith)
   verb-tells reading accessing r m i j e = let z : _≡_ {A = ℕ} 114 97 = cc in absurd (omega arith)
@@ -137,7 +137,7 @@ module _ {groups : List (List ℕ)} (a : AreNames 64 groups) where
 
 -- The whole: path, permission, kind.
 named-tells : (names : Names) → Named names → (t u : Uncovered) → Numbered t → Numbered u → sentence names t ≡ sentence names u → t ≡ u
-unfolding sentence mayNot ofKind
+unfolding sentence ofKind
 named-tells names a t u x y e =
     let p = path-tells (a .groups) (t .path) (u .path) _ _ (x .path) (y .path) e in
     let rest : verb (names .groups) (t .permission) ++ (58 ∷ 32 ∷ nameOf (names .kinds) (t .kind))
@@ -163,14 +163,13 @@ path-few a [] l = omega arith
 path-few {groups} a (g ∷ p) l = omega (arith, length-append (nameOf groups g) (slashed groups p), name-few a g, slashed-few a p)
 
 verb-few : {groups : List (List ℕ)} → AreNames 64 groups → (p : Permission) → length (verb groups p) ≤ 32
-unfolding verb readVerb writeVerb accessVerb discloseVerb
+unfolding verb
 verb-few a reading = omega arith
 verb-few a writing = omega arith
 verb-few a accessing = omega arith
 verb-few a (disclosing g) = omega (arith, name-few a g)
 
 parts-long : (p v k : List ℕ) → length (p ++ (mayNot ++ (v ++ (58 ∷ 32 ∷ k)))) ≡ length p + length v + length k + 11
-unfolding mayNot
 parts-long p v k = omega (arith, length-append p (mayNot ++ (v ++ (58 ∷ 32 ∷ k))), length-append v (58 ∷ 32 ∷ k))
 
 pub sentence-length : (s : List ℕ) (names : Names) (end : ℕ) → readNames s ≡ got names end
@@ -221,7 +220,7 @@ module _ {n : ℕ} {names : List (List ℕ)} (a : AreNames n names) where
   path-bytes (g ∷ p) = every-both isByte (nameOf names g) (slashed names p) (name-bytes g) (slashed-bytes p)
 
   verb-bytes : (p : Permission) → every isByte (verb names p) ≡ true
-  unfolding every verb readVerb writeVerb accessVerb discloseVerb isByte
+  unfolding every verb isByte
   verb-bytes reading = refl
   verb-bytes writing = refl
   verb-bytes accessing = refl
@@ -235,7 +234,7 @@ each-byte (b ∷ bs) h (suc i) = each-byte bs (both-true (ltb b 256) (every isBy
 
 pub sentence-bytes : (s : List ℕ) (names : Names) (end : ℕ) → readNames s ≡ got names end
     → (u : Uncovered) (i : ℕ) → getD (sentence names u) i 0 < 256
-unfolding sentence mayNot ofKind every isByte
+unfolding sentence ofKind every isByte
 sentence-bytes s names end e u =
     let a = names-read s names end e in
     each-byte (sentence names u) (every-both isByte (pathNames (names .groups) (u .path)) _ (path-bytes (a .groups) (u .path))

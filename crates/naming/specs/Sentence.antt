@@ -25,20 +25,20 @@ pathNames names [] = []
 pathNames names (g ∷ rest) = nameOf names g ++ slashed names rest
 
 -- " may not "
-unfoldable pub mayNot : List ℕ
+abbrev pub mayNot : List ℕ
 mayNot = 32 ∷ 109 ∷ 97 ∷ 121 ∷ 32 ∷ 110 ∷ 111 ∷ 116 ∷ 32 ∷ []
 
 -- "read", "write", "access", "disclose to "
-unfoldable pub readVerb : List ℕ
+abbrev pub readVerb : List ℕ
 readVerb = 114 ∷ 101 ∷ 97 ∷ 100 ∷ []
 
-unfoldable pub writeVerb : List ℕ
+abbrev pub writeVerb : List ℕ
 writeVerb = 119 ∷ 114 ∷ 105 ∷ 116 ∷ 101 ∷ []
 
-unfoldable pub accessVerb : List ℕ
+abbrev pub accessVerb : List ℕ
 accessVerb = 97 ∷ 99 ∷ 99 ∷ 101 ∷ 115 ∷ 115 ∷ []
 
-unfoldable pub discloseVerb : List ℕ
+abbrev pub discloseVerb : List ℕ
 discloseVerb = 100 ∷ 105 ∷ 115 ∷ 99 ∷ 108 ∷ 111 ∷ 115 ∷ 101 ∷ 32 ∷ 116 ∷ 111 ∷ 32 ∷ []
 
 -- "read, write, access or "disclose to " and the group's name"

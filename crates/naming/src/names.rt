@@ -121,9 +121,5 @@ pub fn read_names(s: &[u8], groups: &mut [u16], kinds: &mut [u16]) -> End
     let End::At(end) = second else {
         return second;
     };
-    if end == s.len() {
-        second
-    } else {
-        broken(end)
-    }
+    if end == s.len() { second } else { broken(end) }
 }

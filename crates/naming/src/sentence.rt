@@ -65,14 +65,7 @@ fn put_name(s: &[u8], places: &[u16], n: usize, out: &mut [u8], at: usize) -> us
 }
 
 // Stores the name of a group of a path, with a slash before it but for the first.
-fn put_step(
-    s: &[u8],
-    places: &[u16],
-    group: usize,
-    i: usize,
-    out: &mut [u8],
-    at: usize,
-) -> usize
+fn put_step(s: &[u8], places: &[u16], group: usize, i: usize, out: &mut [u8], at: usize) -> usize
     requires { ⌜ at < 900 ⌝ }
     ensures { λ r. ⌜ Stored (now (out .entry)) (now (out .exit)) at (stepText (wordsAt (now (s .entry)) (now (places .entry))) i group) r ⌝ }
 {

@@ -18,8 +18,8 @@ first-uncovered-spec =
     μ-loop
     (λ c. search search-steps)
     (λ c κs. search search-steps)
+    (λ c. (search search-steps, search search-steps))
     (λ c. search search-steps)
     (λ c. search search-steps)
     (λ c. search search-steps)
-    (λ c. search search-steps)
-    (λ c. search search-steps))
+    (λ c. (search search-steps, search search-steps)))

@@ -18,8 +18,8 @@ row-missing-spec =
     μ-loop
     (λ c. search search-steps)
     (λ c κs. search search-steps)
+    (λ c. (search search-steps, search search-steps))
     (λ c. search search-steps)
     (λ c. search search-steps)
     (λ c. search search-steps)
-    (λ c. search search-steps)
-    (λ c. search search-steps))
+    (λ c. (search search-steps, search search-steps)))
