@@ -1,9 +1,18 @@
 // The service `explain`: the sentence for a sheet that question 18 refuses (document 02, Q-1).
 ghost use mathlib.Core.Path.{_≡_};
-ghost use Prim.Native.Nat.{_≤_};
+ghost use mathlib.Core.List.{List};
+ghost use Prim.Native.Nat.{ℕ, _<_, _≤_};
 ghost use lib.ListN.{length};
-ghost use Rattle.service.specs.Told.{Ready, Checked, Judges};
-ghost use Rattle.explaining.specs.Told.{Explained, ExaminedAs};
+ghost use Rattle.reading.specs.Told.{pathOf};
+ghost use Rattle.inference.specs.Rows.{tableEntries, tableRequired};
+ghost use Rattle.policy.specs.Syntax.{Tree};
+ghost use Rattle.policy.specs.Loads.{Bounded, AllHeld};
+ghost use Rattle.fit.specs.Covers.{permissionAt};
+ghost use Rattle.fit.specs.Uncovered.{firstUncovered};
+ghost use Rattle.naming.specs.Sentence.{sentence};
+ghost use Rattle.naming.specs.Told.{namesAtPlaces};
+ghost use Rattle.service.specs.Told.{Reads, Ready, Delivered, Checked, Judges};
+ghost use Rattle.explaining.specs.Told.{Says, Explained, ExaminedAs};
 use fit::Missing;
 use fit::uncovered::first_uncovered;
 use inference::rows::path_of;
@@ -35,7 +44,11 @@ fn say(
     path: Path,
     missing: Missing,
     line: &mut [u8],
-) -> Answer {
+) -> Answer
+    ensures { λ r. ⌜ Delivered (sentence (namesAtPlaces (now (names .entry)) (now (groups .entry)) (now (kinds .entry)))
+        (record { path = pathOf path; permission = permissionAt (missing .column); kind = missing .kind }))
+        (now (line .entry)) (now (line .exit)) r ⌝ }
+{
     let mut nowhere = [0u8; 0];
     let len = put_sentence(names, groups, kinds, path, missing, &mut nowhere);
     if line.len() < len {
@@ -54,7 +67,12 @@ fn explain_missing(
     table: &[u16],
     components: usize,
     line: &mut [u8],
-) -> Answer {
+) -> Answer
+    requires { ⌜ (components ≤ 32) × Bounded trees ⌝ }
+    ensures { λ r. ⌜ ((policy : List Tree) → AllHeld (now (charter .entry)) (now (nodes .entry)) trees 0 policy
+        → Says (now (names .entry)) (firstUncovered policy (tableRequired (now (table .entry)) components) (tableEntries (now (table .entry)) components))
+        (now (line .entry)) (now (line .exit)) r) ⌝ }
+{
     let mut groups = [0u16; 64];
     let mut kinds = [0u16; 16];
     let read = read_names(names, &mut groups, &mut kinds);
@@ -83,7 +101,12 @@ fn explain_judged(
     table: &[u16],
     judged: Judged,
     line: &mut [u8],
-) -> Answer {
+) -> Answer
+    requires { ⌜ (judged .components ≤ 32) × (11 < judged .fault → Bounded (judged .trees)) ⌝ }
+    ensures { λ r. ⌜ ((sheet : List ℕ) → Reads sheet (now (charter .entry))
+        → Judges sheet (now (charter .entry)) (now (table .entry)) (now (nodes .entry)) judged
+        → Explained sheet (now (charter .entry)) (now (names .entry)) (now (line .entry)) (now (line .exit)) r) ⌝ }
+{
     if 64 <= judged.fault {
         return Answer::Accepted(0);
     }
@@ -102,7 +125,11 @@ fn explain_judged(
 }
 
 // What `check` answers, from the same.
-fn check_judged(table: &[u16], judged: Judged, output: &mut [u8]) -> Answer {
+fn check_judged(table: &[u16], judged: Judged, output: &mut [u8]) -> Answer
+    requires { ⌜ judged .components ≤ 32 ⌝ }
+    ensures { λ r. ⌜ ((sheet charter nodes : List ℕ) → Judges sheet charter (now (table .entry)) nodes judged
+        → Checked sheet charter (now (output .entry)) (now (output .exit)) r) ⌝ }
+{
     if judged.fault < 64 {
         return Answer::Refused(judged.fault);
     }
@@ -118,7 +145,11 @@ fn examine_read(
     nodes: &mut [usize],
     output: &mut [u8],
     line: &mut [u8],
-) -> Examined {
+) -> Examined
+    requires { ⌜ Ready (now sheet) (now charter) (now table) × (length (now nodes) ≡ 320) ⌝ }
+    ensures { λ r. ⌜ ExaminedAs (now (sheet .entry)) (now (charter .entry)) (now (names .entry)) (now (output .entry)) (now (output .exit))
+        (now (line .entry)) (now (line .exit)) r ⌝ }
+{
     let judged = judge_read(sheet, charter, table, nodes);
     Examined {
         checked: check_judged(table, judged, output),
@@ -134,7 +165,10 @@ pub fn examine(
     names: &[u8],
     output: &mut [u8],
     line: &mut [u8],
-) -> Examined {
+) -> Examined
+    ensures { λ r. ⌜ ExaminedAs (now (sheet .entry)) (now (charter .entry)) (now (names .entry)) (now (output .entry)) (now (output .exit))
+        (now (line .entry)) (now (line .exit)) r ⌝ }
+{
     let read = read(sheet, charter);
     let NumberRead::Found(components) = read else {
         let question = refusal(read).question;

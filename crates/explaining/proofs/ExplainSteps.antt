@@ -1,0 +1,169 @@
+-- What each return of the service has to show, over plain values: that its answer and what it leaves in the line are those of the
+-- definition, from what questions 1 to 18 came to and the tables that they left.
+use Prim.Native.Nat.{ℕ, _<_, _≤_}
+use mathlib.Core.Path.{_≡_, refl, sym, ap, ap₂, _∙_}
+use mathlib.Core.List.{List, []}
+use mathlib.Core.Option.{Option, some, none}
+use native.Mathlib.Omega.{arith}
+use lib.ListN.{length, getD}
+use borrow.Author.Needs.{needs}
+use borrow.Author.Tests.{eq-eqb, ne-eqb, lt-ltb, le-ltb}
+use Rattle.reading.specs.Read.{Read, got, refused}
+use Rattle.reading.specs.Syntax.{Sheet}
+use Rattle.reading.proofs.Parts.{never}
+use Rattle.reading.proofs.QuestionLaws.{sheet-question}
+use Rattle.reading.specs.System.{sheetOf}
+use Rattle.reading.specs.Told.{number, countedIn, refusalOf, whyNone, pathOf}
+use Rattle.reading.specs.declared.End.{End}
+use Rattle.reading.specs.declared.End.the-variants as end-case
+use Rattle.reading.specs.declared.NumberRead.{NumberRead}
+use Rattle.reading.specs.declared.NumberRead.the-variants as number-read
+use Rattle.reading.specs.declared.Path.{Path}
+use Rattle.reading.specs.declared.Refusal.{Refusal}
+use Rattle.inference.specs.Interface.{Entry, interface, Required, requiredOf}
+use Rattle.inference.specs.Rows.{pathAt, tableEntries, tableRequired}
+use Rattle.policy.specs.Reading.{readPolicy}
+use Rattle.policy.specs.Syntax.{Tree}
+use Rattle.policy.specs.Loads.{AllHeld, Bounded}
+use Rattle.policy.specs.declared.Trees.{Trees}
+use Rattle.fit.specs.Covers.{permissionAt}
+use Rattle.fit.specs.Uncovered.{Uncovered, firstUncovered}
+use Rattle.fit.specs.Search.{uncoveredAt}
+use Rattle.fit.specs.declared.Missing.{Missing}
+use Rattle.naming.specs.Names.{Names, readNames}
+use Rattle.naming.specs.Sentence.{sentence}
+use Rattle.naming.specs.Told.{ends, namesAtPlaces}
+use Rattle.naming.proofs.SentenceLaws.{sentence-bytes}
+use Rattle.service.specs.Questions.{passed, failed, judged}
+use Rattle.service.specs.Check.{fitting, written}
+use Rattle.service.specs.Told.{told, firstFailed, Reads, Ready, HoldsPolicy, Delivered, Checked, Judges}
+use Rattle.service.specs.declared.Answer.{Answer}
+use Rattle.service.specs.declared.Answer.the-variants as answer-case
+use Rattle.service.specs.declared.Judged.{Judged}
+use Rattle.service.proofs.FirstLaws.{first-passes, first-fails}
+use Rattle.service.proofs.JudgeSteps.{unread-failed, few-ready, all-ready}
+use Rattle.service.proofs.CheckSteps.{unread-refused}
+use Rattle.explaining.specs.Explain.{uncoveredIn, said, explanation, explained}
+use Rattle.explaining.specs.Told.{Says, Explained, ExaminedAs}
+
+-- Question 40, and what is said of an uncovered permission.
+module _ (names groups kinds : List ℕ) (read : End) (is : ends read (namesAtPlaces names groups kinds) ≡ readNames names) where
+  pub names-broken : (u : Option Uncovered) (line : List ℕ) (q w : Refusal) → read ≡ end-case.Refused q → w ≡ whyNone read
+      → Says names u line line (answer-case.Refused (w .question))
+  unfolding said written
+  names-broken u line q w e f = record { answer = rw (← is, f, e) refl; lent = rw (← is, e) refl }
+
+  module _ (k : ℕ) (e : read ≡ end-case.At k) where
+    reads-so : readNames names ≡ got (namesAtPlaces names groups kinds) k
+    reads-so = sym is ∙ ap (λ (r : End). ends r (namesAtPlaces names groups kinds)) e
+
+    -- what the search found
+    module _ (charter nodes : List ℕ) (trees : Trees) (table : List ℕ) (n : ℕ) (m : Missing)
+        (found : (policy : List Tree) → AllHeld charter nodes trees 0 policy
+        → firstUncovered policy (tableRequired table n) (tableEntries table n) ≡ uncoveredAt table m) where
+      pub nothing-said : (line : List ℕ) → 67 ≤ m .column → (policy : List Tree) → AllHeld charter nodes trees 0 policy
+          → Says names (firstUncovered policy (tableRequired table n) (tableEntries table n)) line line (answer-case.Accepted 0)
+      unfolding said written uncoveredAt
+      nothing-said line h policy held = record {
+        answer = rw (found policy held, le-ltb (m .column) 67 h, reads-so) refl;
+        lent = rw (found policy held, le-ltb (m .column) 67 h, reads-so) refl;
+      }
+
+      pub sentence-said : (line line′ : List ℕ) (path : Path) (r : Answer) → m .column < 67 → pathOf path ≡ pathAt table (m .component)
+          → Delivered (sentence (namesAtPlaces names groups kinds) (record { path = pathOf path; permission = permissionAt (m .column); kind = m .kind }))
+          line line′ r
+          → (policy : List Tree) → AllHeld charter nodes trees 0 policy
+          → Says names (firstUncovered policy (tableRequired table n) (tableEntries table n)) line line′ r
+      unfolding said uncoveredAt
+      sentence-said line line′ path r h p d policy held = record {
+        answer = rw (found policy held, lt-ltb (m .column) 67 h, ← p, reads-so) (d .answer);
+        lent = rw (found policy held, lt-ltb (m .column) 67 h, ← p, reads-so)
+            (d .lent (sentence-bytes names (namesAtPlaces names groups kinds) k reads-so _));
+      }
+
+-- From what questions 1 to 18 came to.
+module _ (sheet charter names table nodes : List ℕ) (j : Judged) (line : List ℕ) where
+  pub nothing-explained : 64 ≤ j .fault → Reads sheet charter → Judges sheet charter table nodes j → Explained sheet charter names line line (answer-case.Accepted 0)
+  unfolding explained explanation written
+  nothing-explained h reads judges =
+      let p = first-passes sheet charter (omega (arith, judges .first)) in
+      record { answer = rw (p .passes) refl; lent = rw (p .passes) refl }
+
+  fails : j .fault < 64 → Judges sheet charter table nodes j → judged sheet charter ≡ failed (j .fault)
+  fails h judges = first-fails sheet charter (omega (arith, judges .first)) ∙ ap failed (sym (judges .first))
+
+  pub other-question : j .fault < 64 → (j .fault ≡ 18 → ⊥) → Reads sheet charter → Judges sheet charter table nodes j
+      → Explained sheet charter names line line (answer-case.Refused (j .fault))
+  unfolding explained explanation written
+  other-question h n reads judges =
+      record { answer = rw (fails h judges, ne-eqb (j .fault) 18 n) refl; lent = rw (fails h judges, ne-eqb (j .fault) 18 n) refl }
+
+  -- what the tables require is what the sheet requires
+  requires-so : (reads : Reads sheet charter) → Judges sheet charter table nodes j → tableRequired table (j .components) ≡ requiredOf (reads .tree)
+  unfolding tableRequired requiredOf
+  requires-so reads judges = ap (λ (es : List Entry). record { entries = es }) (judges .held (reads .tree) (reads .end) (reads .reads))
+
+  entries-so : (reads : Reads sheet charter) → Judges sheet charter table nodes j → tableEntries table (j .components) ≡ requiredOf (reads .tree) .entries
+  unfolding requiredOf
+  entries-so reads judges = judges .held (reads .tree) (reads .end) (reads .reads)
+
+  pub eighteen : j .fault ≡ 18 → (line′ : List ℕ) (r : Answer)
+      → ((policy : List Tree) → AllHeld charter nodes (j .trees) 0 policy
+      → Says names (firstUncovered policy (tableRequired table (j .components)) (tableEntries table (j .components))) line line′ r)
+      → Reads sheet charter → Judges sheet charter table nodes j → Explained sheet charter names line line′ r
+  unfolding explained explanation
+  eighteen e line′ r says reads judges = record {
+    answer = rw (fails (omega arith) judges, e, found) (here .answer);
+    lent = rw (fails (omega arith) judges, e, found) (here .lent);
+  }
+    where
+      holds : HoldsPolicy charter nodes (j .trees)
+      holds = judges .trees-held (omega arith)
+
+      here : Says names (firstUncovered (holds .policy) (tableRequired table (j .components)) (tableEntries table (j .components))) line line′ r
+      here = says (holds .policy) (holds .held)
+
+      found : uncoveredIn (sheetOf sheet charter) (readPolicy charter)
+          ≡ firstUncovered (holds .policy) (tableRequired table (j .components)) (tableEntries table (j .components))
+      found = unfold uncoveredIn in rw (reads .reads, holds .reads, requires-so reads judges, entries-so reads judges) refl
+
+-- A sheet that does not read is refused with the reading's question, which is not 18.
+module _ (s c names line : List ℕ) (r : NumberRead) (q w : Refusal) (is : number r ≡ countedIn (sheetOf s c)) (f : r ≡ number-read.Refused q) (h : w ≡ refusalOf r) where
+  early : w .question < 18
+  unfolding countedIn
+  early = go (sheetOf s c) refl is
+    where
+      go : (x : Read Sheet) → sheetOf s c ≡ x → number r ≡ countedIn x → w .question < 18
+      go (got a k) i u = never (ap number (sym f) ∙ u)
+      go (refused p m) i u =
+          let e : refused (q .question) (q .at) ≡ refused p m = ap number (sym f) ∙ u in
+          let v : q .question ≡ p = cc in
+          let t : w .question ≡ q .question = ap (λ (x : Refusal). x .question) (h ∙ ap refusalOf f) in
+          let l = sheet-question s c i in omega (arith, l .last, v, t)
+
+  pub unread-explained : Explained s c names line line (answer-case.Refused (w .question))
+  unfolding explained explanation written
+  unread-explained =
+      let e = unread-failed s c r is q w f h in
+      let n = ne-eqb (w .question) 18 (λ k. absurd (omega (arith, early, k))) in
+      record { answer = rw (e, n) refl; lent = rw (e, n) refl }
+
+-- Both services.
+module _ (sheet charter names table nodes : List ℕ) (j : Judged) where
+  pub trees-bounded : Judges sheet charter table nodes j → 11 < j .fault → Bounded (j .trees)
+  trees-bounded judges h = judges .trees-held h .bounded
+
+  pub examined : (clear output output′ line line′ : List ℕ) (a e : Answer) → Ready sheet charter clear → Judges sheet charter table nodes j
+      → ((s c ns : List ℕ) → Judges s c table ns j → Checked s c output output′ a)
+      → ((s : List ℕ) → Reads s charter → Judges s charter table nodes j → Explained s charter names line line′ e)
+      → ExaminedAs sheet charter names output output′ line line′ (record { checked = a; explained = e })
+  examined clear output output′ line line′ a e ready judges f g =
+      record { checks = f sheet charter nodes judges; explains = g sheet (ready .reads) judges }
+
+pub unread-examined : (s c names output line : List ℕ) (r : NumberRead) (q w : Refusal) → number r ≡ countedIn (sheetOf s c) → r ≡ number-read.Refused q
+    → w ≡ refusalOf r
+    → ExaminedAs s c names output output line line (record { checked = answer-case.Refused (w .question); explained = answer-case.Refused (w .question) })
+unread-examined s c names output line r q w e f h =
+    record { checks = unread-refused s c output r q w e f h; explains = unread-explained s c names line r q w e f h }
+
+pub ruleset explaining = (needs, names-broken, nothing-said, sentence-said, nothing-explained, other-question, eighteen, trees-bounded, examined, unread-examined, few-ready, all-ready)

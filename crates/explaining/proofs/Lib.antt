@@ -1,0 +1,2 @@
+-- The lemmas of the proofs of explaining, and its laws.
+pub mod ExplainSteps
