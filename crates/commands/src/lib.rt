@@ -58,6 +58,7 @@ pub fn print_listing(sheet: &[u8], charter: &[u8], names: &[u8], between: &[u8])
     let mut line = [0u8; 230];
     let examined = examine(sheet, charter, names, &mut output, &mut line);
     let checked = examined.checked;
+    let explained = examined.explained;
     match checked {
         Answer::Accepted(n) => {
             io::write_all(STDOUT_FILENO, b"accepted");
@@ -66,7 +67,7 @@ pub fn print_listing(sheet: &[u8], charter: &[u8], names: &[u8], between: &[u8])
         Answer::Refused(n) => {
             print_refusal(n);
             if n == 18 {
-                print_explanation(examined.explained, &line, between);
+                print_explanation(explained, &line, between);
             }
         }
     }

@@ -11,7 +11,9 @@ use Rattle.service.specs.declared.Answer.{Answer}
 use Rattle.service.specs.declared.Answer.the-variants as answer-case
 use Rattle.running.specs.Play.{played}
 use Rattle.execution.specs.Told.{Played}
-use Rattle.velimhaw.specs.Codes.{codeOf, CheckedAs, PlayedAs}
+use Rattle.explaining.specs.Explain.{explained}
+use Rattle.explaining.specs.Told.{Explained}
+use Rattle.velimhaw.specs.Codes.{codeOf, CheckedAs, PlayedAs, ExplainedAs}
 
 module _ (a : Answer) (n : ℕ) where
   pub accepted-short : a ≡ answer-case.Accepted n → n < 4294967296 → n + 64 ≡ codeOf (told a)
@@ -36,4 +38,7 @@ checked-as sheet charter output output′ a r c e = record { answer = e ∙ ap c
 pub played-as : (sheet charter script log log′ : List ℕ) (a : Answer) (r : ℕ) → Played sheet charter script log log′ a → r ≡ codeOf (told a) → PlayedAs sheet charter script log log′ r
 played-as sheet charter script log log′ a r p e = record { answer = e ∙ ap codeOf (p .answer); lent = p .lent }
 
-pub ruleset code-steps = (needs, accepted-short, accepted-long, refused-small, refused-large, checked-as, played-as)
+pub explained-as : (sheet charter names line line′ : List ℕ) (a : Answer) (r : ℕ) → Explained sheet charter names line line′ a → r ≡ codeOf (told a) → ExplainedAs sheet charter names line line′ r
+explained-as sheet charter names line line′ a r x e = record { answer = e ∙ ap codeOf (x .answer); lent = x .lent }
+
+pub ruleset code-steps = (needs, accepted-short, accepted-long, refused-small, refused-large, checked-as, played-as, explained-as)

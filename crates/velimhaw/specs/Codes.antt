@@ -7,6 +7,7 @@ use lib.Dec.{ltb}
 use Rattle.service.specs.Questions.{Asked, passed, failed}
 use Rattle.service.specs.Check.{checked}
 use Rattle.running.specs.Play.{played}
+use Rattle.explaining.specs.Explain.{explained}
 
 unfoldable pub codeOf : Asked ℕ → ℕ
 codeOf (passed n) = cond (ltb n 4294967296) (n + 64) 63
@@ -19,3 +20,7 @@ pub record CheckedAs (sheet charter output output′ : List ℕ) (r : ℕ) : Typ
 pub record PlayedAs (sheet charter script log log′ : List ℕ) (r : ℕ) : Type 0 where
   pub answer : r ≡ codeOf (played sheet charter script log .answer)
   pub lent : log′ ≡ played sheet charter script log .lent
+
+pub record ExplainedAs (sheet charter names line line′ : List ℕ) (r : ℕ) : Type 0 where
+  pub answer : r ≡ codeOf (explained sheet charter names line .answer)
+  pub lent : line′ ≡ explained sheet charter names line .lent

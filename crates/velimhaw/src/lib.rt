@@ -1,10 +1,11 @@
-// The two services for programs in C and Rust: `rt staticlib velimhaw` writes them into a static library. An answer is one number:
-// below 64 it is the number of the question that failed, from 64 on the call was accepted and the length written, or the number of
-// moves, is 64 less.
+// The services for programs in C and Rust: `rt staticlib velimhaw` writes them into a static library. An answer is one number: below 64
+// it is the number of the question that failed, from 64 on the call was accepted and the length written, or the number of moves, is 64
+// less.
 ghost use mathlib.Core.Path.{_≡_};
 ghost use Rattle.service.specs.Told.{told};
-ghost use Rattle.velimhaw.specs.Codes.{codeOf, CheckedAs, PlayedAs};
+ghost use Rattle.velimhaw.specs.Codes.{codeOf, CheckedAs, PlayedAs, ExplainedAs};
 use execution::play;
+use explaining::explain;
 use service::Answer;
 use service::checking::check;
 
@@ -32,4 +33,18 @@ pub extern "C" fn velimhaw_play(sheet: &[u8], charter: &[u8], script: &[u8], log
     ensures { λ r. ⌜ PlayedAs (now (sheet .entry)) (now (charter .entry)) (now (script .entry)) (now (log .entry)) (now (log .exit)) r ⌝ }
 {
     code(play(sheet, charter, script, log))
+}
+
+// Writes the sentence for the first uncovered permission of a sheet that question 18 refuses into the line; 64 where the sheet passes
+// questions 1 to 18.
+#[no_mangle]
+pub extern "C" fn velimhaw_explain(
+    sheet: &[u8],
+    charter: &[u8],
+    names: &[u8],
+    line: &mut [u8],
+) -> u64
+    ensures { λ r. ⌜ ExplainedAs (now (sheet .entry)) (now (charter .entry)) (now (names .entry)) (now (line .entry)) (now (line .exit)) r ⌝ }
+{
+    code(explain(sheet, charter, names, line))
 }
