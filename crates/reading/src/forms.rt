@@ -16,7 +16,7 @@ ghost use Rattle.reading.specs.Forms.{
   processAt,
   systemAt,
 };
-ghost use Rattle.reading.specs.Told.{NoWider, number, form as told, refusalOf, pathOf};
+ghost use Rattle.reading.specs.Told.{number, form as told, refusalOf, pathOf};
 use crate::Act;
 use crate::Dialect;
 use crate::Form;
@@ -30,7 +30,7 @@ use crate::Refusal;
 use crate::bytes::byte_at;
 use crate::bytes::byte_below;
 use crate::bytes::refusal;
-use crate::dialects::current;
+use crate::dialects::groups;
 use crate::paths;
 use crate::types::type_at_in;
 
@@ -80,7 +80,6 @@ fn bare(form: Form, at: usize, next: usize, room: bool) -> FormRead
 
 // A new name: its type.
 fn new_form(dialect: Dialect, s: &[u8], at: usize, next: usize, room: bool) -> FormRead
-    requires { ⌜ NoWider dialect ⌝ }
     ensures { λ r. ⌜ told r ≡ limited room at (newFormIn dialect (now (s .entry)) next) ⌝ }
 {
     if !room {
@@ -98,7 +97,6 @@ fn new_form(dialect: Dialect, s: &[u8], at: usize, next: usize, room: bool) -> F
 
 // An input: the channel, then the type of the bound name.
 fn input_form(dialect: Dialect, s: &[u8], at: usize, next: usize, room: bool) -> FormRead
-    requires { ⌜ NoWider dialect ⌝ }
     ensures { λ r. ⌜ told r ≡ limited room at (inputFormIn dialect (now (s .entry)) next) ⌝ }
 {
     if !room {
@@ -151,7 +149,7 @@ fn output_form(s: &[u8], at: usize, next: usize, room: bool) -> FormRead
 fn fresh_group(dialect: Dialect, s: &[u8], at: usize, path: Path) -> NumberRead
     ensures { λ r. ⌜ number r ≡ freshGroupIn dialect (now (s .entry)) at (pathOf path) ⌝ }
 {
-    let read = byte_below(s, at, dialect.groups);
+    let read = byte_below(s, at, groups(dialect));
     let NumberRead::Found(group) = read else {
         return read;
     };
@@ -213,7 +211,6 @@ fn component_form(
 
 // What stands at a place of a process, with the permitted nesting that is left and the number of names in scope.
 pub fn process_at_in(dialect: Dialect, s: &[u8], at: usize, nest: usize, names: usize) -> FormRead
-    requires { ⌜ NoWider dialect ⌝ }
     ensures { λ r. ⌜ told r ≡ processAtIn dialect (now (s .entry)) at nest names ⌝ }
 {
     let read = byte_at(s, at);
@@ -245,7 +242,6 @@ pub fn system_at_in(
     path: Path,
     components: usize,
 ) -> FormRead
-    requires { ⌜ NoWider dialect ⌝ }
     ensures { λ r. ⌜ told r ≡ systemAtIn dialect (now (s .entry)) at nest names (pathOf path) components ⌝ }
 {
     let read = byte_at(s, at);
@@ -271,7 +267,7 @@ pub fn system_at_in(
 pub fn process_at(s: &[u8], at: usize, nest: usize, names: usize) -> FormRead
     ensures { λ r. ⌜ told r ≡ processAt (now (s .entry)) at nest names ⌝ }
 {
-    process_at_in(current(), s, at, nest, names)
+    process_at_in(Dialect::Current, s, at, nest, names)
 }
 
 pub fn system_at(
@@ -284,5 +280,5 @@ pub fn system_at(
 ) -> FormRead
     ensures { λ r. ⌜ told r ≡ systemAt (now (s .entry)) at nest names (pathOf path) components ⌝ }
 {
-    system_at_in(current(), s, at, nest, names, path, components)
+    system_at_in(Dialect::Current, s, at, nest, names, path, components)
 }
