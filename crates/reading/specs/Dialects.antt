@@ -1,5 +1,4 @@
--- Dialects of the sheet format: one reader serves them all, and here stands what they differ in. They are the variants of the
--- code's enum.
+-- Dialects of the sheet format, the variants of the code's enum: one reader serves them all, and they differ in what stands here.
 use Prim.Native.Nat.{ℕ}
 use Rattle.reading.specs.declared.Dialect.{Dialect}
 use Rattle.reading.specs.declared.Dialect.the-variants.{Current}
@@ -8,10 +7,8 @@ use Rattle.reading.specs.declared.Dialect.the-variants.{Current}
 abbrev pub current : Dialect
 current = Current
 
--- A group is below this.
 unfoldable pub groupsIn : Dialect → ℕ
 groupsIn Current = 64
 
--- A kind is below this.
 unfoldable pub kindsIn : Dialect → ℕ
 kindsIn Current = 16

@@ -3,7 +3,7 @@ ghost use mathlib.Core.Path.{_≡_};
 ghost use Rattle.reading.specs.Dialects.{groupsIn, kindsIn};
 use crate::Dialect;
 
-// How many groups a dialect has.
+// A group is below this.
 pub fn groups(dialect: Dialect) -> usize
     ensures { λ r. ⌜ r ≡ groupsIn dialect ⌝ }
 {
@@ -12,7 +12,7 @@ pub fn groups(dialect: Dialect) -> usize
     }
 }
 
-// How many kinds a dialect has.
+// A kind is below this.
 pub fn kinds(dialect: Dialect) -> usize
     ensures { λ r. ⌜ r ≡ kindsIn dialect ⌝ }
 {

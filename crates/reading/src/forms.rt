@@ -13,8 +13,6 @@ ghost use Rattle.reading.specs.Forms.{
   componentFormIn,
   processAtIn,
   systemAtIn,
-  processAt,
-  systemAt,
 };
 ghost use Rattle.reading.specs.Told.{number, form as told, refusalOf, pathOf};
 use crate::Act;
@@ -32,7 +30,7 @@ use crate::bytes::byte_below;
 use crate::bytes::refusal;
 use crate::dialects::groups;
 use crate::paths;
-use crate::types::type_at_in;
+use crate::types::type_at;
 
 fn both(a: bool, b: bool) -> bool
     ensures { λ r. ⌜ r ≡ (a && b) ⌝ }
@@ -85,7 +83,7 @@ fn new_form(dialect: Dialect, s: &[u8], at: usize, next: usize, room: bool) -> F
     if !room {
         return too_many(at);
     }
-    let read = type_at_in(dialect, s, next);
+    let read = type_at(dialect, s, next);
     let NumberRead::Found(t) = read else {
         return not_read(read);
     };
@@ -106,7 +104,7 @@ fn input_form(dialect: Dialect, s: &[u8], at: usize, next: usize, room: bool) ->
     let NumberRead::Found(channel) = first else {
         return not_read(first);
     };
-    let second = type_at_in(dialect, s, channel.next);
+    let second = type_at(dialect, s, channel.next);
     let NumberRead::Found(bound) = second else {
         return not_read(second);
     };
@@ -210,7 +208,7 @@ fn component_form(
 }
 
 // What stands at a place of a process, with the permitted nesting that is left and the number of names in scope.
-pub fn process_at_in(dialect: Dialect, s: &[u8], at: usize, nest: usize, names: usize) -> FormRead
+pub fn process_at(dialect: Dialect, s: &[u8], at: usize, nest: usize, names: usize) -> FormRead
     ensures { λ r. ⌜ told r ≡ processAtIn dialect (now (s .entry)) at nest names ⌝ }
 {
     let read = byte_at(s, at);
@@ -233,7 +231,7 @@ pub fn process_at_in(dialect: Dialect, s: &[u8], at: usize, nest: usize, names: 
 }
 
 // What stands at a place of a system; beside a process's limits, the path so far and the number of components so far.
-pub fn system_at_in(
+pub fn system_at(
     dialect: Dialect,
     s: &[u8],
     at: usize,
@@ -261,24 +259,4 @@ pub fn system_at_in(
         4 => component_form(dialect, s, at, next, path, both(deeper, components < 32)),
         _ => no_form(at),
     }
-}
-
-// The same in the current dialect.
-pub fn process_at(s: &[u8], at: usize, nest: usize, names: usize) -> FormRead
-    ensures { λ r. ⌜ told r ≡ processAt (now (s .entry)) at nest names ⌝ }
-{
-    process_at_in(Dialect::Current, s, at, nest, names)
-}
-
-pub fn system_at(
-    s: &[u8],
-    at: usize,
-    nest: usize,
-    names: usize,
-    path: Path,
-    components: usize,
-) -> FormRead
-    ensures { λ r. ⌜ told r ≡ systemAt (now (s .entry)) at nest names (pathOf path) components ⌝ }
-{
-    system_at_in(Dialect::Current, s, at, nest, names, path, components)
 }

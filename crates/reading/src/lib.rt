@@ -7,7 +7,7 @@ pub mod paths;
 pub mod system;
 pub mod types;
 
-// The dialects of the format.
+// The dialects of the format; `dialects` tells what they differ in.
 pub enum Dialect {
     Current,
 }

@@ -22,10 +22,10 @@ use crate::Path;
 use crate::Refusal;
 use crate::bytes::byte_below;
 use crate::bytes::refusal;
-use crate::forms::process_at_in;
-use crate::forms::system_at_in;
+use crate::forms::process_at;
+use crate::forms::system_at;
 use crate::paths;
-use crate::types::type_at_in;
+use crate::types::type_at;
 
 // Why a form was not read.
 fn why(read: FormRead) -> Refusal
@@ -51,7 +51,7 @@ pub fn why_none(end: End) -> Refusal
 pub fn read_process(dialect: Dialect, s: &[u8], at: usize, nest: usize, names: usize) -> End
     ensures { λ r. ⌜ ending r ≡ ended (readProcessIn dialect nest (now (s .entry)) names at) ⌝ }
 {
-    let read = process_at_in(dialect, s, at, nest, names);
+    let read = process_at(dialect, s, at, nest, names);
     let FormRead::Found(place) = read else {
         return End::Refused(why(read));
     };
@@ -109,7 +109,7 @@ pub fn read_system(
 ) -> NumberRead
     ensures { λ r. ⌜ number r ≡ counted components (readSystemIn dialect nest (now (s .entry)) names (pathOf path) components at) ⌝ }
 {
-    let read = system_at_in(dialect, s, at, nest, names, path, components);
+    let read = system_at(dialect, s, at, nest, names, path, components);
     let FormRead::Found(place) = read else {
         return NumberRead::Refused(why(read));
     };
@@ -151,7 +151,7 @@ fn free_types(dialect: Dialect, s: &[u8], at: usize, count: usize) -> End
     let mut next = at;
     let mut left = count;
     while 0 < left {
-        let read = type_at_in(dialect, s, next);
+        let read = type_at(dialect, s, next);
         let NumberRead::Found(t) = read else {
             return End::Refused(refusal(read));
         };

@@ -1,7 +1,7 @@
 // Types: how a stored type is read into a number, and which shape a type has.
 ghost use mathlib.Core.Path.{_≡_};
 ghost use Prim.Native.Nat.{_≤_};
-ghost use Rattle.reading.specs.Types.{shape, groupsThenKindIn, typeAtIn, typeAt};
+ghost use Rattle.reading.specs.Types.{shape, groupsThenKindIn, typeAtIn};
 ghost use Rattle.reading.specs.Told.{number};
 use crate::Dialect;
 use crate::Number;
@@ -48,7 +48,7 @@ fn groups_then_kind(dialect: Dialect, s: &[u8], at: usize, count: usize) -> Numb
 }
 
 // A stored type: the count of groups, the groups, the kind.
-pub fn type_at_in(dialect: Dialect, s: &[u8], at: usize) -> NumberRead
+pub fn type_at(dialect: Dialect, s: &[u8], at: usize) -> NumberRead
     ensures { λ r. ⌜ number r ≡ typeAtIn dialect (now (s .entry)) at ⌝ }
 {
     let read = byte_below(s, at, 5);
@@ -56,11 +56,4 @@ pub fn type_at_in(dialect: Dialect, s: &[u8], at: usize) -> NumberRead
         return read;
     };
     groups_then_kind(dialect, s, count.next, count.value)
-}
-
-// The same in the current dialect.
-pub fn type_at(s: &[u8], at: usize) -> NumberRead
-    ensures { λ r. ⌜ number r ≡ typeAt (now (s .entry)) at ⌝ }
-{
-    type_at_in(Dialect::Current, s, at)
 }

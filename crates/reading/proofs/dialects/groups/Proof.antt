@@ -1,4 +1,4 @@
--- `groups` gives the definition's number. Of one dialect the code tests nothing.
+-- `groups` gives the definition's number. Since there is one dialect, the code tests none.
 use mathlib.Core.Path.{_≡_, refl}
 use borrow.Author.Needs.{needs}
 use Rattle.reading.specs.Dialects.{groupsIn}

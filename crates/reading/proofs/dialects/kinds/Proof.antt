@@ -1,4 +1,4 @@
--- `kinds` gives the definition's number. Of one dialect the code tests nothing.
+-- `kinds` gives the definition's number. Since there is one dialect, the code tests none.
 use mathlib.Core.Path.{_≡_, refl}
 use borrow.Author.Needs.{needs}
 use Rattle.reading.specs.Dialects.{kindsIn}
