@@ -11,6 +11,7 @@ use memory::Thread;
 use memory::chains::name_at;
 use memory::threads::unpack;
 use reading::Act;
+use reading::Dialect;
 use reading::Form;
 use reading::FormRead;
 use reading::forms::process_at;
@@ -57,7 +58,7 @@ fn sends(act: Act, next: usize, t: Thread, cells: &[usize]) -> Prefix
 pub fn prefix_of(s: &[u8], t: Thread, cells: &[usize]) -> Prefix
     ensures { λ r. ⌜ PrefixFound (now (s .entry)) (now (cells .entry)) t r ⌝ }
 {
-    let read = process_at(s, t.at, t.nest, t.names);
+    let read = process_at(Dialect::Current, s, t.at, t.nest, t.names);
     let FormRead::Found(place) = read else {
         return Prefix::Nothing;
     };

@@ -10,6 +10,7 @@ use crate::Spot;
 use crate::SystemWalk;
 use crate::scope::bind;
 use crate::systems::infer_system;
+use reading::Dialect;
 use reading::Number;
 use reading::NumberRead;
 use reading::bytes::byte_below;
@@ -24,7 +25,7 @@ fn load_types(s: &[u8], at: usize, count: usize, scope: &mut [usize]) -> Number
     let mut next = at;
     let mut names: usize = 0;
     while names < count {
-        let read = type_at(s, next);
+        let read = type_at(Dialect::Current, s, next);
         let NumberRead::Found(t) = read else {
             return Number { value: names, next };
         };

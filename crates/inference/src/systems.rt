@@ -18,6 +18,7 @@ use crate::rows::store_path;
 use crate::scope::bind;
 use crate::walks::infer_process;
 use crate::walks::least;
+use reading::Dialect;
 use reading::Form;
 use reading::FormRead;
 use reading::OwnFields;
@@ -85,7 +86,7 @@ pub fn infer_system(
     let at = spot.at;
     let nest = spot.nest;
     let names = spot.names;
-    let read = system_at(s, at, nest, names, path, components);
+    let read = system_at(Dialect::Current, s, at, nest, names, path, components);
     let FormRead::Found(place) = read else {
         return SystemWalk {
             next: at,

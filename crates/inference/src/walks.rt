@@ -24,6 +24,7 @@ use crate::rows::charge_need;
 use crate::scope::bind;
 use crate::scope::type_of;
 use reading::Act;
+use reading::Dialect;
 use reading::Form;
 use reading::FormRead;
 use reading::forms::process_at;
@@ -120,7 +121,7 @@ pub fn infer_process(
     let at = spot.at;
     let nest = spot.nest;
     let names = spot.names;
-    let read = process_at(s, at, nest, names);
+    let read = process_at(Dialect::Current, s, at, nest, names);
     let FormRead::Found(place) = read else {
         return Walk {
             next: at,

@@ -9,7 +9,7 @@ use native.Mathlib.Omega.{arith}
 use lib.ListN.{length, getD, replicate, length-append, length-replicate, getD-replicate, List·getD-append, List·getD-eq-default}
 use lib.Seq.{getD-append-seam}
 use lib.Dec.{eqb}
-use Rattle.reading.specs.Dialects.{current}
+use Rattle.reading.specs.Dialects.{current, groupsIn}
 use borrow.Author.Tests.{eqb-false, ne-eqb}
 use Rattle.reading.specs.Read.{Read, got, refused, andThen, byteAt, below}
 use Rattle.reading.specs.Types.{typeAt}
@@ -127,7 +127,7 @@ GroupNew path (Output a) = Unit {0}
 GroupNew path Replicate = Unit {0}
 
 fresh-new : (s : List ℕ) (at : ℕ) (path : List ℕ) → Every (NewTo path) (freshGroupIn current s at path)
-unfolding Every freshGroupIn current
+unfolding Every freshGroupIn groupsIn
 fresh-new s at path = every-then (NewTo path) (below 64 s at) _ (λ g next e. go g next (below-found 64 s at e) (member g path) refl)
   where
     go : (g next : ℕ) → g < 64 → (b : Bool) → member g path ≡ b → Every (NewTo path) (cond b (refused 6 at) (got g next))

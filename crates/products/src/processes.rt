@@ -13,6 +13,7 @@ use crate::giving::give;
 use crate::giving::last_cell;
 use crate::giving::make_thread;
 use memory::Thread;
+use reading::Dialect;
 use reading::Form;
 use reading::FormRead;
 use reading::forms::process_at;
@@ -30,7 +31,7 @@ pub fn make_process(
         → Makes (now (s .entry)) t (processTree (t .nest) (now (s .entry)) (t .names) (t .at)) sizes
         (now (made .entry)) (now (made .exit)) (now (types .entry)) (now (types .exit)) (now (cells .entry)) (now (cells .exit)) r) ⌝ }
 {
-    let read = process_at(s, t.at, t.nest, t.names);
+    let read = process_at(Dialect::Current, s, t.at, t.nest, t.names);
     let FormRead::Found(place) = read else {
         return Made { next: t.at, sizes };
     };

@@ -1,6 +1,7 @@
 // The place after a process. The walk recurses over nested forms, the permitted nesting falling at each call.
 ghost use mathlib.Core.Path.{_≡_};
 ghost use Rattle.reading.specs.Total.{processTree};
+use reading::Dialect;
 use reading::Form;
 use reading::FormRead;
 use reading::forms::process_at;
@@ -8,7 +9,7 @@ use reading::forms::process_at;
 pub fn skip(s: &[u8], at: usize, nest: usize, names: usize) -> usize
     ensures { λ r. ⌜ r ≡ processTree nest (now (s .entry)) names at .next ⌝ }
 {
-    let read = process_at(s, at, nest, names);
+    let read = process_at(Dialect::Current, s, at, nest, names);
     let FormRead::Found(place) = read else {
         return at;
     };

@@ -13,6 +13,7 @@ use crate::giving::give;
 use crate::systems::make_system;
 use memory::Thread;
 use memory::names::know;
+use reading::Dialect;
 use reading::Number;
 use reading::NumberRead;
 use reading::bytes::byte_below;
@@ -55,7 +56,7 @@ fn give_types(s: &[u8], at: usize, count: usize, types: &mut [usize], cells: &mu
     };
     let mut given: usize = 0;
     while given < count {
-        let read = type_at(s, next);
+        let read = type_at(Dialect::Current, s, next);
         let NumberRead::Found(t) = read else {
             return Made { next, sizes };
         };

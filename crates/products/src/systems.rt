@@ -15,6 +15,7 @@ use crate::giving::give;
 use crate::giving::last_cell;
 use crate::processes::make_process;
 use memory::Thread;
+use reading::Dialect;
 use reading::Form;
 use reading::FormRead;
 use reading::Path;
@@ -35,7 +36,15 @@ pub fn make_system(
         → MakesSystem (now (s .entry)) t (systemTree (t .nest) (now (s .entry)) (t .names) (pathOf path) (t .component) (t .at)) sizes
         (now (made .entry)) (now (made .exit)) (now (types .entry)) (now (types .exit)) (now (cells .entry)) (now (cells .exit)) r) ⌝ }
 {
-    let read = system_at(s, t.at, t.nest, t.names, path, t.component);
+    let read = system_at(
+        Dialect::Current,
+        s,
+        t.at,
+        t.nest,
+        t.names,
+        path,
+        t.component,
+    );
     let FormRead::Found(place) = read else {
         return MadeSystem {
             next: t.at,

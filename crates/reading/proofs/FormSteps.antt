@@ -5,8 +5,9 @@ use mathlib.Core.List.{List}
 use mathlib.Core.Path.{_≡_}
 use borrow.Author.Tests.{ne-eqb}
 use Rattle.reading.proofs.Steps.{steps}
-use Rattle.reading.specs.Read.{Read, got, refused}
-use Rattle.reading.specs.Forms.{limited, newFormIn, inputFormIn, outputForm, groupFormIn, componentFormIn, processFormIn, systemFormIn}
+use Rattle.reading.specs.Dialects.{groupsIn}
+use Rattle.reading.specs.Read.{Read, got, refused, andThen, below}
+use Rattle.reading.specs.Forms.{member, limited, freshGroupIn, newFormIn, inputFormIn, outputForm, groupFormIn, componentFormIn, processFormIn, systemFormIn}
 use Rattle.reading.specs.declared.Dialect.{Dialect}
 use Rattle.reading.specs.declared.Form.{Form}
 use Rattle.reading.specs.declared.Form.the-variants.{Nil, Par, Replicate}
@@ -19,6 +20,14 @@ pub flag-false : {A : Type 0} {y : A} (b m : Bool) (x z : A) → b ≡ m → b �
 flag-false b m x z e h p = rw (← e, h) p
 
 pub ruleset flag-steps = (steps, flag-true, flag-false)
+
+-- A group new to the path: `n` is the code's number of groups.
+pub fresh-below : (d : Dialect) {y : Read ℕ} (n : ℕ) (s : List ℕ) (at : ℕ) (path : List ℕ) → n ≡ groupsIn d
+    → y ≡ andThen (below n s at) (λ g next. cond (member g path) (refused 6 at) (got g next)) → y ≡ freshGroupIn d s at path
+unfolding freshGroupIn
+fresh-below d n s at path e h = rw e at h
+
+pub ruleset fresh-steps = (flag-steps, fresh-below)
 
 -- Processes: `b` is the code's flag for a form that binds a name.
 module _ (d : Dialect) (s : List ℕ) (at next : ℕ) (level binder : Bool) (code : ℕ) where

@@ -11,7 +11,6 @@ pub mod TreeLaws
 pub mod ProcessSteps
 pub mod SystemSteps
 pub mod SheetSteps
-pub mod CurrentSteps
 pub mod Local
 pub mod ReadLaws
 pub mod TotalLaws

@@ -7,7 +7,7 @@ use mathlib.Core.Path.{_≡_}
 use native.Mathlib.Omega.{arith}
 use lib.Dec.{ltb, leb, eqb}
 use lib.ListN.{length}
-use Rattle.reading.specs.Dialects.{current}
+use Rattle.reading.specs.Dialects.{current, groupsIn, kindsIn}
 use Rattle.reading.specs.Read.{Read, got, refused, andThen, byteAt, below}
 use Rattle.reading.specs.Types.{channel, groupsThenKindIn, typeAtIn}
 use Rattle.reading.specs.Syntax.{Process, System, components}
@@ -60,8 +60,8 @@ asks-below n s at = asks-then _ (asks-byte s at) (λ b k. asks-cond (ltb b n) as
 
 asks-groups : (d : Dialect) (n : ℕ) (s : List ℕ) (at : ℕ) → Asks (groupsThenKindIn d n s at)
 unfolding groupsThenKindIn
-asks-groups d zero s at = asks-below (d .kinds) s at
-asks-groups d (suc n) s at = asks-then _ (asks-below (d .groups) s at) (λ g k. asks-map (channel g) (asks-groups d n s k))
+asks-groups d zero s at = asks-below (kindsIn d) s at
+asks-groups d (suc n) s at = asks-then _ (asks-below (groupsIn d) s at) (λ g k. asks-map (channel g) (asks-groups d n s k))
 
 asks-type : (d : Dialect) (s : List ℕ) (at : ℕ) → Asks (typeAtIn d s at)
 unfolding typeAtIn
@@ -83,7 +83,7 @@ asks-output s at = asks-then _ (asks-byte s at) (λ x k. asks-map (λ y. Output 
 asks-fresh : (d : Dialect) (s : List ℕ) (at : ℕ) (path : List ℕ) → Asks (freshGroupIn d s at path)
 unfolding freshGroupIn
 asks-fresh d s at path =
-    asks-then _ (asks-below (d .groups) s at) (λ g k. asks-cond (member g path) (asks-early 6 at (omega arith) (omega arith)) asks-got)
+    asks-then _ (asks-below (groupsIn d) s at) (λ g k. asks-cond (member g path) (asks-early 6 at (omega arith) (omega arith)) asks-got)
 
 asks-process-form : (d : Dialect) (s : List ℕ) (at next : ℕ) (level binder : Bool) (code : ℕ) → Asks (processFormIn d s at next level binder code)
 unfolding processFormIn

@@ -12,7 +12,7 @@ use lib.Seq.{getD-take}
 use Rattle.reading.proofs.FormLaws.{FitsProcess, FitsSystem, process-room, process-level, system-room, system-level}
 use Rattle.reading.proofs.Local.{agree-before, ends, Local, same-bytes, same-refusal, from-earlier, got-local, refused-local, cond-local, limited-local, then-local}
 use Rattle.reading.proofs.Parts.{never, parts, passed, byte-found}
-use Rattle.reading.specs.Dialects.{current}
+use Rattle.reading.specs.Dialects.{current, groupsIn, kindsIn}
 use Rattle.reading.specs.Read.{Read, got, refused, andThen, byteAt, below}
 use Rattle.reading.specs.Types.{channel, groupsThenKindIn, typeAtIn}
 use Rattle.reading.specs.Syntax.{Process, nil, par, new, input, output, repl, System, nilₛ, parₛ, groupₛ, newₛ, compₛ, Sheet, components}
@@ -70,8 +70,8 @@ below-local n at = then-local _ _ (byte-local at) (λ s b next e.
 
 pub groups-local : (d : Dialect) (n at : ℕ) → Local (at + 1) (λ s. groupsThenKindIn d n s at)
 unfolding groupsThenKindIn
-groups-local d zero at = below-local (d .kinds) at
-groups-local d (suc n) at = then-local _ _ (below-local (d .groups) at) (λ s g next e.
+groups-local d zero at = below-local (kindsIn d) at
+groups-local d (suc n) at = then-local _ _ (below-local (groupsIn d) at) (λ s g next e.
     then-local _ _ (from-earlier (omega arith) (groups-local d n next)) (λ s′ t m f. got-local (channel g t) m (omega arith)))
 
 pub type-local : (d : Dialect) (at : ℕ) → Local (at + 1) (λ s. typeAtIn d s at)
@@ -95,8 +95,8 @@ output-local at = then-local _ _ (byte-local at) (λ s x next e.
 
 pub fresh-local : (d : Dialect) (at : ℕ) (path : List ℕ) → Local (at + 1) (λ s. freshGroupIn d s at path)
 unfolding freshGroupIn
-fresh-local d at path = then-local _ _ (below-local (d .groups) at) (λ s g next e.
-    let h = below-place (d .groups) s at e in
+fresh-local d at path = then-local _ _ (below-local (groupsIn d) at) (λ s g next e.
+    let h = below-place (groupsIn d) s at e in
     cond-local (member g path) _ _ (refused-local 6 at (omega arith)) (got-local g next (omega arith)))
 
 pub group-local : (d : Dialect) (at : ℕ) (path : List ℕ) → Local (at + 1) (λ s. groupFormIn d s at path)

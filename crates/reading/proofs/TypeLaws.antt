@@ -8,10 +8,11 @@ use native.Mathlib.Omega.{arith}
 use borrow.Author.Tests.{ltb-false, lt-ltb, le-ltb}
 use lib.Dec.{ltb, lit<}
 use Rattle.reading.proofs.Parts.{parts, below-found}
-use Rattle.reading.specs.Told.{NoWider}
+use Rattle.reading.specs.Dialects.{groupsIn, kindsIn}
 use Rattle.reading.specs.Read.{got, andThen, below}
 use Rattle.reading.specs.Types.{channel, numberOf, shape, groupsThenKindIn, typeAtIn}
 use Rattle.reading.specs.declared.Dialect.{Dialect}
+use Rattle.reading.specs.declared.Dialect.the-variants.{Current}
 use Rattle.reading.specs.declared.Shape.the-variants.{Plain, Channel}
 
 -- Every number is the number of its shape.
@@ -43,22 +44,31 @@ pub carried-less : (g t : ℕ) → t < channel g t
 unfolding channel
 carried-less g t = omega arith
 
+-- No dialect has a group or a kind but those that types are numbered for.
+pub groups-64 : (d : Dialect) → groupsIn d ≤ 64
+unfolding groupsIn
+groups-64 Current = omega arith
+
+pub kinds-16 : (d : Dialect) → kindsIn d ≤ 16
+unfolding kindsIn
+kinds-16 Current = omega arith
+
 -- A type read with n groups.
-pub type-bound : (d : Dialect) → NoWider d → (n : ℕ) (s : List ℕ) (at : ℕ) {t m : ℕ} → groupsThenKindIn d n s at ≡ got t m → t + 2 ≤ 17 * 64 ^ n
+pub type-bound : (d : Dialect) (n : ℕ) (s : List ℕ) (at : ℕ) {t m : ℕ} → groupsThenKindIn d n s at ≡ got t m → t + 2 ≤ 17 * 64 ^ n
 unfolding groupsThenKindIn channel
-type-bound d w zero s at e = let h = below-found (d .kinds) s at e in omega (arith, w .kinds)
-type-bound d w (suc n) s at {t} e =
-    let h = parts (below (d .groups) s at) (λ g next. andThen (groupsThenKindIn d n s next) (λ u m. got (channel g u) m)) e in
+type-bound d zero s at e = let h = below-found (kindsIn d) s at e in omega (arith, kinds-16 d)
+type-bound d (suc n) s at {t} e =
+    let h = parts (below (groupsIn d) s at) (λ g next. andThen (groupsThenKindIn d n s next) (λ u m. got (channel g u) m)) e in
     let i = parts (groupsThenKindIn d n s (h .place)) (λ u m. got (channel (h .value) u) m) (h .rest) in
     let v : 16 + (i .value * 64 + h .value) ≡ t = cc in
-    omega (arith, w .groups, below-found (d .groups) s at (h .first), type-bound d w n s (h .place) (i .first))
+    omega (arith, groups-64 d, below-found (groupsIn d) s at (h .first), type-bound d n s (h .place) (i .first))
 
 -- A stored type has at most four groups, so its number fits.
-pub few-groups : (d : Dialect) → NoWider d → (n : ℕ) (s : List ℕ) (at : ℕ) {t m : ℕ} → n ≤ 4 → groupsThenKindIn d n s at ≡ got t m → t < 17 * 64 ^ 4
-few-groups d w n s at h e = let p : 64 ^ n ≤ 64 ^ 4 = pow-le-pow-right (lit< tt) h in omega (arith, type-bound d w n s at e)
+pub few-groups : (d : Dialect) (n : ℕ) (s : List ℕ) (at : ℕ) {t m : ℕ} → n ≤ 4 → groupsThenKindIn d n s at ≡ got t m → t < 17 * 64 ^ 4
+few-groups d n s at h e = let p : 64 ^ n ≤ 64 ^ 4 = pow-le-pow-right (lit< tt) h in omega (arith, type-bound d n s at e)
 
-pub type-fits : (d : Dialect) → NoWider d → (s : List ℕ) (at : ℕ) {t m : ℕ} → typeAtIn d s at ≡ got t m → t < 17 * 64 ^ 4
+pub type-fits : (d : Dialect) (s : List ℕ) (at : ℕ) {t m : ℕ} → typeAtIn d s at ≡ got t m → t < 17 * 64 ^ 4
 unfolding typeAtIn
-type-fits d w s at e =
+type-fits d s at e =
     let h = parts (below 5 s at) (λ n next. groupsThenKindIn d n s next) e in
-    few-groups d w (h .value) s (h .place) (omega (arith, below-found 5 s at (h .first))) (h .rest)
+    few-groups d (h .value) s (h .place) (omega (arith, below-found 5 s at (h .first))) (h .rest)

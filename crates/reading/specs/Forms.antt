@@ -6,7 +6,7 @@ use mathlib.Core.Bool.{Bool, true, false, cond, _&&_, _||_}
 use lib.ListN.{length}
 use lib.Dec.{ltb, eqb}
 use Rattle.reading.specs.Read.{Read, got, refused, andThen, byteAt, below}
-use Rattle.reading.specs.Dialects.{current}
+use Rattle.reading.specs.Dialects.{current, groupsIn}
 use Rattle.reading.specs.Types.{typeAtIn}
 use Rattle.reading.specs.declared.Dialect.{Dialect}
 use Rattle.reading.specs.declared.Form.{Form}
@@ -39,7 +39,7 @@ outputForm s at =
 
 -- Question 6: "group new to its path?"
 unfoldable pub freshGroupIn : Dialect → List ℕ → ℕ → List ℕ → Read ℕ
-freshGroupIn d s at path = andThen (below (d .groups) s at) (λ g next. cond (member g path) (refused 6 at) (got g next))
+freshGroupIn d s at path = andThen (below (groupsIn d) s at) (λ g next. cond (member g path) (refused 6 at) (got g next))
 
 -- "group"
 unfoldable pub groupFormIn : Dialect → List ℕ → ℕ → List ℕ → Read Form

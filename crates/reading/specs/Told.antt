@@ -1,11 +1,9 @@
--- Which number and values of document 01 each case of an answer of the code is, which path a `Path` is, and which dialects the code
--- reads.
-use Prim.Native.Nat.{ℕ, _+_, _≤_}
+-- Which number and values of document 01 each case of an answer of the code is, and which path a `Path` is.
+use Prim.Native.Nat.{ℕ, _+_}
 use mathlib.Core.List.{List}
 use lib.ListN.{take}
 use Rattle.reading.specs.Read.{Read, got, refused}
 use Rattle.reading.specs.Syntax.{System, Sheet, components}
-use Rattle.reading.specs.declared.Dialect.{Dialect}
 use Rattle.reading.specs.declared.Form.{Form}
 use Rattle.reading.specs.declared.Path.{Path}
 use Rattle.reading.specs.declared.Refusal.{Refusal}
@@ -61,8 +59,3 @@ whyOf (form-read.Refused r) = r
 
 abbrev pub pathOf : Path → List ℕ
 pathOf p = take (p .len) (p .groups)
-
--- A dialect with no group or kind but those that types are numbered for (Types.antt): what the code asks of one.
-pub record NoWider (d : Dialect) : Type 0 where
-  pub groups : d .groups ≤ 64
-  pub kinds : d .kinds ≤ 16

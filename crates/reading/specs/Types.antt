@@ -6,7 +6,7 @@ use mathlib.Core.List.{List}
 use mathlib.Core.Bool.{cond}
 use lib.Dec.{ltb}
 use Rattle.reading.specs.Read.{Read, got, andThen, below}
-use Rattle.reading.specs.Dialects.{current}
+use Rattle.reading.specs.Dialects.{current, groupsIn, kindsIn}
 use Rattle.reading.specs.declared.Dialect.{Dialect}
 use Rattle.reading.specs.declared.Shape.{Shape}
 use Rattle.reading.specs.declared.Shape.the-variants.{Plain, Channel}
@@ -26,9 +26,9 @@ shape t = cond (ltb t 16) (Plain t) (Channel ((t - 16) % 64) ((t - 16) / 64))
 
 -- "the groups with the outermost first, the kind"
 unfoldable pub groupsThenKindIn : Dialect → ℕ → List ℕ → ℕ → Read ℕ
-groupsThenKindIn d zero s at = below (d .kinds) s at
+groupsThenKindIn d zero s at = below (kindsIn d) s at
 groupsThenKindIn d (suc n) s at =
-    andThen (below (d .groups) s at) (λ g next. andThen (groupsThenKindIn d n s next) (λ t m. got (channel g t) m))
+    andThen (below (groupsIn d) s at) (λ g next. andThen (groupsThenKindIn d n s next) (λ t m. got (channel g t) m))
 
 -- "Stored: the count of groups (0 to 4), the groups with the outermost first, the kind."
 unfoldable pub typeAtIn : Dialect → List ℕ → ℕ → Read ℕ

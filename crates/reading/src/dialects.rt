@@ -1,14 +1,22 @@
-// The dialects of the format that the reader is asked for.
+// What the dialects of the format differ in.
 ghost use mathlib.Core.Path.{_≡_};
-ghost use Rattle.reading.specs.Dialects.{current as today};
+ghost use Rattle.reading.specs.Dialects.{groupsIn, kindsIn};
 use crate::Dialect;
 
-// Document 01's dialect: a group is 0 to 63, a kind 0 to 15.
-pub fn current() -> Dialect
-    ensures { λ r. ⌜ r ≡ today ⌝ }
+// A group is below this.
+pub fn groups(dialect: Dialect) -> usize
+    ensures { λ r. ⌜ r ≡ groupsIn dialect ⌝ }
 {
-    Dialect {
-        groups: 64,
-        kinds: 16,
+    match dialect {
+        Dialect::Current => 64,
+    }
+}
+
+// A kind is below this.
+pub fn kinds(dialect: Dialect) -> usize
+    ensures { λ r. ⌜ r ≡ kindsIn dialect ⌝ }
+{
+    match dialect {
+        Dialect::Current => 16,
     }
 }

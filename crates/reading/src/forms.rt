@@ -13,10 +13,8 @@ ghost use Rattle.reading.specs.Forms.{
   componentFormIn,
   processAtIn,
   systemAtIn,
-  processAt,
-  systemAt,
 };
-ghost use Rattle.reading.specs.Told.{NoWider, number, form as told, refusalOf, pathOf};
+ghost use Rattle.reading.specs.Told.{number, form as told, refusalOf, pathOf};
 use crate::Act;
 use crate::Dialect;
 use crate::Form;
@@ -30,9 +28,9 @@ use crate::Refusal;
 use crate::bytes::byte_at;
 use crate::bytes::byte_below;
 use crate::bytes::refusal;
-use crate::dialects::current;
+use crate::dialects::groups;
 use crate::paths;
-use crate::types::type_at_in;
+use crate::types::type_at;
 
 fn both(a: bool, b: bool) -> bool
     ensures { λ r. ⌜ r ≡ (a && b) ⌝ }
@@ -80,13 +78,12 @@ fn bare(form: Form, at: usize, next: usize, room: bool) -> FormRead
 
 // A new name: its type.
 fn new_form(dialect: Dialect, s: &[u8], at: usize, next: usize, room: bool) -> FormRead
-    requires { ⌜ NoWider dialect ⌝ }
     ensures { λ r. ⌜ told r ≡ limited room at (newFormIn dialect (now (s .entry)) next) ⌝ }
 {
     if !room {
         return too_many(at);
     }
-    let read = type_at_in(dialect, s, next);
+    let read = type_at(dialect, s, next);
     let NumberRead::Found(t) = read else {
         return not_read(read);
     };
@@ -98,7 +95,6 @@ fn new_form(dialect: Dialect, s: &[u8], at: usize, next: usize, room: bool) -> F
 
 // An input: the channel, then the type of the bound name.
 fn input_form(dialect: Dialect, s: &[u8], at: usize, next: usize, room: bool) -> FormRead
-    requires { ⌜ NoWider dialect ⌝ }
     ensures { λ r. ⌜ told r ≡ limited room at (inputFormIn dialect (now (s .entry)) next) ⌝ }
 {
     if !room {
@@ -108,7 +104,7 @@ fn input_form(dialect: Dialect, s: &[u8], at: usize, next: usize, room: bool) ->
     let NumberRead::Found(channel) = first else {
         return not_read(first);
     };
-    let second = type_at_in(dialect, s, channel.next);
+    let second = type_at(dialect, s, channel.next);
     let NumberRead::Found(bound) = second else {
         return not_read(second);
     };
@@ -151,7 +147,7 @@ fn output_form(s: &[u8], at: usize, next: usize, room: bool) -> FormRead
 fn fresh_group(dialect: Dialect, s: &[u8], at: usize, path: Path) -> NumberRead
     ensures { λ r. ⌜ number r ≡ freshGroupIn dialect (now (s .entry)) at (pathOf path) ⌝ }
 {
-    let read = byte_below(s, at, dialect.groups);
+    let read = byte_below(s, at, groups(dialect));
     let NumberRead::Found(group) = read else {
         return read;
     };
@@ -212,8 +208,7 @@ fn component_form(
 }
 
 // What stands at a place of a process, with the permitted nesting that is left and the number of names in scope.
-pub fn process_at_in(dialect: Dialect, s: &[u8], at: usize, nest: usize, names: usize) -> FormRead
-    requires { ⌜ NoWider dialect ⌝ }
+pub fn process_at(dialect: Dialect, s: &[u8], at: usize, nest: usize, names: usize) -> FormRead
     ensures { λ r. ⌜ told r ≡ processAtIn dialect (now (s .entry)) at nest names ⌝ }
 {
     let read = byte_at(s, at);
@@ -236,7 +231,7 @@ pub fn process_at_in(dialect: Dialect, s: &[u8], at: usize, nest: usize, names: 
 }
 
 // What stands at a place of a system; beside a process's limits, the path so far and the number of components so far.
-pub fn system_at_in(
+pub fn system_at(
     dialect: Dialect,
     s: &[u8],
     at: usize,
@@ -245,7 +240,6 @@ pub fn system_at_in(
     path: Path,
     components: usize,
 ) -> FormRead
-    requires { ⌜ NoWider dialect ⌝ }
     ensures { λ r. ⌜ told r ≡ systemAtIn dialect (now (s .entry)) at nest names (pathOf path) components ⌝ }
 {
     let read = byte_at(s, at);
@@ -265,24 +259,4 @@ pub fn system_at_in(
         4 => component_form(dialect, s, at, next, path, both(deeper, components < 32)),
         _ => no_form(at),
     }
-}
-
-// The same in the current dialect.
-pub fn process_at(s: &[u8], at: usize, nest: usize, names: usize) -> FormRead
-    ensures { λ r. ⌜ told r ≡ processAt (now (s .entry)) at nest names ⌝ }
-{
-    process_at_in(current(), s, at, nest, names)
-}
-
-pub fn system_at(
-    s: &[u8],
-    at: usize,
-    nest: usize,
-    names: usize,
-    path: Path,
-    components: usize,
-) -> FormRead
-    ensures { λ r. ⌜ told r ≡ systemAt (now (s .entry)) at nest names (pathOf path) components ⌝ }
-{
-    system_at_in(current(), s, at, nest, names, path, components)
 }

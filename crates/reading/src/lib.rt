@@ -7,10 +7,9 @@ pub mod paths;
 pub mod system;
 pub mod types;
 
-// A dialect of the format: a group is below `groups`, a kind below `kinds`.
-pub struct Dialect {
-    pub groups: usize,
-    pub kinds: usize,
+// The dialects of the format; `dialects` tells what they differ in.
+pub enum Dialect {
+    Current,
 }
 
 // Why a reading stops: the number of the question that fails, and the place of the byte at which it fails.

@@ -11,7 +11,7 @@ ghost use Rattle.reading.specs.System.{
   sheetOf,
 };
 ghost use Rattle.reading.specs.declared.OwnFields.{OwnFields};
-ghost use Rattle.reading.specs.Told.{NoWider, number, ending, ended, counted, countedIn, whyNone, whyOf, pathOf};
+ghost use Rattle.reading.specs.Told.{number, ending, ended, counted, countedIn, whyNone, whyOf, pathOf};
 use crate::Dialect;
 use crate::End;
 use crate::Form;
@@ -22,11 +22,10 @@ use crate::Path;
 use crate::Refusal;
 use crate::bytes::byte_below;
 use crate::bytes::refusal;
-use crate::dialects::current;
-use crate::forms::process_at_in;
-use crate::forms::system_at_in;
+use crate::forms::process_at;
+use crate::forms::system_at;
 use crate::paths;
-use crate::types::type_at_in;
+use crate::types::type_at;
 
 // Why a form was not read.
 fn why(read: FormRead) -> Refusal
@@ -50,10 +49,9 @@ pub fn why_none(end: End) -> Refusal
 
 // Reads past a process. The permitted nesting falls at each call.
 pub fn read_process(dialect: Dialect, s: &[u8], at: usize, nest: usize, names: usize) -> End
-    requires { ⌜ NoWider dialect ⌝ }
     ensures { λ r. ⌜ ending r ≡ ended (readProcessIn dialect nest (now (s .entry)) names at) ⌝ }
 {
-    let read = process_at_in(dialect, s, at, nest, names);
+    let read = process_at(dialect, s, at, nest, names);
     let FormRead::Found(place) = read else {
         return End::Refused(why(read));
     };
@@ -86,7 +84,7 @@ fn read_component(
     names: usize,
     components: usize,
 ) -> NumberRead
-    requires { ⌜ NoWider dialect × (components < 32) ⌝ }
+    requires { ⌜ components < 32 ⌝ }
     ensures { λ r. ⌜ ((own : OwnFields) → number r ≡ counted components (component own (readProcessIn dialect nest (now (s .entry)) names at))) ⌝ }
 {
     let end = read_process(dialect, s, at, nest, names);
@@ -109,10 +107,9 @@ pub fn read_system(
     path: Path,
     components: usize,
 ) -> NumberRead
-    requires { ⌜ NoWider dialect ⌝ }
     ensures { λ r. ⌜ number r ≡ counted components (readSystemIn dialect nest (now (s .entry)) names (pathOf path) components at) ⌝ }
 {
-    let read = system_at_in(dialect, s, at, nest, names, path, components);
+    let read = system_at(dialect, s, at, nest, names, path, components);
     let FormRead::Found(place) = read else {
         return NumberRead::Refused(why(read));
     };
@@ -149,13 +146,12 @@ pub fn read_system(
 
 // Reads past `count` stored types.
 fn free_types(dialect: Dialect, s: &[u8], at: usize, count: usize) -> End
-    requires { ⌜ NoWider dialect ⌝ }
     ensures { λ r. ⌜ ending r ≡ ended (freeTypesIn dialect count (now (s .entry)) at) ⌝ }
 {
     let mut next = at;
     let mut left = count;
     while 0 < left {
-        let read = type_at_in(dialect, s, next);
+        let read = type_at(dialect, s, next);
         let NumberRead::Found(t) = read else {
             return End::Refused(refusal(read));
         };
@@ -167,7 +163,6 @@ fn free_types(dialect: Dialect, s: &[u8], at: usize, count: usize) -> End
 
 // Questions 2 to 6. The number found is that of the components.
 fn read_sheet(dialect: Dialect, s: &[u8]) -> NumberRead
-    requires { ⌜ NoWider dialect ⌝ }
     ensures { λ r. ⌜ number r ≡ countedIn (readSheetIn dialect (now (s .entry))) ⌝ }
 {
     let count = byte_below(s, 0, 33);
@@ -194,7 +189,6 @@ fn read_sheet(dialect: Dialect, s: &[u8]) -> NumberRead
 
 // Questions 1 to 6 of document 01, for a sheet and a charter of any bytes. The number found is that of the sheet's components.
 pub fn read_in(dialect: Dialect, sheet: &[u8], charter: &[u8]) -> NumberRead
-    requires { ⌜ NoWider dialect ⌝ }
     ensures { λ r. ⌜ number r ≡ countedIn (sheetOfIn dialect (now (sheet .entry)) (now (charter .entry))) ⌝ }
 {
     if 4096 < sheet.len() {
@@ -216,5 +210,5 @@ pub fn read_in(dialect: Dialect, sheet: &[u8], charter: &[u8]) -> NumberRead
 pub fn read(sheet: &[u8], charter: &[u8]) -> NumberRead
     ensures { λ r. ⌜ number r ≡ countedIn (sheetOf (now (sheet .entry)) (now (charter .entry))) ⌝ }
 {
-    read_in(current(), sheet, charter)
+    read_in(Dialect::Current, sheet, charter)
 }

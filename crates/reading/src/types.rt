@@ -1,14 +1,15 @@
 // Types: how a stored type is read into a number, and which shape a type has.
 ghost use mathlib.Core.Path.{_≡_};
 ghost use Prim.Native.Nat.{_≤_};
-ghost use Rattle.reading.specs.Types.{shape, groupsThenKindIn, typeAtIn, typeAt};
-ghost use Rattle.reading.specs.Told.{NoWider, number};
+ghost use Rattle.reading.specs.Types.{shape, groupsThenKindIn, typeAtIn};
+ghost use Rattle.reading.specs.Told.{number};
 use crate::Dialect;
 use crate::Number;
 use crate::NumberRead;
 use crate::Shape;
 use crate::bytes::byte_below;
-use crate::dialects::current;
+use crate::dialects::groups;
+use crate::dialects::kinds;
 
 // The shape of a type.
 pub fn shape_of(t: usize) -> Shape
@@ -26,13 +27,13 @@ pub fn shape_of(t: usize) -> Shape
 
 // `count` groups, the outermost first, then the kind.
 fn groups_then_kind(dialect: Dialect, s: &[u8], at: usize, count: usize) -> NumberRead
-    requires { ⌜ NoWider dialect × (count ≤ 4) ⌝ }
+    requires { ⌜ count ≤ 4 ⌝ }
     ensures { λ r. ⌜ number r ≡ groupsThenKindIn dialect count (now (s .entry)) at ⌝ }
 {
     if count == 0 {
-        return byte_below(s, at, dialect.kinds);
+        return byte_below(s, at, kinds(dialect));
     }
-    let read = byte_below(s, at, dialect.groups);
+    let read = byte_below(s, at, groups(dialect));
     let NumberRead::Found(group) = read else {
         return read;
     };
@@ -47,8 +48,7 @@ fn groups_then_kind(dialect: Dialect, s: &[u8], at: usize, count: usize) -> Numb
 }
 
 // A stored type: the count of groups, the groups, the kind.
-pub fn type_at_in(dialect: Dialect, s: &[u8], at: usize) -> NumberRead
-    requires { ⌜ NoWider dialect ⌝ }
+pub fn type_at(dialect: Dialect, s: &[u8], at: usize) -> NumberRead
     ensures { λ r. ⌜ number r ≡ typeAtIn dialect (now (s .entry)) at ⌝ }
 {
     let read = byte_below(s, at, 5);
@@ -56,11 +56,4 @@ pub fn type_at_in(dialect: Dialect, s: &[u8], at: usize) -> NumberRead
         return read;
     };
     groups_then_kind(dialect, s, count.next, count.value)
-}
-
-// The same in the current dialect.
-pub fn type_at(s: &[u8], at: usize) -> NumberRead
-    ensures { λ r. ⌜ number r ≡ typeAt (now (s .entry)) at ⌝ }
-{
-    type_at_in(current(), s, at)
 }

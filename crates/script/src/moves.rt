@@ -11,6 +11,7 @@ use crate::MovePlace;
 use crate::MoveRead;
 use crate::Receipt;
 use policy::read::two_bytes;
+use reading::Dialect;
 use reading::Number;
 use reading::NumberRead;
 use reading::Refusal;
@@ -107,7 +108,7 @@ fn communication_at(s: &[u8], at: usize) -> MoveRead
 fn environment_name_at(s: &[u8], at: usize) -> MoveRead
     ensures { λ r. ⌜ moveRead r ≡ environmentNameAt (now (s .entry)) at ⌝ }
 {
-    let read = type_at(s, at);
+    let read = type_at(Dialect::Current, s, at);
     let NumberRead::Found(t) = read else {
         return not_read(read);
     };

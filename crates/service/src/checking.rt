@@ -1,7 +1,6 @@
 // The service `check`: questions 1 to 19 of a sheet and a charter, and the interface into the lent output.
 ghost use mathlib.Core.Path.{_≡_};
 ghost use Prim.Native.Nat.{_≤_};
-ghost use lib.ListN.{length};
 ghost use Rattle.inference.specs.Rows.{tableEntries};
 ghost use Rattle.inference.specs.Interface.{interfaceBytes};
 ghost use Rattle.service.specs.Told.{Ready, Delivered, Checked};
@@ -27,18 +26,13 @@ pub fn deliver(table: &[u16], components: usize, output: &mut [u8]) -> Answer
     Answer::Accepted(len)
 }
 
-// Questions 7 to 19 of a sheet that reads, with a clear table for its components and a table for the charter's nodes.
-fn check_read(
-    sheet: &[u8],
-    charter: &[u8],
-    table: &mut [u16],
-    nodes: &mut [usize],
-    output: &mut [u8],
-) -> Answer
-    requires { ⌜ Ready (now sheet) (now charter) (now table) × (length (now nodes) ≡ 320) ⌝ }
+// Questions 7 to 19 of a sheet that reads, with a clear table for its components.
+fn check_read(sheet: &[u8], charter: &[u8], table: &mut [u16], output: &mut [u8]) -> Answer
+    requires { ⌜ Ready (now sheet) (now charter) (now table) ⌝ }
     ensures { λ r. ⌜ Checked (now (sheet .entry)) (now (charter .entry)) (now (output .entry)) (now (output .exit)) r ⌝ }
 {
-    let judged = judge_read(sheet, charter, table, nodes);
+    let mut nodes = [0usize; 320];
+    let judged = judge_read(sheet, charter, table, &mut nodes);
     if judged.fault < 64 {
         return Answer::Refused(judged.fault);
     }
@@ -54,11 +48,10 @@ pub fn check(sheet: &[u8], charter: &[u8], output: &mut [u8]) -> Answer
     let NumberRead::Found(components) = read else {
         return Answer::Refused(refusal(read).question);
     };
-    let mut nodes = [0usize; 320];
     if components.value <= 4 {
         let mut few = [0u16; 4388];
-        return check_read(sheet, charter, &mut few, &mut nodes, output);
+        return check_read(sheet, charter, &mut few, output);
     }
     let mut table = [0u16; 35104];
-    check_read(sheet, charter, &mut table, &mut nodes, output)
+    check_read(sheet, charter, &mut table, output)
 }

@@ -7,7 +7,7 @@ use borrow.Fn.PlainCycle.{Measures, is, falls, and}
 use Rattle.reading.proofs.system.read_process.Reads as read-process
 use Rattle.reading.proofs.system.read_process.Kinds as read-process-kinds
 use Rattle.reading.proofs.system.+read_process.Lts-read_process as read-process-lts
-use Rattle.reading.proofs.forms.process_at_in.Reads as process-at-in-reads
+use Rattle.reading.proofs.forms.process_at.Reads as process-at-reads
 use Rattle.reading.proofs.system.why.Reads as why-reads
 use Rattle.reading.proofs.system.+read_process.{statement}
 use Rattle.reading.proofs.system.+read_process.Tie.{close}
@@ -29,8 +29,8 @@ read-process-below t =
 
 pub +read-process-spec : {M : Type 1} → statement M
 +read-process-spec = close μ-read-process λ t. read-process-lts.spec (
-  process-at-in-reads.Asked,
-  process-at-in-reads.Learnt,
+  process-at-reads.Asked,
+  process-at-reads.Learnt,
   why-reads.Asked,
   why-reads.Learnt,
   read-process-below t,

@@ -7,7 +7,7 @@ use borrow.Fn.PlainCycle.{Measures, is, falls, and}
 use Rattle.reading.proofs.system.read_system.Reads as read-system
 use Rattle.reading.proofs.system.read_system.Kinds as read-system-kinds
 use Rattle.reading.proofs.system.+read_system.Lts-read_system as read-system-lts
-use Rattle.reading.proofs.forms.system_at_in.Reads as system-at-in-reads
+use Rattle.reading.proofs.forms.system_at.Reads as system-at-reads
 use Rattle.reading.proofs.paths.with.Reads as with-reads
 use Rattle.reading.proofs.system.read_component.Reads as read-component-reads
 use Rattle.reading.proofs.system.why.Reads as why-reads
@@ -27,8 +27,8 @@ read-system-below t =
 
 pub +read-system-spec : {M : Type 1} → statement M
 +read-system-spec = close μ-read-system λ t. read-system-lts.spec (
-  system-at-in-reads.Asked,
-  system-at-in-reads.Learnt,
+  system-at-reads.Asked,
+  system-at-reads.Learnt,
   why-reads.Asked,
   why-reads.Learnt,
   read-system-below t,

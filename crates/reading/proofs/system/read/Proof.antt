@@ -1,8 +1,7 @@
 -- `read` reads in the current dialect.
 use borrow.Author.Needs.{needs}
-use Rattle.reading.proofs.CurrentSteps.{current-steps}
 use Rattle.reading.proofs.system.read.Statement.{statement}
 use Rattle.reading.proofs.system.read.Tie as tie
 
 pub read-spec : {M : Type 1} → statement M
-read-spec = tie.close (tie.spec (λ c κs. search needs) (λ c κs. search current-steps) (λ c. search current-steps))
+read-spec = tie.close (tie.spec (λ c κs. search needs) (λ c. search needs))

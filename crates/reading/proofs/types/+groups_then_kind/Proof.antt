@@ -9,6 +9,8 @@ use Rattle.reading.proofs.types.groups_then_kind.Reads as groups-then-k
 use Rattle.reading.proofs.types.groups_then_kind.Kinds as groups-then-kind-kinds
 use Rattle.reading.proofs.types.+groups_then_kind.Lts-groups_then_kind as groups-then-kind-lts
 use Rattle.reading.proofs.bytes.byte_below.Reads as byte-below-reads
+use Rattle.reading.proofs.dialects.groups.Reads as groups-reads
+use Rattle.reading.proofs.dialects.kinds.Reads as kinds-reads
 use Rattle.reading.proofs.types.+groups_then_kind.{statement}
 use Rattle.reading.proofs.types.+groups_then_kind.Tie.{close}
 
@@ -33,15 +35,21 @@ groups-then-kind-below t =
 
 pub +groups-then-kind-spec : {M : Type 1} → statement M
 +groups-then-kind-spec = close μ-groups-then-kind λ t. groups-then-kind-lts.spec (
+  kinds-reads.Asked,
+  kinds-reads.Learnt,
   byte-below-reads.Asked,
   byte-below-reads.Learnt,
+  groups-reads.Asked,
+  groups-reads.Learnt,
   groups-then-kind-below t,
   groups-then-kind.Post,
 )
     (groups-then-kind-at t)
     groups-then-kind.Post
     (λ c κs. search needs)
+    (λ c κs. search needs)
     (λ c. search type-steps)
+    (λ c κs. search needs)
     (λ c κs. search needs)
     (λ c. search needs)
     (λ c. search needs)

@@ -4,9 +4,6 @@ use borrow.Author.Needs.{needs}
 use Rattle.service.proofs.checking.check.Statement.{statement}
 use Rattle.service.proofs.checking.check.Tie as tie
 
-check-read-requires-2 : tie.Need-check-read-requires-2
-check-read-requires-2 c κs = (search checking, search checking)
-
 pub check-spec : {M : Type 1} → statement M
 check-spec =
     tie.close
@@ -17,12 +14,10 @@ check-spec =
     (λ c κs. search needs)
     (λ c. search checking)
     (λ c. search needs)
-    (λ c. search needs)
     (λ c κs. search checking)
     (λ c. search needs)
     (λ c. search needs)
     (λ c. search needs)
-    (λ c. search needs)
-    check-read-requires-2
+    (λ c κs. search checking)
     (λ c. search needs)
     (λ c. search needs))
