@@ -1,2 +1,4 @@
--- The lemmas of the proofs of explaining, and its laws.
+-- The lemmas of the proofs of explaining, its laws, and worked cases.
 pub mod ExplainSteps
+pub mod ExplainLaws
+pub mod Cases

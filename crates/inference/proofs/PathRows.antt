@@ -40,7 +40,7 @@ store-next row len i groups first t u s g h e = record {
     cut : drop i (take len groups) ≡ getD groups i 0 ∷ drop (i + 1) (take len groups)
     cut = rw (drop-cons (take len groups) i 0 (omega (arith, length-take len groups, s .few)), getD-take, add-one)
 
-take-own : (n : ℕ) (l : List ℕ) → take (length (take n l)) l ≡ take n l
+pub take-own : (n : ℕ) (l : List ℕ) → take (length (take n l)) l ≡ take n l
 take-own zero l = refl
 take-own (suc n) [] = refl
 take-own (suc n) (x ∷ l) = ap (λ (m : List ℕ). x ∷ m) (take-own n l)

@@ -17,25 +17,25 @@ use Rattle.naming.specs.Sentence.{
 }
 
 -- All definitions that the cases compute with.
-computed : Unit {0}
+unfoldable pub computed : Unit {0}
 unfolding andThen any gather rising isLetter lettersAt endedAt nameAt namesAt same distinct listAt wholeAt readNames nameOf slashed pathNames verb ofKind sentence
 computed = tt
 
 -- So many names: some letters, then two that tell the number, aa, ab and on.
 abbrev numbered : List ℕ → ℕ → List (List ℕ)
-numbered first n = map (λ i. first ++ ((97 + i / 26) ∷ (97 + i % 26) ∷ [])) (unfold rising in rising 0 n)
+numbered first n = map (λ i. first ++ ((97 + i / 26) ∷ (97 + i % 26) ∷ [])) (rising 0 n)
 
 -- Gaa, Gab, .., Gcl and Kaa, Kab, .., Kap
-abbrev groups : List (List ℕ)
+abbrev pub groups : List (List ℕ)
 groups = numbered (71 ∷ []) 64
 
-abbrev kinds : List (List ℕ)
+abbrev pub kinds : List (List ℕ)
 kinds = numbered (75 ∷ []) 16
 
 abbrev ended : List (List ℕ) → List ℕ
-ended words = unfold gather in gather (λ word. word ++ (10 ∷ [])) words
+ended words = gather (λ word. word ++ (10 ∷ [])) words
 
-abbrev file : List (List ℕ) → List (List ℕ) → List ℕ
+abbrev pub file : List (List ℕ) → List (List ℕ) → List ℕ
 file groups kinds = ended groups ++ ended kinds
 
 -- A path, a permission and a kind under these names.

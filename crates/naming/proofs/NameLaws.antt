@@ -1,5 +1,5 @@
 -- What a names file that reads gives: 64 groups and 16 kinds, each name of 1 to 20 letters, no two names of a list the same, so that
--- a name tells its number. Each of these is a test that the reading made on its way.
+-- a name tells its number. Each of these is a test that the reading made on its way; and where one of them fails, 40 is answered.
 use Prim.Native.Nat.{ℕ, zero, suc, _+_, _<_, _≤_}
 use mathlib.Core.Path.{_≡_, refl, sym, ap, _∙_}
 use mathlib.Core.List.{List, [], _∷_}
@@ -8,7 +8,7 @@ use native.Mathlib.Omega.{arith}
 use borrow.Author.Tests.{ltb-true, ltb-false, leb-true, eq-eqb, not-true}
 use lib.Dec.{ltb, leb, eqb}
 use lib.ListN.{length, getD, List·getD-eq-default}
-use Rattle.reading.specs.Read.{got, refused, andThen}
+use Rattle.reading.specs.Read.{Read, got, refused, andThen}
 use Rattle.reading.proofs.Parts.{parts, passed}
 use Rattle.reading.proofs.FormLaws.{both-true}
 use Rattle.inference.specs.Lists.{every, any}
@@ -167,3 +167,44 @@ letter-small b h = go (leb 65 b && leb b 90) refl h
     go : (t : Bool) → (leb 65 b && leb b 90) ≡ t → (t || (leb 97 b && leb b 122)) ≡ true → b < 256
     go true e k = omega (arith, leb-true b 90 (both-true (leb 65 b) (leb b 90) e .1))
     go false e k = omega (arith, leb-true b 122 (both-true (leb 97 b) (leb b 122) k .1))
+
+-- A file that does not read fails question 40: no other number stands in the readings.
+data IsForty {A : Type 0} : Read A → Type 0 where
+  forty-got : {a : A} {k : ℕ} → IsForty (got a k)
+  forty-refused : {q at : ℕ} → q ≡ 40 → IsForty (refused q at)
+
+module _ {A : Type 0} where
+  forty-then : {B : Type 0} {x : Read B} (f : B → ℕ → Read A) → IsForty x → ((b : B) (k : ℕ) → IsForty (f b k)) → IsForty (andThen x f)
+  unfolding andThen
+  forty-then f (forty-got {a = b} {k = k}) g = g b k
+  forty-then f (forty-refused e) g = forty-refused e
+
+  forty-cond : (t : Bool) {x y : Read A} → IsForty x → IsForty y → IsForty (cond t x y)
+  forty-cond true h k = h
+  forty-cond false h k = k
+
+forty-name : (s : List ℕ) (at : ℕ) → IsForty (nameAt s at)
+unfolding nameAt endedAt
+forty-name s at =
+    forty-cond (ltb 0 (length (lettersAt 20 s at)) && eqb (getD s (at + length (lettersAt 20 s at)) 0) 10) forty-got (forty-refused refl)
+
+forty-names : (n : ℕ) (s : List ℕ) (at : ℕ) → IsForty (namesAt n s at)
+unfolding namesAt
+forty-names zero s at = forty-got
+forty-names (suc n) s at = forty-then _ (forty-name s at) (λ word next. forty-then _ (forty-names n s next) (λ words end. forty-got))
+
+forty-list : (n : ℕ) (s : List ℕ) (at : ℕ) → IsForty (listAt n s at)
+unfolding listAt
+forty-list n s at = forty-then _ (forty-names n s at) (λ words end. forty-cond (distinct words) forty-got (forty-refused refl))
+
+forty-file : (s : List ℕ) → IsForty (readNames s)
+unfolding readNames wholeAt
+forty-file s =
+    forty-then _ (forty-list 64 s 0) (λ groups next. forty-then _ (forty-list 16 s next) (λ kinds end.
+    forty-cond (eqb end (length s)) forty-got (forty-refused refl)))
+
+pub names-forty : (s : List ℕ) (q at : ℕ) → readNames s ≡ refused q at → q ≡ 40
+names-forty s q at e = go (rw e at (forty-file s))
+  where
+    go : {A : Type 0} → IsForty {A = A} (refused q at) → q ≡ 40
+    go (forty-refused h) = h

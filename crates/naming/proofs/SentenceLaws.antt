@@ -196,7 +196,7 @@ unfolding every
 every-more p q f [] h = refl
 every-more p q f (x ∷ xs) h = let o = both-true (p x) (every p xs) h in rw (f x (o .0)) (every-more p q f xs (o .1))
 
-every-both : {A : Type 0} (p : A → Bool) (xs ys : List A) → every p xs ≡ true → every p ys ≡ true → every p (xs ++ ys) ≡ true
+pub every-both : {A : Type 0} (p : A → Bool) (xs ys : List A) → every p xs ≡ true → every p ys ≡ true → every p (xs ++ ys) ≡ true
 unfolding every
 every-both p [] ys h k = k
 every-both p (x ∷ xs) ys h k = let o = both-true (p x) (every p xs) h in rw (o .0) (every-both p xs ys (o .1) k)

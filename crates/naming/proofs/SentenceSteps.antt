@@ -13,6 +13,7 @@ use borrow.Author.Tests.{eq-eqb, ne-eqb}
 use Rattle.reading.specs.Told.{pathOf}
 use Rattle.reading.specs.declared.Path.{Path}
 use Rattle.inference.specs.Lists.{gather, rising}
+use Rattle.inference.proofs.PathRows.{take-own}
 use Rattle.inference.specs.Interface.{Permission, reading, writing, accessing, disclosing}
 use Rattle.interface.specs.Writes.{Stored}
 use Rattle.interface.proofs.WriteLaws.{partsFrom, stored-none, stored-more, Writing, write-first, write-next, write-last}
@@ -112,12 +113,6 @@ path-steps names [] (suc n) h = absurd (omega arith)
 path-steps names (g ∷ rest) (suc n) h =
     let z : suc n - 0 ≡ suc n = omega arith in
     rw z (ap (λ (l : List ℕ). nameOf names g ++ l) (later-steps names (g ∷ rest) 1 n (omega arith) (omega arith)))
-
--- as much of a list as a part of it has
-take-own : (n : ℕ) (l : List ℕ) → take (length (take n l)) l ≡ take n l
-take-own zero l = refl
-take-own (suc n) [] = refl
-take-own (suc n) (x ∷ l) = ap (λ (r : List ℕ). x ∷ r) (take-own n l)
 
 module _ (s places out : List ℕ) (p : Path) where
   pub path-start : (n : ℕ) → Writing (stepAt s places (p .groups)) 21 n out 0 out 0 0

@@ -56,7 +56,8 @@ fn names_at(s: &[u8], at: usize, places: &mut [u16]) -> End
     End::At(next)
 }
 
-fn wide(place: u16) -> usize
+// A place as a number of the usual width.
+pub fn wide(place: u16) -> usize
     ensures { λ r. ⌜ (r ≡ place) × (r < 65536) ⌝ }
 {
     place as usize

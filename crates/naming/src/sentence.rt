@@ -9,6 +9,7 @@ ghost use Rattle.naming.specs.Names.{lettersAt};
 ghost use Rattle.naming.specs.Sentence.{nameOf, pathNames, verb, ofKind, sentence};
 ghost use Rattle.naming.specs.Told.{wordsAt, stepText, namesAtPlaces};
 use crate::letters::is_letter;
+use crate::names::wide;
 use fit::Missing;
 use inference::rows::path_len;
 use interface::put;
@@ -45,12 +46,6 @@ fn put_letters(s: &[u8], place: usize, out: &mut [u8], at: usize) -> usize
         i += 1;
     }
     next
-}
-
-fn wide(place: u16) -> usize
-    ensures { λ r. ⌜ (r ≡ place) × (r < 65536) ⌝ }
-{
-    place as usize
 }
 
 // Stores the name of a number.

@@ -13,13 +13,15 @@ use Rattle.service.specs.Questions.{Asked, passed, failed, ask, afterReading, A
 use Rattle.service.specs.Check.{checked}
 use Rattle.service.proofs.FirstLaws.{failed-below}
 use Rattle.service.proofs.RoomLaws.{InRange, check-in-range}
+use Rattle.explaining.specs.Explain.{explained}
+use Rattle.explaining.proofs.ExplainLaws.{SaidInRange, explain-in-range}
 use Rattle.running.specs.State.{State}
 use Rattle.running.specs.Products.{start}
 use Rattle.running.specs.Moves.{Move, hasRoom}
 use Rattle.running.specs.Script.{movesFrom, asTwentyOne, readScript}
 use Rattle.running.specs.Play.{openedFrom, opened, logged, outcomeOf, played}
 use Rattle.script.proofs.ScriptLaws.{script-moves, script-few}
-use Rattle.velimhaw.specs.Codes.{codeOf, CheckedAs, PlayedAs}
+use Rattle.velimhaw.specs.Codes.{codeOf, CheckedAs, PlayedAs, ExplainedAs}
 
 -- A number that tells an answer.
 pub data Tells : Asked ℕ → ℕ → Type 0 where
@@ -46,6 +48,17 @@ pub check-tells : (sheet charter output output′ : List ℕ) (r : ℕ) → Chec
 check-tells sheet charter output output′ r c =
     rw (c .answer) (code-tells (checked sheet charter output .answer)
     (small-check (checked sheet charter output .answer) (check-in-range sheet charter output)))
+
+small-explained : (x : Asked ℕ) → SaidInRange x → Small x
+unfolding Small SaidInRange
+small-explained (passed n) h = omega arith
+small-explained (failed q) h = omega arith
+
+pub explain-tells : (sheet charter names line line′ : List ℕ) (r : ℕ) → ExplainedAs sheet charter names line line′ r
+    → Tells (explained sheet charter names line .answer) r
+explain-tells sheet charter names line line′ r x =
+    rw (x .answer) (code-tells (explained sheet charter names line .answer)
+    (small-explained (explained sheet charter names line .answer) (explain-in-range sheet charter names line)))
 
 -- the only number that a script is refused with
 twenty-one : (x : Read (List Move)) {q at : ℕ} → asTwentyOne x ≡ refused q at → q ≡ 21
