@@ -99,11 +99,11 @@ uncovered-some s c sheet k policy m e f h =
     go none i n = unfold isNone in (let z : _≡_ {A = ℕ} 0 1 = cc in absurd (omega arith))
 
 -- An entry that is covered fails another question than 18, or none.
-not-eighteen : (policy : List Tree) (required : Required) (e : Entry) → covered policy required e ≡ true → entryFault policy required e ≡ 18 → ⊥
+covered-otherwise : (policy : List Tree) (required : Required) (e : Entry) → covered policy required e ≡ true → entryFault policy required e ≡ 18 → ⊥
 unfolding entryFault
-not-eighteen policy required e h = rw h (go (holdsAny e) (hasTree policy e) (pathReached policy e))
+covered-otherwise policy required e h = rw h (go (holdsAny e) (hasTree policy e) (pathReached policy e))
   where
-    go : (a b d : Bool) → cond a (cond b (cond d 19 17) 16) 19 ≡ 18 → ⊥
+    go : (a b d : Bool) → _≡_ {A = ℕ} (cond a (cond b (cond d 19 17) 16) 19) 18 → ⊥
     go false b d i = absurd (omega (arith, i))
     go true false d i = absurd (omega (arith, i))
     go true true false i = absurd (omega (arith, i))
@@ -113,11 +113,12 @@ entries-eighteen : (policy : List Tree) (required : Required) (es : List Entry) 
     → every (covered policy required) es ≡ false
 unfolding entriesFault every
 entries-eighteen policy required [] h = absurd (omega (arith, h))
-entries-eighteen policy required (e ∷ rest) h = go (covered policy required e) refl
+entries-eighteen policy required (e ∷ rest) h = go (covered policy required e) refl (entries-eighteen policy required rest)
   where
-    go : (b : Bool) → covered policy required e ≡ b → (b && every (covered policy required) rest) ≡ false
-    go false i = refl
-    go true i = entries-eighteen policy required rest (omega (arith, h, not-eighteen policy required e i))
+    go : (b : Bool) → covered policy required e ≡ b → (entriesFault policy required rest ≡ 18 → every (covered policy required) rest ≡ false)
+        → (b && every (covered policy required) rest) ≡ false
+    go false i later = refl
+    go true i later = later (omega (arith, h, covered-otherwise policy required e i))
 
 -- The other questions have other numbers.
 policy-eighteen : (policy : List Tree) (required : Required) → policyThenEntries policy required ≡ 18

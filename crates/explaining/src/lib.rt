@@ -80,6 +80,7 @@ fn explain_missing(
         return Answer::Refused(why_none(read).question);
     };
     let missing = first_uncovered(charter, nodes, trees, table, components);
+    // Never so where question 18 failed (`refused-uncovered`).
     if 67 <= missing.column {
         return Answer::Accepted(0);
     }

@@ -10,7 +10,7 @@ use lib.ListN.{length, take, set, length-set}
 use Rattle.reading.proofs.Parts.{parts, passed, never, below-found}
 use Rattle.reading.proofs.TotalLaws.{system-total}
 use Rattle.reading.proofs.TreeLaws.{free-count}
-use Rattle.reading.specs.Dialects.{current}
+use Rattle.reading.specs.declared.Dialect.the-variants.{Current as current}
 use Rattle.reading.specs.Read.{Read, got, refused, andThen, below}
 use Rattle.reading.specs.Syntax.{Sheet, components}
 use Rattle.reading.specs.System.{freeTypesIn, freeTypes, headerIn, header, readSystem, toItsEnd, readSheetIn, readSheet}

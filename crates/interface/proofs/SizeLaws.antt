@@ -11,7 +11,7 @@ use native.Mathlib.Decide.{ℕ-discrete}
 use lib.ListN.{length, length-append}
 use lib.Dec.{eqb}
 use borrow.Author.Tests.{eq-eqb, ne-eqb}
-use Rattle.reading.specs.Dialects.{current}
+use Rattle.reading.specs.declared.Dialect.the-variants.{Current as current}
 use Rattle.reading.specs.Read.{Read, got, refused, andThen}
 use Rattle.reading.specs.Syntax.{Process, System, nilₛ, parₛ, groupₛ, newₛ, compₛ, Sheet, components}
 use Rattle.reading.specs.Forms.{systemAt}

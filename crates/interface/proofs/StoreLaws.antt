@@ -9,7 +9,8 @@ use native.Mathlib.Omega.{arith}
 use lib.ListN.{length, getD, replicate, length-append, length-replicate, getD-replicate, List·getD-append, List·getD-eq-default}
 use lib.Seq.{getD-append-seam}
 use lib.Dec.{eqb}
-use Rattle.reading.specs.Dialects.{current, groupsIn}
+use Rattle.reading.specs.Dialects.{groupsIn}
+use Rattle.reading.specs.declared.Dialect.the-variants.{Current as current}
 use borrow.Author.Tests.{eqb-false, ne-eqb}
 use Rattle.reading.specs.Read.{Read, got, refused, andThen, byteAt, below}
 use Rattle.reading.specs.Types.{typeAt}

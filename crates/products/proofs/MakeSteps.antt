@@ -10,7 +10,7 @@ use borrow.Author.Tests.{ltb-true, ltb-false}
 use lib.Dec.{ltb}
 use lib.ListN.{length, getD, take, set, length-append}
 use lib.Seq.{take-suc-set}
-use Rattle.reading.specs.Dialects.{current}
+use Rattle.reading.specs.declared.Dialect.the-variants.{Current as current}
 use Rattle.reading.specs.Read.{got, refused, andThen, byteAt}
 use Rattle.reading.specs.Forms.{processFormIn, processAtIn, processAt}
 use Rattle.reading.specs.Syntax.{Process, nil, par, new, input, output, repl}

@@ -12,7 +12,7 @@ use lib.Seq.{take-suc-set}
 use Rattle.reading.proofs.Parts.{parts, never, below-found}
 use Rattle.reading.proofs.TotalLaws.{system-total}
 use Rattle.reading.proofs.TreeLaws.{free-count}
-use Rattle.reading.specs.Dialects.{current}
+use Rattle.reading.specs.declared.Dialect.the-variants.{Current as current}
 use Rattle.reading.specs.Read.{got, refused, andThen, below}
 use Rattle.reading.specs.Syntax.{Sheet}
 use Rattle.reading.specs.System.{freeTypesIn, freeTypes, headerIn, readSheet}
