@@ -1,13 +1,12 @@
 -- What each return of the service has to show, over plain values: that its answer and what it leaves in the line are those of the
 -- definition, from what questions 1 to 18 came to and the tables that they left.
 use Prim.Native.Nat.{ℕ, _<_, _≤_}
-use mathlib.Core.Path.{_≡_, refl, sym, ap, ap₂, _∙_}
-use mathlib.Core.List.{List, []}
-use mathlib.Core.Option.{Option, some, none}
+use mathlib.Core.Path.{_≡_, refl, sym, ap, _∙_}
+use mathlib.Core.List.{List}
+use mathlib.Core.Option.{Option}
 use native.Mathlib.Omega.{arith}
-use lib.ListN.{length, getD}
 use borrow.Author.Needs.{needs}
-use borrow.Author.Tests.{eq-eqb, ne-eqb, lt-ltb, le-ltb}
+use borrow.Author.Tests.{ne-eqb, lt-ltb, le-ltb}
 use Rattle.reading.specs.Read.{Read, got, refused}
 use Rattle.reading.specs.Syntax.{Sheet}
 use Rattle.reading.proofs.Parts.{never}
@@ -20,7 +19,7 @@ use Rattle.reading.specs.declared.NumberRead.{NumberRead}
 use Rattle.reading.specs.declared.NumberRead.the-variants as number-read
 use Rattle.reading.specs.declared.Path.{Path}
 use Rattle.reading.specs.declared.Refusal.{Refusal}
-use Rattle.inference.specs.Interface.{Entry, interface, Required, requiredOf}
+use Rattle.inference.specs.Interface.{Entry, requiredOf}
 use Rattle.inference.specs.Rows.{pathAt, tableEntries, tableRequired}
 use Rattle.policy.specs.Reading.{readPolicy}
 use Rattle.policy.specs.Syntax.{Tree}
@@ -30,13 +29,13 @@ use Rattle.fit.specs.Covers.{permissionAt}
 use Rattle.fit.specs.Uncovered.{Uncovered, firstUncovered}
 use Rattle.fit.specs.Search.{uncoveredAt}
 use Rattle.fit.specs.declared.Missing.{Missing}
-use Rattle.naming.specs.Names.{Names, readNames}
+use Rattle.naming.specs.Names.{readNames}
 use Rattle.naming.specs.Sentence.{sentence}
 use Rattle.naming.specs.Told.{ends, namesAtPlaces}
 use Rattle.naming.proofs.SentenceLaws.{sentence-bytes}
-use Rattle.service.specs.Questions.{passed, failed, judged}
-use Rattle.service.specs.Check.{fitting, written}
-use Rattle.service.specs.Told.{told, firstFailed, Reads, Ready, HoldsPolicy, Delivered, Checked, Judges}
+use Rattle.service.specs.Questions.{failed, judged}
+use Rattle.service.specs.Check.{written}
+use Rattle.service.specs.Told.{Reads, Ready, HoldsPolicy, Delivered, Checked, Judges}
 use Rattle.service.specs.declared.Answer.{Answer}
 use Rattle.service.specs.declared.Answer.the-variants as answer-case
 use Rattle.service.specs.declared.Judged.{Judged}

@@ -10,7 +10,6 @@ use lib.Dec.{ltb, eqb, leb·suc-suc}
 use lib.ListN.{length, getD, take, drop, length-take, drop-of-length-le}
 use lib.Seq.{drop-cons, getD-take}
 use Rattle.reading.specs.Forms.{member}
-use Rattle.inference.specs.Acts.{Component}
 use Rattle.inference.specs.Lists.{every, any, rising}
 use Rattle.inference.specs.Counts.{Count, atMost, _⊕_}
 use Rattle.inference.specs.Interface.{Entry, reading, writing, accessing, disclosing, Required, needed}

@@ -1,8 +1,8 @@
 -- What each return and each turn of a loop of the sentence composer has to show, over plain values: parts stored one after another are
 -- the sentence.
-use Prim.Native.Nat.{ℕ, zero, suc, _+_, _-_, _*_, _<_, _≤_}
-use mathlib.Core.Path.{_≡_, refl, sym, ap, ap₂, _∙_}
-use mathlib.Core.List.{List, [], _∷_, _++_, map}
+use Prim.Native.Nat.{ℕ, zero, suc, _+_, _-_, _<_, _≤_}
+use mathlib.Core.Path.{_≡_, refl, ap, ap₂, _∙_}
+use mathlib.Core.List.{List, [], _∷_, _++_}
 use mathlib.Core.Bool.{Bool, true, false, cond}
 use native.Mathlib.Omega.{arith}
 use lib.Dec.{eqb}
@@ -14,14 +14,13 @@ use Rattle.reading.specs.Told.{pathOf}
 use Rattle.reading.specs.declared.Path.{Path}
 use Rattle.inference.specs.Lists.{gather, rising}
 use Rattle.inference.proofs.PathRows.{take-own}
-use Rattle.inference.specs.Interface.{Permission, reading, writing, accessing, disclosing}
+use Rattle.inference.specs.Interface.{Permission}
 use Rattle.interface.specs.Writes.{Stored}
 use Rattle.interface.proofs.WriteLaws.{partsFrom, stored-none, stored-more, Writing, write-first, write-next, write-last}
 use Rattle.interface.proofs.InterfaceLaws.{oneAt, ones-are}
 use Rattle.interface.proofs.InterfaceSteps.{path-at-most}
 use Rattle.fit.specs.Covers.{permissionAt}
-use Rattle.fit.specs.Uncovered.{Uncovered}
-use Rattle.naming.specs.Names.{lettersAt, Names}
+use Rattle.naming.specs.Names.{lettersAt}
 use Rattle.naming.specs.Sentence.{nameOf, slashed, pathNames, mayNot, readVerb, writeVerb, accessVerb, discloseVerb, verb, ofKind, sentence}
 use Rattle.naming.specs.Told.{wordsAt, stepText, namesAtPlaces}
 use Rattle.naming.proofs.NameLaws.{letters-few}
