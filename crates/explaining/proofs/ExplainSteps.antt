@@ -159,10 +159,16 @@ module _ (sheet charter names table nodes : List ℕ) (j : Judged) where
   examined clear output output′ line line′ a e ready judges f g =
       record { checks = f sheet charter nodes judges; explains = g sheet (ready .reads) judges }
 
+pub read-explained : (sheet charter names table nodes clear line line′ : List ℕ) (j : Judged) (r : Answer) → Ready sheet charter clear
+    → Judges sheet charter table nodes j
+    → ((s : List ℕ) → Reads s charter → Judges s charter table nodes j → Explained s charter names line line′ r)
+    → Explained sheet charter names line line′ r
+read-explained sheet charter names table nodes clear line line′ j r ready judges f = f sheet (ready .reads) judges
+
 pub unread-examined : (s c names output line : List ℕ) (r : NumberRead) (q w : Refusal) → number r ≡ countedIn (sheetOf s c) → r ≡ number-read.Refused q
     → w ≡ refusalOf r
     → ExaminedAs s c names output output line line (record { checked = answer-case.Refused (w .question); explained = answer-case.Refused (w .question) })
 unread-examined s c names output line r q w e f h =
     record { checks = unread-refused s c output r q w e f h; explains = unread-explained s c names line r q w e f h }
 
-pub ruleset explaining = (needs, names-broken, nothing-said, sentence-said, nothing-explained, other-question, eighteen, trees-bounded, examined, unread-examined, few-ready, all-ready)
+pub ruleset explaining = (needs, names-broken, nothing-said, sentence-said, nothing-explained, other-question, eighteen, trees-bounded, examined, read-explained, unread-explained, unread-examined, few-ready, all-ready)

@@ -187,12 +187,36 @@ pub fn examine(
     examine_read(sheet, charter, names, &mut table, &mut nodes, output, line)
 }
 
+// Explains a sheet that reads, with a clear table for its components and a table for the charter's nodes.
+fn explain_read(
+    sheet: &[u8],
+    charter: &[u8],
+    names: &[u8],
+    table: &mut [u16],
+    nodes: &mut [usize],
+    line: &mut [u8],
+) -> Answer
+    requires { ⌜ Ready (now sheet) (now charter) (now table) × (length (now nodes) ≡ 320) ⌝ }
+    ensures { λ r. ⌜ Explained (now (sheet .entry)) (now (charter .entry)) (now (names .entry)) (now (line .entry)) (now (line .exit)) r ⌝ }
+{
+    let judged = judge_read(sheet, charter, table, nodes);
+    explain_judged(names, charter, nodes, table, judged, line)
+}
+
 // Explains why question 18 refuses a sheet. The answer and the line's final bytes are those of the definition `explained`, for any
 // bytes in all four slices.
 pub fn explain(sheet: &[u8], charter: &[u8], names: &[u8], line: &mut [u8]) -> Answer
     ensures { λ r. ⌜ Explained (now (sheet .entry)) (now (charter .entry)) (now (names .entry)) (now (line .entry)) (now (line .exit)) r ⌝ }
 {
-    let mut nowhere = [0u8; 0];
-    let examined = examine(sheet, charter, names, &mut nowhere, line);
-    examined.explained
+    let read = read(sheet, charter);
+    let NumberRead::Found(components) = read else {
+        return Answer::Refused(refusal(read).question);
+    };
+    let mut nodes = [0usize; 320];
+    if components.value <= 4 {
+        let mut few = [0u16; 4388];
+        return explain_read(sheet, charter, names, &mut few, &mut nodes, line);
+    }
+    let mut table = [0u16; 35104];
+    explain_read(sheet, charter, names, &mut table, &mut nodes, line)
 }

@@ -172,11 +172,19 @@ module _ (c nodes rows path path′ table : List ℕ) (n k start len : ℕ) (is 
     unfolding rowsFault allGiven
     path-missing f = rw (← found-here, ← e, not-true a f) refl
 
-    module _ (f : not a ≡ false) (column : ℕ) (m : column ≡ missingAt c nodes rows table n k) where
-      pub one-missing : column < 67 → 18 ≡ rowsFault c nodes (giversIn c nodes path′ start len) table n k
+    module _ (f : not a ≡ false) where
+      decides : (column v : ℕ) → column ≡ missingAt c nodes rows table n k → v ≡ cond (ltb column 67) 18 19
+          → v ≡ rowsFault c nodes (giversIn c nodes path′ start len) table n k
       unfolding rowsFault allGiven
-      one-missing h = rw (← found-here, ← e, not-false a f, ← m, lt-ltb column 67 h) refl
+      decides column v m w = rw (← found-here, ← e, not-false a f, ← m) w
 
-      pub none-missing : 67 ≤ column → 19 ≡ rowsFault c nodes (giversIn c nodes path′ start len) table n k
-      unfolding rowsFault allGiven
-      none-missing h = rw (← found-here, ← e, not-false a f, ← m, le-ltb column 67 h) refl
+      module _ (flag : ℕ) (is-flag : (b : List ℕ) → flag ≡ missingFlag b nodes rows table n k) where
+        pub flag-missing : flag < 67 → 18 ≡ rowsFault c nodes (giversIn c nodes path′ start len) table n k
+        flag-missing h = decides flag 18 (flag-first c nodes rows table n k flag is-flag h) (rw (lt-ltb flag 67 h) refl)
+
+        module _ (group : ℕ) (h : 67 ≤ flag) (is-group : group ≡ missingFrom 0 (extentAt table n k) c nodes rows table n k) where
+          pub count-missing : group < 67 → 18 ≡ rowsFault c nodes (giversIn c nodes path′ start len) table n k
+          count-missing l = decides group 18 (group-then c nodes rows table n k flag is-flag group h is-group) (rw (lt-ltb group 67 l) refl)
+
+          pub none-missing : 67 ≤ group → 19 ≡ rowsFault c nodes (giversIn c nodes path′ start len) table n k
+          none-missing l = decides group 19 (group-then c nodes rows table n k flag is-flag group h is-group) (rw (le-ltb group 67 l) refl)

@@ -8,7 +8,7 @@ ghost use Rattle.inference.specs.Rows.{countOf, extentAt, pathAt, entryAt, rowE
 ghost use Rattle.policy.specs.Syntax.{Tree};
 ghost use Rattle.policy.specs.Loads.{Bounded, AllHeld};
 ghost use Rattle.fit.specs.Givers.{givenRows, totalOf, giversIn};
-ghost use Rattle.fit.specs.Covers.{flagCovers, countCovers, missingFlag, missingFrom, missingAt, rowsFault};
+ghost use Rattle.fit.specs.Covers.{flagCovers, countCovers, missingFlag, missingFrom, rowsFault};
 ghost use Rattle.fit.specs.Faults.{entryFault, entriesFault};
 use crate::Givers;
 use crate::Total;
@@ -50,7 +50,7 @@ fn flag_covered(needed: usize, nodes: &[usize], givers: Givers, value: usize) ->
 }
 
 // The column of the first flag of an entry that is needed and not granted, or 67.
-fn missing_flag(
+pub fn missing_flag(
     table: &[u16],
     component: usize,
     kind: usize,
@@ -83,7 +83,7 @@ fn count_covered(needed: usize, c: &[u8], nodes: &[usize], givers: Givers, group
 }
 
 // The first group that an entry needs to disclose to more often than is granted, or 67.
-fn missing_group(
+pub fn missing_group(
     c: &[u8],
     table: &[u16],
     component: usize,
@@ -112,25 +112,6 @@ fn missing_group(
     67
 }
 
-// The column of the first permission of an entry that is not covered, in the order read, write, access, then groups; or 67.
-pub fn first_missing(
-    c: &[u8],
-    table: &[u16],
-    component: usize,
-    kind: usize,
-    nodes: &[usize],
-    givers: Givers,
-) -> usize
-    requires { ⌜ (component < 32) × (kind < 16) ⌝ }
-    ensures { λ r. ⌜ r ≡ missingAt (now (c .entry)) (now (nodes .entry)) (givenRows givers) (now (table .entry)) component kind ⌝ }
-{
-    let flag = missing_flag(table, component, kind, nodes, givers);
-    if flag < 67 {
-        return flag;
-    }
-    missing_group(c, table, component, kind, nodes, givers)
-}
-
 // The first of questions 17 and 18 that the entry of a component and a kind fails in the kind's tree, or 19.
 fn tree_fault(
     c: &[u8],
@@ -149,7 +130,10 @@ fn tree_fault(
     if !all_given(found) {
         return 17;
     }
-    if first_missing(c, table, component, kind, nodes, found) < 67 {
+    if missing_flag(table, component, kind, nodes, found) < 67 {
+        return 18;
+    }
+    if missing_group(c, table, component, kind, nodes, found) < 67 {
         return 18;
     }
     19

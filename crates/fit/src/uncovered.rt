@@ -8,12 +8,13 @@ ghost use Rattle.inference.specs.Rows.{pathAt, entryAt, rowEntries, tableEntrie
 ghost use Rattle.policy.specs.Syntax.{Tree};
 ghost use Rattle.policy.specs.Loads.{Bounded, AllHeld};
 ghost use Rattle.fit.specs.Givers.{givenRows, giversIn};
-ghost use Rattle.fit.specs.Covers.{missingOf};
+ghost use Rattle.fit.specs.Covers.{missingAt, missingOf};
 ghost use Rattle.fit.specs.Uncovered.{firstMissing, firstUncovered};
 ghost use Rattle.fit.specs.Search.{Gives, uncoveredAt};
 use crate::Givers;
 use crate::Missing;
-use crate::entries::first_missing;
+use crate::entries::missing_flag;
+use crate::entries::missing_group;
 use crate::grants::givers;
 use crate::grants::tree_for;
 use inference::rows::path_of;
@@ -44,7 +45,26 @@ fn givers_of(nodes: &[usize], trees: Trees, table: &[u16], component: usize, kin
     givers(nodes, rows_of(trees, kind), path_of(table, component))
 }
 
-// The column of the first permission of an entry that is not covered, or 67.
+// The column of the first permission of an entry that is not covered, in the order read, write, access, then groups; or 67.
+fn first_missing(
+    c: &[u8],
+    table: &[u16],
+    component: usize,
+    kind: usize,
+    nodes: &[usize],
+    givers: Givers,
+) -> usize
+    requires { ⌜ (component < 32) × (kind < 16) ⌝ }
+    ensures { λ r. ⌜ r ≡ missingAt (now (c .entry)) (now (nodes .entry)) (givenRows givers) (now (table .entry)) component kind ⌝ }
+{
+    let flag = missing_flag(table, component, kind, nodes, givers);
+    if flag < 67 {
+        return flag;
+    }
+    missing_group(c, table, component, kind, nodes, givers)
+}
+
+// The same of the entry of a component and a kind.
 fn entry_missing(
     c: &[u8],
     nodes: &[usize],

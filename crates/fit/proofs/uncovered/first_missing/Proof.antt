@@ -1,8 +1,8 @@
 -- Flags before groups.
 use Rattle.fit.proofs.EntrySteps.{entry-steps}
 use borrow.Author.Needs.{needs}
-use Rattle.fit.proofs.entries.first_missing.Statement.{statement}
-use Rattle.fit.proofs.entries.first_missing.Tie as tie
+use Rattle.fit.proofs.uncovered.first_missing.Statement.{statement}
+use Rattle.fit.proofs.uncovered.first_missing.Tie as tie
 
 pub first-missing-spec : {M : Type 1} → statement M
 first-missing-spec =
