@@ -68,7 +68,7 @@ fn explain_missing(
     components: usize,
     line: &mut [u8],
 ) -> Answer
-    requires { ⌜ (components ≤ 32) × Bounded trees ⌝ }
+    requires { ⌜ (components ≤ 32) × Bounded trees × (length (now nodes) ≡ 320) ⌝ }
     ensures { λ r. ⌜ ((policy : List Tree) → AllHeld (now (charter .entry)) (now (nodes .entry)) trees 0 policy
         → Says (now (names .entry)) (firstUncovered policy (tableRequired (now (table .entry)) components) (tableEntries (now (table .entry)) components))
         (now (line .entry)) (now (line .exit)) r) ⌝ }
@@ -103,7 +103,7 @@ fn explain_judged(
     judged: Judged,
     line: &mut [u8],
 ) -> Answer
-    requires { ⌜ (judged .components ≤ 32) × (11 < judged .fault → Bounded (judged .trees)) ⌝ }
+    requires { ⌜ (judged .components ≤ 32) × (11 < judged .fault → Bounded (judged .trees)) × (length (now nodes) ≡ 320) ⌝ }
     ensures { λ r. ⌜ ((sheet : List ℕ) → Reads sheet (now (charter .entry))
         → Judges sheet (now (charter .entry)) (now (table .entry)) (now (nodes .entry)) judged
         → Explained sheet (now (charter .entry)) (now (names .entry)) (now (line .entry)) (now (line .exit)) r) ⌝ }

@@ -5,6 +5,7 @@ use mathlib.Core.List.{List}
 use mathlib.Core.Bool.{Bool, true, false, cond, not}
 use mathlib.Core.Option.{some}
 use native.Mathlib.Omega.{arith}
+use lib.ListN.{length}
 use lib.Dec.{ltb, leb}
 use borrow.Author.Needs.{needs}
 use borrow.Author.Tests.{eq-eqb, ne-eqb, lt-ltb, le-ltb, not-true, not-false}
@@ -13,10 +14,11 @@ use Rattle.inference.specs.Counts.{fin, unlimited, atMost}
 use Rattle.inference.specs.Rows.{isSet, cell, countOf, extentAt}
 use Rattle.interface.proofs.WriteLaws.{rising-next, rising-done}
 use Rattle.policy.specs.Syntax.{hasBit}
+use Rattle.fit.specs.declared.Covering.{Covering}
 use Rattle.fit.specs.declared.Total.{Total}
 use Rattle.fit.specs.Givers.{givenAt, joinedAt, totalOf, giversIn}
 use Rattle.fit.specs.Uncovered.{first}
-use Rattle.fit.specs.Covers.{allGiven, flagGiven, flagCovers, countCovers, missingFlag, orNone, missingFrom, missingAt, rowsFault}
+use Rattle.fit.specs.Covers.{allGiven, flagGiven, flagCovers, countCovers, missingFlag, orNone, missingFrom, missingAt, CoveringIs, rowsFault}
 
 -- a count against a sum
 any-count : (x : _) → atMost x unlimited ≡ true
@@ -167,24 +169,34 @@ module _ (c nodes rows path path′ table : List ℕ) (n k start len : ℕ) (is 
   found-here : rows ≡ giversIn c nodes path′ start len
   found-here = found c ∙ ap (λ (p : List ℕ). giversIn c nodes p start len) is
 
-  module _ (a : Bool) (e : a ≡ every (λ row. ltb row 64) rows) where
-    pub path-missing : not a ≡ true → 17 ≡ rowsFault c nodes (giversIn c nodes path′ start len) table n k
-    unfolding rowsFault allGiven
-    path-missing f = rw (← found-here, ← e, not-true a f) refl
+  module _ (a : Bool) (e : a ≡ every (λ row. ltb row 64) rows) (flag : ℕ) (is-flag : (b : List ℕ) → flag ≡ missingFlag b nodes rows table n k) where
+    pub flag-lacks : flag < 67 → CoveringIs c nodes (giversIn c nodes path′ start len) table n k (record { reached = a; column = flag })
+    unfolding allGiven
+    flag-lacks h = record { reached = rw (← found-here) e; column = rw (← found-here) (flag-first c nodes rows table n k flag is-flag h) }
 
-    module _ (f : not a ≡ false) where
-      decides : (column v : ℕ) → column ≡ missingAt c nodes rows table n k → v ≡ cond (ltb column 67) 18 19
-          → v ≡ rowsFault c nodes (giversIn c nodes path′ start len) table n k
-      unfolding rowsFault allGiven
-      decides column v m w = rw (← found-here, ← e, not-false a f, ← m) w
+    pub group-lacks : (group : ℕ) → 67 ≤ flag → group ≡ missingFrom 0 (extentAt table n k) c nodes rows table n k
+        → CoveringIs c nodes (giversIn c nodes path′ start len) table n k (record { reached = a; column = group })
+    unfolding allGiven
+    group-lacks group h g =
+        record { reached = rw (← found-here) e; column = rw (← found-here) (group-then c nodes rows table n k flag is-flag group h g) }
 
-      module _ (flag : ℕ) (is-flag : (b : List ℕ) → flag ≡ missingFlag b nodes rows table n k) where
-        pub flag-missing : flag < 67 → 18 ≡ rowsFault c nodes (giversIn c nodes path′ start len) table n k
-        flag-missing h = decides flag 18 (flag-first c nodes rows table n k flag is-flag h) (rw (lt-ltb flag 67 h) refl)
+-- A table of another length is never lent.
+pub no-table : (c nodes rows table : List ℕ) (n k : ℕ) (r : Covering) → length nodes ≡ 320 → (length nodes ≡ 320 → ⊥)
+    → CoveringIs c nodes rows table n k r
+no-table c nodes rows table n k r e f = absurd (f e)
 
-        module _ (group : ℕ) (h : 67 ≤ flag) (is-group : group ≡ missingFrom 0 (extentAt table n k) c nodes rows table n k) where
-          pub count-missing : group < 67 → 18 ≡ rowsFault c nodes (giversIn c nodes path′ start len) table n k
-          count-missing l = decides group 18 (group-then c nodes rows table n k flag is-flag group h is-group) (rw (lt-ltb group 67 l) refl)
+-- Questions 17 and 18, from what an entry comes to.
+module _ (c nodes rows table : List ℕ) (n k : ℕ) (r : Covering) (is : CoveringIs c nodes rows table n k r) where
+  pub path-missing : not (r .reached) ≡ true → 17 ≡ rowsFault c nodes rows table n k
+  unfolding rowsFault
+  path-missing h = rw (← is .reached, not-true (r .reached) h) refl
 
-          pub none-missing : 67 ≤ group → 19 ≡ rowsFault c nodes (giversIn c nodes path′ start len) table n k
-          none-missing l = decides group 19 (group-then c nodes rows table n k flag is-flag group h is-group) (rw (le-ltb group 67 l) refl)
+  pub one-missing : not (r .reached) ≡ false → r .column < 67 → 18 ≡ rowsFault c nodes rows table n k
+  unfolding rowsFault
+  one-missing h l = rw (← is .reached, not-false (r .reached) h, ← is .column, lt-ltb (r .column) 67 l) refl
+
+  pub none-missing : not (r .reached) ≡ false → 67 ≤ r .column → 19 ≡ rowsFault c nodes rows table n k
+  unfolding rowsFault
+  none-missing h l = rw (← is .reached, not-false (r .reached) h, ← is .column, le-ltb (r .column) 67 l) refl
+
+pub ruleset covering-steps = (needs, flag-lacks, group-lacks, no-table, path-missing, one-missing, none-missing)

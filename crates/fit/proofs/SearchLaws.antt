@@ -18,9 +18,10 @@ use Rattle.policy.specs.Loads.{AllHeld, startOf}
 use Rattle.policy.specs.declared.Trees.{Trees}
 use Rattle.fit.specs.Satisfies.{covered}
 use Rattle.fit.specs.Givers.{giversIn, indexOf}
-use Rattle.fit.specs.Covers.{missingAt, missingOf}
+use Rattle.fit.specs.Covers.{missingOf, CoveringIs}
 use Rattle.fit.specs.Uncovered.{first, firstMissing, Uncovered, orFurther, firstUncovered}
 use Rattle.fit.specs.Search.{Gives, uncoveredAt}
+use Rattle.fit.specs.declared.Covering.{Covering}
 use Rattle.fit.specs.declared.Missing.{Missing}
 use Rattle.fit.proofs.GrantTrees.{has-tree, tree-rows, tree-gives, none-gives}
 use Rattle.fit.proofs.EntryLaws.{isNone, covered-first, missing-rows}
@@ -103,20 +104,16 @@ module _ (trees : Trees) (few : trees .len ≤ 16) (kinds : length (trees .kinds
   present-gives h start end p q given =
       tree-gives c nodes policy kind start end (tree-rows c nodes trees policy held few kinds kind t at h start end p q) path rows given
 
--- what `givers` finds for the path of a component
-pub found-gives : (nodes : List ℕ) (trees : Trees) (kind start end : ℕ) (path path′ rows : List ℕ)
-    → ((c ns : List ℕ) (policy : List Tree) → AllHeld c ns trees 0 policy → (p rs : List ℕ) → rs ≡ giversIn c ns p start (end - start) → Gives c ns policy kind p rs)
-    → path ≡ path′ → ((c : List ℕ) → rows ≡ giversIn c nodes path start (end - start))
-    → (c : List ℕ) (policy : List Tree) → AllHeld c nodes trees 0 policy → Gives c nodes policy kind path′ rows
-found-gives nodes trees kind start end path path′ rows gives is found c policy held =
-    gives c nodes policy held path′ rows (found c ∙ ap (λ (p : List ℕ). giversIn c nodes p start (end - start)) is)
-
-pub lacks-at : (c nodes : List ℕ) (trees : Trees) (table rows : List ℕ) (n k column : ℕ)
-    → ((b : List ℕ) (policy : List Tree) → AllHeld b nodes trees 0 policy → Gives b nodes policy k (pathAt table n) rows)
-    → column ≡ missingAt c nodes rows table n k
-    → (policy : List Tree) → AllHeld c nodes trees 0 policy → (required : Required) → firstMissing policy required (entryAt table n k) ≡ missingOf column
-lacks-at c nodes trees table rows n k column gives e policy held required =
-    missing-rows policy required table n k c nodes rows (gives c policy held) ∙ ap missingOf (sym e)
+-- what `covering` finds for an entry in the rows of its kind
+pub lacks-at : (c nodes : List ℕ) (trees : Trees) (table : List ℕ) (n k start end : ℕ) (r : Covering)
+    → ((b ns : List ℕ) (policy : List Tree) → AllHeld b ns trees 0 policy → (path rows : List ℕ)
+    → rows ≡ giversIn b ns path start (end - start) → Gives b ns policy k path rows)
+    → CoveringIs c nodes (giversIn c nodes (pathAt table n) start (end - start)) table n k r
+    → (policy : List Tree) → AllHeld c nodes trees 0 policy → (required : Required) → firstMissing policy required (entryAt table n k) ≡ missingOf (r .column)
+lacks-at c nodes trees table n k start end r gives is policy held required =
+    missing-rows policy required table n k c nodes (giversIn c nodes (pathAt table n) start (end - start))
+    (gives c nodes policy held (pathAt table n) (giversIn c nodes (pathAt table n) start (end - start)) refl)
+    ∙ ap missingOf (sym (is .column))
 
 -- The kinds passed so far lack nothing, so that those left decide.
 pub record KindsLeft (c nodes : List ℕ) (trees : Trees) (table : List ℕ) (n kind : ℕ) : Type 0 where
@@ -215,4 +212,4 @@ rows-covered c nodes trees table m i left done policy held =
     ∙ ap (λ (l : List ℕ). firstUncovered policy (tableRequired table m) (gather (rowEntries table) l)) (rising-done i m done)
     ∙ none-at table (record { component = 0; kind = 0; column = 67 }) (omega arith)
 
-pub ruleset search-steps = (needs, found-gives, lacks-at, kinds-left, kind-lacks, kind-covered, kinds-covered, rows-left, row-lacks, row-covered, rows-covered)
+pub ruleset search-steps = (needs, lacks-at, kinds-left, kind-lacks, kind-covered, kinds-covered, rows-left, row-lacks, row-covered, rows-covered)

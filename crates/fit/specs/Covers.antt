@@ -1,5 +1,6 @@
 -- An entry of a table against the rows that give to its path: questions 17 and 18 as the code asks them.
 use Prim.Native.Nat.{ℕ}
+use mathlib.Core.Path.{_≡_}
 use mathlib.Core.List.{List}
 use mathlib.Core.Bool.{Bool, cond, not, _||_}
 use mathlib.Core.Option.{Option, some, none}
@@ -11,6 +12,7 @@ use Rattle.inference.specs.Rows.{isSet, cell, countOf, extentAt}
 use Rattle.policy.specs.Syntax.{hasBit}
 use Rattle.fit.specs.Uncovered.{first}
 use Rattle.fit.specs.Givers.{givenAt, joinedAt}
+use Rattle.fit.specs.declared.Covering.{Covering}
 
 -- each group of the path at a reached node
 unfoldable pub allGiven : List ℕ → Bool
@@ -50,6 +52,11 @@ unfoldable pub missingAt : List ℕ → List ℕ → List ℕ → List ℕ → �
 missingAt c nodes rows table component kind =
     cond (ltb (missingFlag c nodes rows table component kind) 67) (missingFlag c nodes rows table component kind)
     (missingFrom 0 (extentAt table component kind) c nodes rows table component kind)
+
+-- what the code answers of an entry: is each group of its path at a reached node, and the first column that is not covered
+pub record CoveringIs (c nodes rows table : List ℕ) (component kind : ℕ) (r : Covering) : Type 0 where
+  pub reached : r .reached ≡ allGiven rows
+  pub column : r .column ≡ missingAt c nodes rows table component kind
 
 -- the permission of a column, none at 67
 unfoldable pub permissionAt : ℕ → Permission

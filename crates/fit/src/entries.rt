@@ -2,14 +2,16 @@
 ghost use mathlib.Core.Path.{_≡_};
 ghost use mathlib.Core.List.{List};
 ghost use Prim.Native.Nat.{ℕ, _<_, _≤_, _-_, min};
+ghost use lib.ListN.{length};
 ghost use Rattle.inference.specs.Counts.{atMost};
 ghost use Rattle.inference.specs.Interface.{Required};
 ghost use Rattle.inference.specs.Rows.{countOf, extentAt, pathAt, entryAt, rowEntries, tableEntries, tableRequired};
 ghost use Rattle.policy.specs.Syntax.{Tree};
 ghost use Rattle.policy.specs.Loads.{Bounded, AllHeld};
 ghost use Rattle.fit.specs.Givers.{givenRows, totalOf, giversIn};
-ghost use Rattle.fit.specs.Covers.{flagCovers, countCovers, missingFlag, missingFrom, rowsFault};
+ghost use Rattle.fit.specs.Covers.{flagCovers, countCovers, missingFlag, missingFrom, CoveringIs, rowsFault};
 ghost use Rattle.fit.specs.Faults.{entryFault, entriesFault};
+use crate::Covering;
 use crate::Givers;
 use crate::Total;
 use crate::grants::all_given;
@@ -50,7 +52,7 @@ fn flag_covered(needed: usize, nodes: &[usize], givers: Givers, value: usize) ->
 }
 
 // The column of the first flag of an entry that is needed and not granted, or 67.
-pub fn missing_flag(
+fn missing_flag(
     table: &[u16],
     component: usize,
     kind: usize,
@@ -83,7 +85,7 @@ fn count_covered(needed: usize, c: &[u8], nodes: &[usize], givers: Givers, group
 }
 
 // The first group that an entry needs to disclose to more often than is granted, or 67.
-pub fn missing_group(
+fn missing_group(
     c: &[u8],
     table: &[u16],
     component: usize,
@@ -112,6 +114,43 @@ pub fn missing_group(
     67
 }
 
+// What an entry comes to in the tree of its kind: is each group of its path at a reached node, and the column of the first permission
+// that is not covered, in the order read, write, access, then groups; or 67.
+pub fn covering(
+    c: &[u8],
+    nodes: &[usize],
+    tree: Span,
+    table: &[u16],
+    component: usize,
+    kind: usize,
+) -> Covering
+    requires { ⌜ (tree .to ≤ 64) × (component < 32) × (kind < 16) × (length (now nodes) ≡ 320) ⌝ }
+    ensures { λ r. ⌜ CoveringIs (now (c .entry)) (now (nodes .entry))
+        (giversIn (now (c .entry)) (now (nodes .entry)) (pathAt (now (table .entry)) component) (tree .from) (tree .to - tree .from))
+        (now (table .entry)) component kind r ⌝ }
+{
+    // Never so; said for the compiler, which then tests no index of the table again.
+    if nodes.len() != 320 {
+        return Covering {
+            reached: false,
+            column: 67,
+        };
+    }
+    let found = givers(nodes, tree, path_of(table, component));
+    let reached = all_given(found);
+    let flag = missing_flag(table, component, kind, nodes, found);
+    if flag < 67 {
+        return Covering {
+            reached,
+            column: flag,
+        };
+    }
+    Covering {
+        reached,
+        column: missing_group(c, table, component, kind, nodes, found),
+    }
+}
+
 // The first of questions 17 and 18 that the entry of a component and a kind fails in the kind's tree, or 19.
 fn tree_fault(
     c: &[u8],
@@ -121,19 +160,16 @@ fn tree_fault(
     component: usize,
     kind: usize,
 ) -> usize
-    requires { ⌜ (tree .to ≤ 64) × (component < 32) × (kind < 16) ⌝ }
+    requires { ⌜ (tree .to ≤ 64) × (component < 32) × (kind < 16) × (length (now nodes) ≡ 320) ⌝ }
     ensures { λ r. ⌜ r ≡ rowsFault (now (c .entry)) (now (nodes .entry))
         (giversIn (now (c .entry)) (now (nodes .entry)) (pathAt (now (table .entry)) component) (tree .from) (tree .to - tree .from))
         (now (table .entry)) component kind ⌝ }
 {
-    let found = givers(nodes, tree, path_of(table, component));
-    if !all_given(found) {
+    let found = covering(c, nodes, tree, table, component, kind);
+    if !found.reached {
         return 17;
     }
-    if missing_flag(table, component, kind, nodes, found) < 67 {
-        return 18;
-    }
-    if missing_group(c, table, component, kind, nodes, found) < 67 {
+    if found.column < 67 {
         return 18;
     }
     19
@@ -148,7 +184,7 @@ fn entry_fault(
     component: usize,
     kind: usize,
 ) -> usize
-    requires { ⌜ (component < 32) × (kind < 16) × Bounded trees ⌝ }
+    requires { ⌜ (component < 32) × (kind < 16) × Bounded trees × (length (now nodes) ≡ 320) ⌝ }
     ensures { λ r. ⌜ ((policy : List Tree) → AllHeld (now (c .entry)) (now (nodes .entry)) trees 0 policy
         → (required : Required) → r ≡ entryFault policy required (entryAt (now (table .entry)) component kind)) ⌝ }
 {
@@ -170,7 +206,7 @@ fn least(a: usize, b: usize) -> usize
 
 // The first that an entry of a component fails, or 19.
 fn row_fault(c: &[u8], nodes: &[usize], trees: Trees, table: &[u16], component: usize) -> usize
-    requires { ⌜ (component < 32) × Bounded trees ⌝ }
+    requires { ⌜ (component < 32) × Bounded trees × (length (now nodes) ≡ 320) ⌝ }
     ensures { λ r. ⌜ ((policy : List Tree) → AllHeld (now (c .entry)) (now (nodes .entry)) trees 0 policy
         → (required : Required) → r ≡ entriesFault policy required (rowEntries (now (table .entry)) component)) ⌝ }
 {
@@ -185,7 +221,7 @@ fn row_fault(c: &[u8], nodes: &[usize], trees: Trees, table: &[u16], component: 
 
 // The first of questions 16 to 18 that any entry fails, or 19.
 pub fn fit(c: &[u8], nodes: &[usize], trees: Trees, table: &[u16], components: usize) -> usize
-    requires { ⌜ (components ≤ 32) × Bounded trees ⌝ }
+    requires { ⌜ (components ≤ 32) × Bounded trees × (length (now nodes) ≡ 320) ⌝ }
     ensures { λ r. ⌜ ((policy : List Tree) → AllHeld (now (c .entry)) (now (nodes .entry)) trees 0 policy
         → r ≡ entriesFault policy (tableRequired (now (table .entry)) components) (tableEntries (now (table .entry)) components)) ⌝ }
 {

@@ -3,21 +3,18 @@
 ghost use mathlib.Core.Path.{_≡_};
 ghost use mathlib.Core.List.{List};
 ghost use Prim.Native.Nat.{ℕ, _<_, _≤_, _-_};
+ghost use lib.ListN.{length};
 ghost use Rattle.inference.specs.Interface.{Required};
-ghost use Rattle.inference.specs.Rows.{pathAt, entryAt, rowEntries, tableEntries, tableRequired};
+ghost use Rattle.inference.specs.Rows.{entryAt, rowEntries, tableEntries, tableRequired};
 ghost use Rattle.policy.specs.Syntax.{Tree};
 ghost use Rattle.policy.specs.Loads.{Bounded, AllHeld};
-ghost use Rattle.fit.specs.Givers.{givenRows, giversIn};
-ghost use Rattle.fit.specs.Covers.{missingAt, missingOf};
+ghost use Rattle.fit.specs.Givers.{giversIn};
+ghost use Rattle.fit.specs.Covers.{missingOf};
 ghost use Rattle.fit.specs.Uncovered.{firstMissing, firstUncovered};
 ghost use Rattle.fit.specs.Search.{Gives, uncoveredAt};
-use crate::Givers;
 use crate::Missing;
-use crate::entries::missing_flag;
-use crate::entries::missing_group;
-use crate::grants::givers;
+use crate::entries::covering;
 use crate::grants::tree_for;
-use inference::rows::path_of;
 use policy::Span;
 use policy::Trees;
 use policy::wellformed::span_of;
@@ -36,35 +33,7 @@ fn rows_of(trees: Trees, kind: usize) -> Span
     span_of(trees, t)
 }
 
-// What gives to a component's path in the tree of a kind.
-fn givers_of(nodes: &[usize], trees: Trees, table: &[u16], component: usize, kind: usize) -> Givers
-    requires { ⌜ (component < 32) × Bounded trees ⌝ }
-    ensures { λ r. ⌜ ((c : List ℕ) (policy : List Tree) → AllHeld c (now (nodes .entry)) trees 0 policy
-        → Gives c (now (nodes .entry)) policy kind (pathAt (now (table .entry)) component) (givenRows r)) ⌝ }
-{
-    givers(nodes, rows_of(trees, kind), path_of(table, component))
-}
-
-// The column of the first permission of an entry that is not covered, in the order read, write, access, then groups; or 67.
-fn first_missing(
-    c: &[u8],
-    table: &[u16],
-    component: usize,
-    kind: usize,
-    nodes: &[usize],
-    givers: Givers,
-) -> usize
-    requires { ⌜ (component < 32) × (kind < 16) ⌝ }
-    ensures { λ r. ⌜ r ≡ missingAt (now (c .entry)) (now (nodes .entry)) (givenRows givers) (now (table .entry)) component kind ⌝ }
-{
-    let flag = missing_flag(table, component, kind, nodes, givers);
-    if flag < 67 {
-        return flag;
-    }
-    missing_group(c, table, component, kind, nodes, givers)
-}
-
-// The same of the entry of a component and a kind.
+// The column of the first permission of an entry that is not covered, or 67.
 fn entry_missing(
     c: &[u8],
     nodes: &[usize],
@@ -73,17 +42,17 @@ fn entry_missing(
     component: usize,
     kind: usize,
 ) -> usize
-    requires { ⌜ (component < 32) × (kind < 16) × Bounded trees ⌝ }
+    requires { ⌜ (component < 32) × (kind < 16) × Bounded trees × (length (now nodes) ≡ 320) ⌝ }
     ensures { λ r. ⌜ ((policy : List Tree) → AllHeld (now (c .entry)) (now (nodes .entry)) trees 0 policy
         → (required : Required) → firstMissing policy required (entryAt (now (table .entry)) component kind) ≡ missingOf r) ⌝ }
 {
-    let givers = givers_of(nodes, trees, table, component, kind);
-    first_missing(c, table, component, kind, nodes, givers)
+    let found = covering(c, nodes, rows_of(trees, kind), table, component, kind);
+    found.column
 }
 
 // The first uncovered permission of a component.
 fn row_missing(c: &[u8], nodes: &[usize], trees: Trees, table: &[u16], component: usize) -> Missing
-    requires { ⌜ (component < 32) × Bounded trees ⌝ }
+    requires { ⌜ (component < 32) × Bounded trees × (length (now nodes) ≡ 320) ⌝ }
     ensures { λ r. ⌜ ((policy : List Tree) → AllHeld (now (c .entry)) (now (nodes .entry)) trees 0 policy
         → (required : Required) → firstUncovered policy required (rowEntries (now (table .entry)) component) ≡ uncoveredAt (now (table .entry)) r) ⌝ }
     ensures few { λ r. ⌜ r .component < 32 ⌝ }
@@ -115,7 +84,7 @@ pub fn first_uncovered(
     table: &[u16],
     components: usize,
 ) -> Missing
-    requires { ⌜ (components ≤ 32) × Bounded trees ⌝ }
+    requires { ⌜ (components ≤ 32) × Bounded trees × (length (now nodes) ≡ 320) ⌝ }
     ensures { λ r. ⌜ ((policy : List Tree) → AllHeld (now (c .entry)) (now (nodes .entry)) trees 0 policy
         → firstUncovered policy (tableRequired (now (table .entry)) components) (tableEntries (now (table .entry)) components)
         ≡ uncoveredAt (now (table .entry)) r) ⌝ }

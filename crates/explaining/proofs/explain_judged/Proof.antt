@@ -6,7 +6,7 @@ use Rattle.explaining.proofs.explain_judged.Statement.{statement}
 use Rattle.explaining.proofs.explain_judged.Tie as tie
 
 explain-missing-requires : tie.Need-explain-missing-requires
-explain-missing-requires c κs = (c .before .before .before .before .before .before .before .before .before .before .pre .0, c .before .before .before .before .before .before .before .before .before .before .pre .1 (omega (arith, c .before .if2 .left)))
+explain-missing-requires c κs = (c .before .before .before .before .before .before .before .before .before .before .pre .0, c .before .before .before .before .before .before .before .before .before .before .pre .1 (omega (arith, c .before .if2 .left)), search explaining)
 
 pub explain-judged-spec : {M : Type 1} → statement M
 explain-judged-spec =

@@ -17,7 +17,7 @@ returns-2 c = λ policy held required.
 
 tree-fault-requires : tie.Need-tree-fault-requires
 tree-fault-requires c κs =
-    (omega (arith, c .span-of .ensures .1, c .before .before .before .before .before .before .before .before .before .pre .2 .rows (c .before .before .before .tree-for .result)), search needs, search needs)
+    (omega (arith, c .span-of .ensures .1, c .before .before .before .before .before .before .before .before .before .pre .2 .rows (c .before .before .before .tree-for .result)), search needs, search needs, search needs)
 
 returns-3 : tie.Need-returns-3
 returns-3 c = λ policy held required.

@@ -5,7 +5,7 @@ use Rattle.service.proofs.judging.judge_with.Statement.{statement}
 use Rattle.service.proofs.judging.judge_with.Tie as tie
 
 fit-requires : tie.Need-fit-requires
-fit-requires c κs = (search needs, search policy-judging)
+fit-requires c κs = (search needs, search policy-judging, search needs)
 
 pub judge-with-spec : {M : Type 1} → statement M
 judge-with-spec =
