@@ -20,24 +20,13 @@ use Rattle.inference.proofs.CountLaws.{join-comm, at-most-self, at-most-trans, 
 use Rattle.inference.proofs.NeedLaws.{NeedRange, act-range}
 use Rattle.inference.proofs.RequiredLaws.{needed-acts}
 use Rattle.policy.specs.Syntax.{Tree}
-use Rattle.policy.specs.WellFormed.{kindsDistinct, noneAbove, sameHeads, fenced}
 use Rattle.fit.specs.Grants.{flagGranted, countGranted}
 use Rattle.fit.specs.Satisfies.{hasTree, pathReached, grantsOne, covered}
-use Rattle.service.specs.Questions.{Asked, passed, ask, afterReading, typed, wellFormed, satisfied, Accepted, judgedFrom, judged}
+use Rattle.service.specs.Questions.{Asked, passed, ask, afterReading, typed, satisfied, Accepted, judgedFrom, judged}
+use Rattle.service.proofs.PassedLaws.{ask-yes, ask-rest, formed-rest}
 use Rattle.running.specs.Guarantees.{passes, grantsNeed, isFine, ofComponent}
 use Rattle.running.proofs.Alls.{All, done, also, or-first, or-second, any-member, all-both, all-right, all-head, all-each, all-gather, all-member, all-from, all-every}
 use Rattle.running.proofs.Components.{acts-component, component-acts}
-
--- A "yes" leaves the question answered and the questions after it.
-ask-yes : {A : Type 0} (n : ℕ) (b : Bool) (rest : Asked A) (a : A) → ask n b rest ≡ passed a → b ≡ true
-unfolding ask
-ask-yes n true rest a h = refl
-ask-yes n false rest a h = let z : _≡_ {A = ℕ} 0 1 = cc in absurd (omega arith)
-
-ask-rest : {A : Type 0} (n : ℕ) (b : Bool) (rest : Asked A) (a : A) → ask n b rest ≡ passed a → rest ≡ passed a
-unfolding ask
-ask-rest n true rest a h = h
-ask-rest n false rest a h = let z : _≡_ {A = ℕ} 0 1 = cc in absurd (omega arith)
 
 record Typed (all : List Act) : Type 0 where
   scopes : every inScope all ≡ true
@@ -61,10 +50,6 @@ typed-yes all rest a h =
 typed-rest : {A : Type 0} (all : List Act) (rest : Asked A) (a : A) → typed all rest ≡ passed a → rest ≡ passed a
 unfolding typed
 typed-rest all rest a h = ask-rest 10 (every inPath all) _ a (ask-rest 9 (every carriesObject all) _ a (ask-rest 8 (every onChannel all) _ a (ask-rest 7 (every inScope all) _ a h)))
-
-formed-rest : {A : Type 0} (policy : List Tree) (rest : Asked A) (a : A) → wellFormed policy rest ≡ passed a → rest ≡ passed a
-unfolding wellFormed
-formed-rest policy rest a h = ask-rest 15 (fenced policy) _ a (ask-rest 14 (sameHeads policy) _ a (ask-rest 13 (noneAbove policy) _ a (ask-rest 12 (kindsDistinct policy) _ a h)))
 
 module _ {A : Type 0} (policy : List Tree) (required : Required) (rest : Asked A) (a : A) (h : satisfied policy required rest ≡ passed a) where
   last-asked : ask 18 (every (covered policy required) (required .entries)) rest ≡ passed a

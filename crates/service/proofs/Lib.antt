@@ -4,6 +4,7 @@ pub mod Table
 pub mod Cases
 pub mod JudgeLaws
 pub mod FirstLaws
+pub mod PassedLaws
 pub mod RoomLaws
 pub mod JudgeSteps
 pub mod CheckSteps
