@@ -44,7 +44,7 @@ use Rattle.interface.proofs.TableLaws.{FitsRow, AllStorable, store-none, store-
 use Rattle.interface.proofs.StoreLaws.{sheet-storable}
 use Rattle.policy.specs.Syntax.{Tree}
 use Rattle.policy.specs.Reading.{readPolicy}
-use Rattle.policy.specs.Loads.{policyFault}
+use Rattle.wellformed.specs.Faults.{policyFault}
 use Rattle.fit.specs.Satisfies.{hasTree, pathReached, covered}
 use Rattle.fit.specs.Faults.{entryFault, entriesFault}
 use Rattle.fit.specs.Uncovered.{first, firstMissing, Uncovered, orFurther, firstUncovered}

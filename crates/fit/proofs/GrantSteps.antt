@@ -22,8 +22,7 @@ use Rattle.policy.specs.declared.Node.{Node}
 use Rattle.policy.specs.declared.Permissions.{Permissions as Stored}
 use Rattle.fit.specs.declared.Total.{Total}
 use Rattle.policy.proofs.NodeLaws.{node-steps}
-use Rattle.policy.proofs.RowLaws.{flats-more, flats-none, items-more, items-none, items-all}
-use Rattle.policy.proofs.KindSteps.{kinds-none}
+use Rattle.policy.proofs.RowLaws.{flats-more, flats-none, items-more, items-none, items-all, kinds-none}
 
 -- The first n of a list, from the i-th on: none past its end, before it the i-th and what follows.
 past-end : (l : List ℕ) (n i : ℕ) → length l ≤ i → drop i (take n l) ≡ []

@@ -25,7 +25,7 @@ use interface::extent_at;
 use interface::map_at;
 use policy::Span;
 use policy::Trees;
-use policy::wellformed::span_of;
+use policy::nodes::span_of;
 
 // Is a needed count at most a granted sum?
 fn within(needed: usize, granted: Total) -> bool

@@ -20,9 +20,9 @@ use policy::Permissions;
 use policy::Span;
 use policy::Trees;
 use policy::nodes::byte_in;
+use policy::nodes::has_bit;
 use policy::nodes::node_at;
 use policy::nodes::word_in;
-use policy::wellformed::has_bit;
 use reading::Path;
 use reading::paths;
 

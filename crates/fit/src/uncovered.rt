@@ -17,7 +17,7 @@ use crate::entries::covering;
 use crate::grants::tree_for;
 use policy::Span;
 use policy::Trees;
-use policy::wellformed::span_of;
+use policy::nodes::span_of;
 
 // The rows of a kind's tree; none where there is no such tree.
 fn rows_of(trees: Trees, kind: usize) -> Span

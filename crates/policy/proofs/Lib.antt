@@ -1,12 +1,7 @@
 -- Laws of the policy's definitions, and the lemmas that its functions' proofs share.
 pub mod NodeLaws
 pub mod RowLaws
-pub mod KindSteps
-pub mod FreshSteps
-pub mod AgreeSteps
-pub mod FenceSteps
-pub mod FlatLaws
-pub mod PassSteps
+pub mod SpanSteps
 pub mod ListLaws
 pub mod ListSteps
 pub mod OpeningSteps

@@ -1,11 +1,13 @@
--- Rows of the table and items of a list, one by one: how a loop that goes over them with a number i unrolls its definition.
+-- Rows of the table, items of a list and kinds of the trees, one by one: how a loop that goes over them with a number i unrolls its
+-- definition.
 use Prim.Native.Nat.{ℕ, zero, suc, _+_, _-_, _*_, _<_, _≤_}
 use mathlib.Core.Bool.{Bool, true, false, _&&_}
 use mathlib.Core.List.{List, [], _∷_}
 use mathlib.Core.Path.{_≡_, refl}
 use native.Mathlib.Numerals.{add-one}
 use native.Mathlib.Omega.{arith}
-use lib.ListN.{getD, length}
+use lib.ListN.{getD, length, take, drop, length-take, drop-of-length-le}
+use lib.Seq.{drop-cons, getD-take}
 use Rattle.inference.specs.Lists.{rising}
 use Rattle.policy.specs.Rows.{nodeAt, wordIn, itemsAt, flatOf, flats}
 
@@ -38,3 +40,11 @@ pub items-count : (n : ℕ) (c : List ℕ) (at : ℕ) → length (itemsAt n c at
 unfolding itemsAt
 items-count zero c at = refl
 items-count (suc n) c at = rw (items-count n c (at + 3))
+
+-- The kinds from the i-th on: the i-th, and those after it.
+pub kinds-more : (kinds : List ℕ) (len i : ℕ) → length kinds ≡ 16 → len ≤ 16 → i < len
+    → drop i (take len kinds) ≡ getD kinds i 0 ∷ drop (i + 1) (take len kinds)
+kinds-more kinds len i l few h = rw (drop-cons (take len kinds) i 0 (omega (arith, length-take len kinds)), getD-take, add-one)
+
+pub kinds-none : (kinds : List ℕ) (len i : ℕ) → len ≤ i → drop i (take len kinds) ≡ []
+kinds-none kinds len i h = drop-of-length-le (take len kinds) {i = i} (omega (arith, length-take len kinds))

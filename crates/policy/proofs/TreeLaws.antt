@@ -13,7 +13,7 @@ use lib.Seq.{take-at, drop-at}
 use Rattle.inference.specs.Lists.{rising}
 use Rattle.reading.proofs.Parts.{never, parts}
 use Rattle.reading.specs.Read.{got, andThen}
-use Rattle.policy.proofs.KindSteps.{kinds-more}
+use Rattle.policy.proofs.RowLaws.{kinds-more}
 use Rattle.policy.proofs.ListLaws.{held}
 use Rattle.policy.proofs.NodeSteps.{node-suc, children-suc, more-heads}
 use Rattle.policy.proofs.StoreLaws.{flats-append}

@@ -2,7 +2,6 @@
 use Prim.Native.Nat.{ℕ, zero, suc, _+_, _-_, _<_, _≤_, min}
 use mathlib.Core.Path.{_≡_}
 use mathlib.Core.List.{List, [], _∷_, _++_}
-use mathlib.Core.Bool.{Bool, true, false, cond}
 use lib.ListN.{length, getD, set, replicate}
 use Rattle.reading.specs.Read.{Read, got, refused, andThen, byteAt, below}
 use Rattle.reading.specs.System.{toItsEnd}
@@ -22,9 +21,7 @@ use Rattle.policy.specs.declared.PolicyRead.{PolicyRead}
 use Rattle.policy.specs.declared.Trees.{Trees}
 use Rattle.policy.specs.Syntax.{Granted, Permissions, Node, Nodes, Head, alone, headsOf, Tree}
 use Rattle.policy.specs.Reading.{asEleven, children, readPermissions, readNode, readTrees}
-use Rattle.policy.specs.WellFormed.{kindsDistinct, noneAbove, sameHeads, fenced}
-use Rattle.inference.specs.Lists.{every}
-use Rattle.policy.specs.Rows.{permissionsOf, flatOf, flats, flatten, passesIn}
+use Rattle.policy.specs.Rows.{permissionsOf, flatOf, flats, flatten}
 
 -- permissions that were read, by where they stand
 abbrev pub permissionsRead : List ℕ → PermissionsRead → Read Permissions
@@ -153,12 +150,3 @@ pub data LoadedPolicy (c : List ℕ) (read : Read (List Tree)) (nodes : List ℕ
   unread : {why : Refusal} → read ≡ refused (why .question) (why .at) → r .end ≡ end-case.Refused why → LoadedPolicy c read nodes r
   loaded : {policy : List Tree} {next : ℕ} → read ≡ got policy next → r .end ≡ end-case.At next → Bounded (r .trees)
       → AllHeld c nodes (r .trees) 0 policy → LoadedPolicy c read nodes r
-
--- Do all trees pass question 13, 14 or 15, put to their rows?
-unfoldable pub allPass : ℕ → List Tree → Bool
-allPass question policy = every (λ t. passesIn question (flatten 0 (alone (t .root)))) policy
-
--- The first of questions 12 to 15 that a policy fails, or 16.
-unfoldable pub policyFault : List Tree → ℕ
-policyFault policy =
-    cond (kindsDistinct policy) (cond (noneAbove policy) (cond (sameHeads policy) (cond (fenced policy) 16 15) 14) 13) 12

@@ -1,8 +1,7 @@
-// Policies (document 01: charters): their reading and questions 11 to 15. The nodes of a policy that is read stand in a table, in
+// Policies (document 01: charters): their reading, question 11. The nodes of a policy that is read stand in a table, in
 // reading order.
 pub mod nodes;
 pub mod read;
-pub mod wellformed;
 
 use reading::End;
 use reading::Refusal;

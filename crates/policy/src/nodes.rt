@@ -2,9 +2,13 @@
 ghost use mathlib.Core.Path.{_≡_};
 ghost use Prim.Native.Nat.{_<_, _≤_};
 ghost use lib.ListN.{getD, set};
+ghost use Rattle.policy.specs.Syntax.{hasBit};
 ghost use Rattle.policy.specs.Rows.{nodeAt, withNode, wordIn};
+ghost use Rattle.policy.specs.Loads.{startOf};
 use crate::Node;
 use crate::Permissions;
+use crate::Span;
+use crate::Trees;
 
 fn cell(nodes: &[usize], at: usize) -> usize
     ensures { λ r. ⌜ r ≡ getD (now (nodes .entry)) at 0 ⌝ }
@@ -73,4 +77,31 @@ pub fn word_in(c: &[u8], at: usize) -> usize
     ensures { λ r. ⌜ r < 65536 ⌝ }
 {
     byte_in(c, at) + 256 * byte_in(c, at + 1)
+}
+
+// Bit 2 ^ k of a map; `value` is 2 ^ k.
+pub fn has_bit(map: usize, value: usize) -> bool
+    requires { ⌜ 0 < value ⌝ }
+    ensures { λ r. ⌜ r ≡ hasBit value map ⌝ }
+{
+    map / value % 2 != 0
+}
+
+// The rows of the t-th tree.
+pub fn span_of(trees: Trees, t: usize) -> Span
+    requires { ⌜ t < 16 ⌝ }
+    ensures { λ r. ⌜ (r .from ≡ startOf trees t) × (r .to ≡ getD (trees .ends) t 0) ⌝ }
+{
+    let ends = trees.ends;
+    if t == 0 {
+        Span {
+            from: 0,
+            to: ends[0],
+        }
+    } else {
+        Span {
+            from: ends[t - 1],
+            to: ends[t],
+        }
+    }
 }

@@ -19,7 +19,7 @@ use Rattle.policy.specs.Syntax.{Tree}
 use Rattle.policy.specs.Reading.{readPolicy, asEleven}
 use Rattle.policy.specs.WellFormed.{kindsDistinct, noneAbove, sameHeads, fenced}
 use Rattle.fit.specs.Satisfies.{hasTree, pathReached, covered}
-use Rattle.policy.specs.Loads.{policyFault}
+use Rattle.wellformed.specs.Faults.{policyFault}
 use Rattle.fit.specs.Faults.{entryFault, entriesFault}
 use Rattle.service.specs.Questions.{Asked, passed, failed, ask, afterReading, typed, wellFormed, satisfied, Accepted, judgedFrom, judged}
 use Rattle.service.specs.Later.{orPassed, policyThenEntries, afterPolicy, laterFault}

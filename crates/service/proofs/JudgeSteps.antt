@@ -30,7 +30,8 @@ use Rattle.interface.proofs.TableLaws.{Clear as ClearFrom}
 use Rattle.interface.proofs.StoreLaws.{sheet-table, sheet-components, clear-zeros}
 use Rattle.policy.specs.Syntax.{Tree}
 use Rattle.policy.specs.Reading.{readPolicy}
-use Rattle.policy.specs.Loads.{AllHeld, Bounded, LoadedPolicy, unread, loaded, policyFault}
+use Rattle.policy.specs.Loads.{AllHeld, Bounded, LoadedPolicy, unread, loaded}
+use Rattle.wellformed.specs.Faults.{policyFault}
 use Rattle.policy.specs.declared.PolicyRead.{PolicyRead}
 use Rattle.policy.specs.declared.Trees.{Trees}
 use Rattle.fit.specs.Faults.{entriesFault}

@@ -7,7 +7,7 @@ use Rattle.reading.specs.Read.{Read, got, refused}
 use Rattle.inference.specs.Interface.{Required}
 use Rattle.policy.specs.Syntax.{Tree}
 use Rattle.policy.specs.Reading.{readPolicy}
-use Rattle.policy.specs.Loads.{policyFault}
+use Rattle.wellformed.specs.Faults.{policyFault}
 use Rattle.fit.specs.Faults.{entriesFault}
 
 -- The number of a question that an entry fails, or 64, a number that no question has, where no entry fails any (19).

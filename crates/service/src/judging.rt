@@ -10,12 +10,12 @@ use fit::entries::fit;
 use inference::sheet::infer;
 use policy::read::no_trees;
 use policy::read::read_policy;
-use policy::wellformed::policy_fault;
 use reading::End;
 use reading::NumberRead;
 use reading::bytes::refusal;
 use reading::system::read;
 use reading::system::why_none;
+use wellformed::questions::policy_fault;
 
 // Questions 11 to 18 of a charter and a table of components, with a table for the charter's nodes: the first that fails, or 64.
 fn judge_with(charter: &[u8], table: &[u16], components: usize, nodes: &mut [usize]) -> Judged

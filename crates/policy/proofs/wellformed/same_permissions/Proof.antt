@@ -1,8 +1,0 @@
--- `same_permissions`: the maps, the lengths of the lists, and then the lists decide.
-use Rattle.policy.proofs.AgreeSteps.{agree-steps}
-use borrow.Author.Needs.{needs}
-use Rattle.policy.proofs.wellformed.same_permissions.Statement.{statement}
-use Rattle.policy.proofs.wellformed.same_permissions.Tie as tie
-
-pub same-permissions-spec : {M : Type 1} → statement M
-same-permissions-spec = tie.close (tie.spec (λ c. search agree-steps) (λ c. search agree-steps) (λ c κs. search needs) (λ c. search agree-steps))
