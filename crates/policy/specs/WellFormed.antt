@@ -1,7 +1,8 @@
--- Questions 12 to 15, each put to the whole policy.
+-- Questions 12 to 15, each put to the whole policy; and 13 and 14 put to its nodes, one after another (document 02, Q-2), which the
+-- same policies pass (`nodes-pass`, crates/wellformed/proofs/OrderLaws.antt).
 use Prim.Native.Nat.{ℕ}
 use mathlib.Core.List.{List, [], _∷_, _++_, map}
-use mathlib.Core.Bool.{Bool, true, false, not, _&&_, _||_}
+use mathlib.Core.Bool.{Bool, true, false, cond, not, _&&_, _||_}
 use lib.Dec.{eqb}
 use Rattle.reading.specs.Forms.{member}
 use Rattle.inference.specs.Lists.{every, gather}
@@ -43,6 +44,45 @@ allAgree (a ∷ later) = every (agree a) later && allAgree later
 -- 14: "no node whose group stands at an earlier node of its tree with another map or list?"
 unfoldable pub sameHeads : List Tree → Bool
 sameHeads trees = every (λ t. allAgree (heads (t .root))) trees
+
+-- A node as it is met: the groups of the nodes above it, from the root down, and the nodes of its tree before it.
+pub record Met : Type 0 where
+  pub head : Head
+  pub above : List ℕ
+  pub earlier : List Head
+
+-- "Nodes are now taken in reading order": nodes below the groups `above`, after the nodes `earlier`.
+unfoldable pub metFrom : List ℕ → List Head → Nodes → List Met
+metFrom above earlier none = []
+metFrom above earlier (more g p below rest) =
+    record { head = record { group = g; permissions = p }; above = above; earlier = earlier }
+    ∷ (metFrom (above ++ (g ∷ [])) (earlier ++ (record { group = g; permissions = p } ∷ [])) below
+    ++ metFrom above (earlier ++ (record { group = g; permissions = p } ∷ headsOf below)) rest)
+
+-- "tree after tree"
+unfoldable pub metIn : List Tree → List Met
+metIn trees = gather (λ t. metFrom [] [] (alone (t .root))) trees
+
+-- 13 at one node: "no node's group at a node above it?"
+unfoldable pub isNew : Met → Bool
+isNew m = not (member (m .head .group) (m .above))
+
+-- 14 at one node: "no node whose group stands at an earlier node of its tree with another map or list?"
+unfoldable pub isSame : Met → Bool
+isSame m = every (λ e. agree e (m .head)) (m .earlier)
+
+-- "at one node 14 goes before 13": the question that a node fails, or 0.
+unfoldable pub nodeFault : Met → ℕ
+nodeFault m = cond (isSame m) (cond (isNew m) 0 13) 14
+
+-- The first number other than 0, or 0.
+unfoldable pub firstFault : List ℕ → ℕ
+firstFault [] = 0
+firstFault (n ∷ later) = cond (eqb n 0) (firstFault later) n
+
+-- "The first node that fails either question decides": 13 or 14, or 0 where no node fails.
+unfoldable pub nodesFault : List Tree → ℕ
+nodesFault trees = firstFault (map nodeFault (metIn trees))
 
 -- the groups that nodes disclose to
 unfoldable pub disclosedTo : List Head → List ℕ

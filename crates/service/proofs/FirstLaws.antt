@@ -12,6 +12,8 @@ use Rattle.inference.specs.Acts.{Act, sheetActs}
 use Rattle.inference.specs.Interface.{Required, requiredOf}
 use Rattle.policy.specs.Syntax.{Tree}
 use Rattle.policy.specs.Reading.{readPolicy}
+use Rattle.policy.specs.WellFormed.{nodesFault}
+use Rattle.wellformed.proofs.OrderLaws.{nodes-below}
 use Rattle.service.specs.Questions.{Asked, passed, failed, ask, afterReading, typed, wellFormed, satisfied, Accepted, judgedFrom, judged}
 use Rattle.service.specs.Told.{firstFailed}
 use Rattle.service.proofs.JudgeLaws.{policy-eleven}
@@ -45,7 +47,7 @@ module _ {A : Type 0} (P : A → Type 0) where
   ends-formed : (policy : List Tree) (rest : Asked A) → Ends P rest → Ends P (wellFormed policy rest)
   unfolding wellFormed
   ends-formed policy rest e =
-      ends-ask 12 _ _ (omega arith) (ends-ask 13 _ _ (omega arith) (ends-ask 14 _ _ (omega arith) (ends-ask 15 _ _ (omega arith) e)))
+      ends-ask 12 _ _ (omega arith) (ends-ask (nodesFault policy) _ _ (omega (arith, nodes-below policy)) (ends-ask 15 _ _ (omega arith) e))
 
   ends-satisfied : (policy : List Tree) (required : Required) (rest : Asked A) → Ends P rest → Ends P (satisfied policy required rest)
   unfolding satisfied

@@ -4,7 +4,7 @@ use mathlib.Core.Path.{_≡_, refl, sym, ap, ap₂, _∙_}
 use mathlib.Core.List.{List, [], _∷_, _++_, map}
 use mathlib.Core.Bool.{Bool, true, false, cond, not, _&&_}
 use native.Mathlib.Omega.{arith}
-use lib.Dec.{ltb}
+use lib.Dec.{ltb, eqb}
 use borrow.Author.Tests.{lt-ltb, le-ltb, ltb-true, ltb-false}
 use Rattle.reading.specs.Read.{Read, got, refused}
 use Rattle.reading.specs.Syntax.{Sheet}
@@ -17,9 +17,10 @@ use Rattle.inference.specs.Walks.{worstAll}
 use Rattle.inference.proofs.FaultLaws.{firstNo, sheet-fault}
 use Rattle.policy.specs.Syntax.{Tree}
 use Rattle.policy.specs.Reading.{readPolicy, asEleven}
-use Rattle.policy.specs.WellFormed.{kindsDistinct, noneAbove, sameHeads, fenced}
+use Rattle.policy.specs.WellFormed.{kindsDistinct, nodesFault, fenced}
 use Rattle.fit.specs.Satisfies.{hasTree, pathReached, covered}
 use Rattle.wellformed.specs.Faults.{policyFault}
+use Rattle.wellformed.proofs.OrderLaws.{nodes-below}
 use Rattle.fit.specs.Faults.{entryFault, entriesFault}
 use Rattle.service.specs.Questions.{Asked, passed, failed, ask, afterReading, typed, wellFormed, satisfied, Accepted, judgedFrom, judged}
 use Rattle.service.specs.Later.{orPassed, policyThenEntries, afterPolicy, laterFault}
@@ -44,18 +45,20 @@ typed-ends sheet rest =
     asked-four (every inScope (sheetActs sheet)) (every onChannel (sheetActs sheet)) (every carriesObject (sheetActs sheet)) (every inPath (sheetActs sheet)) rest
     ∙ ap (λ (n : ℕ). endsBelow 11 n rest) (sym (sheet-fault sheet))
 
-asked-policy : {A : Type 0} (a b c d : Bool) (rest : Asked A)
-    → ask 12 a (ask 13 b (ask 14 c (ask 15 d rest))) ≡ endsBelow 16 (cond a (cond b (cond c (cond d 16 15) 14) 13) 12) rest
+asked-policy : {A : Type 0} (a : Bool) (n : ℕ) (d : Bool) (rest : Asked A) → n ≤ 14
+    → ask 12 a (ask n (eqb n 0) (ask 15 d rest)) ≡ endsBelow 16 (cond a (cond (eqb n 0) (cond d 16 15) n) 12) rest
 unfolding ask endsBelow
-asked-policy false b c d rest = refl
-asked-policy true false c d rest = refl
-asked-policy true true false d rest = refl
-asked-policy true true true false rest = refl
-asked-policy true true true true rest = refl
+asked-policy false n d rest h = refl
+asked-policy true n d rest h = go (eqb n 0) d
+  where
+    go : (b d : Bool) → ask n b (ask 15 d rest) ≡ endsBelow 16 (cond b (cond d 16 15) n) rest
+    go true true = refl
+    go true false = refl
+    go false d = rw (lt-ltb n 16 (omega arith))
 
 policy-ends : {A : Type 0} (policy : List Tree) (rest : Asked A) → wellFormed policy rest ≡ endsBelow 16 (policyFault policy) rest
 unfolding wellFormed policyFault
-policy-ends policy rest = asked-policy (kindsDistinct policy) (noneAbove policy) (sameHeads policy) (fenced policy) rest
+policy-ends policy rest = asked-policy (kindsDistinct policy) (nodesFault policy) (fenced policy) rest (nodes-below policy)
 
 -- the first of three questions that is answered no
 unfoldable firstOf : Bool → Bool → Bool → ℕ

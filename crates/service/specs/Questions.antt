@@ -2,6 +2,7 @@
 use Prim.Native.Nat.{ℕ}
 use mathlib.Core.List.{List, [], _∷_}
 use mathlib.Core.Bool.{Bool, true, false}
+use lib.Dec.{eqb}
 use Rattle.reading.specs.Read.{Read, got, refused}
 use Rattle.reading.specs.Syntax.{Sheet}
 use Rattle.reading.specs.System.{sheetOf}
@@ -11,7 +12,7 @@ use Rattle.inference.specs.Typing.{inScope, onChannel, carriesObject, inPath}
 use Rattle.inference.specs.Interface.{Required, requiredOf}
 use Rattle.policy.specs.Syntax.{Tree}
 use Rattle.policy.specs.Reading.{readPolicy}
-use Rattle.policy.specs.WellFormed.{kindsDistinct, noneAbove, sameHeads, fenced}
+use Rattle.policy.specs.WellFormed.{kindsDistinct, nodesFault, fenced}
 use Rattle.fit.specs.Satisfies.{hasTree, pathReached, covered}
 
 -- A call that passes with a value, or the number of the first question that fails.
@@ -37,13 +38,12 @@ typed acts rest =
     (ask 9 (every carriesObject acts)
     (ask 10 (every inPath acts) rest)))
 
--- 12 to 15.
+-- 12 to 15; 13 and 14 as the nodes are met (document 02, Q-2).
 unfoldable pub wellFormed : {A : Type 0} → List Tree → Asked A → Asked A
 wellFormed policy rest =
     ask 12 (kindsDistinct policy)
-    (ask 13 (noneAbove policy)
-    (ask 14 (sameHeads policy)
-    (ask 15 (fenced policy) rest)))
+    (ask (nodesFault policy) (eqb (nodesFault policy) 0)
+    (ask 15 (fenced policy) rest))
 
 -- 16 to 18.
 unfoldable pub satisfied : {A : Type 0} → List Tree → Required → Asked A → Asked A

@@ -1,21 +1,18 @@
--- Question 14 over the rows of a tree: item by item, node by node, and row by row.
-use Prim.Native.Nat.{ℕ, suc, _+_, _-_, _*_, _<_, _≤_}
+-- The same permissions: item by item, and list by list.
+use Prim.Native.Nat.{ℕ, _+_, _-_, _*_, _<_, _≤_}
 use mathlib.Core.Bool.{Bool, true, false, not, _&&_}
 use mathlib.Core.List.{List, [], _∷_}
-use mathlib.Core.Path.{_≡_, refl, sym, ap}
+use mathlib.Core.Path.{_≡_, refl, sym, ap, ap₂}
 use native.Mathlib.Omega.{arith}
-use borrow.Author.Tests.{not-true, not-false, eq-eqb, ne-eqb}
+use borrow.Author.Tests.{not-true, not-false, eq-eqb, ne-eqb, eqb-true}
 use lib.Dec.{eqb}
 use lib.ListN.{length, getD}
-use Rattle.inference.specs.Lists.{every}
 use Rattle.policy.proofs.NodeLaws.{node-steps}
 use Rattle.reading.proofs.FormLaws.{both-true}
-use Rattle.policy.proofs.RowLaws.{flats-more, flats-none, items-more, items-none, items-all, items-count}
-use Rattle.policy.specs.Syntax.{Granted}
-use Rattle.policy.specs.WellFormed.{sameList, samePermissions, agree, allAgree}
-use Rattle.policy.specs.Rows.{nodeAt, wordIn, itemsAt, permissionsOf, flatOf, flats}
-use Rattle.wellformed.specs.Rows.{headsIn}
-use Rattle.policy.specs.declared.Node.{Node}
+use Rattle.policy.proofs.RowLaws.{items-more, items-none, items-all, items-count}
+use Rattle.policy.specs.Syntax.{Granted, Permissions as Granting}
+use Rattle.policy.specs.WellFormed.{sameList, samePermissions}
+use Rattle.policy.specs.Rows.{wordIn, itemsAt, permissionsOf}
 use Rattle.policy.specs.declared.Permissions.{Permissions}
 
 -- Two items, their bytes and words as they were read.
@@ -48,13 +45,25 @@ module _ (c : List ℕ) (a b n i : ℕ) (s : ItemsLeft c a b n i) where
     unfolding sameList
     items-next k = record { same = rw (items-more c n a i h, items-more c n b i h, ← e, not-false r k) at (s .same) }
 
--- Lists of unlike length are not the same.
-sameList-length : (l m : List Granted) → sameList l m ≡ true → length l ≡ length m
+-- What is the same is equal.
+granted-equal : (x y : Granted) → x .group ≡ y .group → x .count ≡ y .count → x ≡ y
+granted-equal x y e f = ap₂ (λ (g n : ℕ). record { group = g; count = n }) e f
+
+list-equal : (l m : List Granted) → sameList l m ≡ true → l ≡ m
 unfolding sameList
-sameList-length [] [] e = refl
-sameList-length [] (y ∷ m) e = let z : _≡_ {A = ℕ} 0 1 = cc in absurd (omega arith)
-sameList-length (x ∷ l) [] e = let z : _≡_ {A = ℕ} 0 1 = cc in absurd (omega arith)
-sameList-length (x ∷ l) (y ∷ m) e = ap suc (sameList-length l m (both-true (eqb (x .group) (y .group) && eqb (x .count) (y .count)) (sameList l m) e .1))
+list-equal [] [] e = refl
+list-equal [] (y ∷ m) e = let z : _≡_ {A = ℕ} 0 1 = cc in absurd (omega arith)
+list-equal (x ∷ l) [] e = let z : _≡_ {A = ℕ} 0 1 = cc in absurd (omega arith)
+list-equal (x ∷ l) (y ∷ m) e =
+    let h = both-true (eqb (x .group) (y .group) && eqb (x .count) (y .count)) (sameList l m) e in
+    let k = both-true (eqb (x .group) (y .group)) (eqb (x .count) (y .count)) (h .0) in
+    ap₂ _∷_ (granted-equal x y (eqb-true (x .group) (y .group) (k .0)) (eqb-true (x .count) (y .count) (k .1))) (list-equal l m (h .1))
+
+pub permissions-equal : (p q : Granting) → samePermissions p q ≡ true → p ≡ q
+unfolding samePermissions
+permissions-equal p q e =
+    let h = both-true (eqb (p .map) (q .map)) (sameList (p .list) (q .list)) e in
+    ap₂ (λ (m : ℕ) (l : List Granted). record { map = m; list = l }) (eqb-true (p .map) (q .map) (h .0)) (list-equal (p .list) (q .list) (h .1))
 
 module _ (c : List ℕ) (p q : Permissions) where
   pub map-differs : (p .map ≡ q .map → ⊥) → false ≡ samePermissions (permissionsOf c p) (permissionsOf c q)
@@ -66,59 +75,13 @@ module _ (c : List ℕ) (p q : Permissions) where
   count-differs e h = rw (eq-eqb (p .map) (q .map) e) (go (sameList (itemsAt (p .count) c (p .list)) (itemsAt (q .count) c (q .list))) refl)
     where
       go : (t : Bool) → sameList (itemsAt (p .count) c (p .list)) (itemsAt (q .count) c (q .list)) ≡ t → false ≡ t
-      go true k = absurd (h (rw (items-count (p .count) c (p .list), items-count (q .count) c (q .list)) at (sameList-length (itemsAt (p .count) c (p .list)) (itemsAt (q .count) c (q .list)) k)))
+      go true k = absurd (h (rw (items-count (p .count) c (p .list), items-count (q .count) c (q .list)) at (ap length (list-equal (itemsAt (p .count) c (p .list)) (itemsAt (q .count) c (q .list)) k))))
       go false k = refl
 
   pub list-decides : (r : Bool) → p .map ≡ q .map → p .count ≡ q .count → r ≡ sameList (itemsAt (p .count) c (p .list)) (itemsAt (p .count) c (q .list))
       → r ≡ samePermissions (permissionsOf c p) (permissionsOf c q)
   unfolding samePermissions permissionsOf
   list-decides r e h k = rw (eq-eqb (p .map) (q .map) e, ← h) k
-
--- Whether all rows after one agree with it is whether those from the i-th on do.
-pub record AgreesLeft (c nodes : List ℕ) (row to i : ℕ) : Type 0 where
-  pub same : every (agree (flatOf c (nodeAt nodes row) .head)) (headsIn (flats c nodes (row + 1) (to - (row + 1))))
-      ≡ every (agree (flatOf c (nodeAt nodes row) .head)) (headsIn (flats c nodes i (to - i)))
-
-pub agrees-start : (c nodes : List ℕ) (row to : ℕ) → AgreesLeft c nodes row to (row + 1)
-agrees-start c nodes row to = record { same = refl }
-
-module _ (c nodes : List ℕ) (row to i : ℕ) (s : AgreesLeft c nodes row to i) where
-  pub agrees-end : to ≤ i → true ≡ every (agree (flatOf c (nodeAt nodes row) .head)) (headsIn (flats c nodes (row + 1) (to - (row + 1))))
-  unfolding every headsIn
-  agrees-end h = rw (flats-none c nodes i to h) at (sym (s .same))
-
-  module _ (h : i < to) (n m : Node) (e : n ≡ nodeAt nodes row) (f : m ≡ nodeAt nodes i) (r : Bool) (g : r ≡ agree (flatOf c n .head) (flatOf c m .head)) where
-    told : r ≡ agree (flatOf c (nodeAt nodes row) .head) (flatOf c (nodeAt nodes i) .head)
-    told = rw (e, f) at g
-
-    pub agrees-not : not r ≡ true → false ≡ every (agree (flatOf c (nodeAt nodes row) .head)) (headsIn (flats c nodes (row + 1) (to - (row + 1))))
-    unfolding every headsIn
-    agrees-not k = sym (rw (flats-more c nodes i to h, ← told, not-true r k) at (s .same))
-
-    pub agrees-next : not r ≡ false → AgreesLeft c nodes row to (i + 1)
-    unfolding every headsIn
-    agrees-next k = record { same = rw (flats-more c nodes i to h, ← told, not-false r k) at (s .same) }
-
--- Whether all rows agree with those after them is whether those from the i-th on do.
-pub record HeadsLeft (c nodes : List ℕ) (start to i : ℕ) : Type 0 where
-  pub same : allAgree (headsIn (flats c nodes start (to - start))) ≡ allAgree (headsIn (flats c nodes i (to - i)))
-
-pub heads-start : (c nodes : List ℕ) (start to : ℕ) → HeadsLeft c nodes start to start
-heads-start c nodes start to = record { same = refl }
-
-module _ (c nodes : List ℕ) (start to i : ℕ) (s : HeadsLeft c nodes start to i) where
-  pub heads-end : to ≤ i → true ≡ allAgree (headsIn (flats c nodes start (to - start)))
-  unfolding allAgree headsIn
-  heads-end h = rw (flats-none c nodes i to h) at (sym (s .same))
-
-  module _ (h : i < to) (r : Bool) (g : r ≡ every (agree (flatOf c (nodeAt nodes i) .head)) (headsIn (flats c nodes (i + 1) (to - (i + 1))))) where
-    pub heads-not : not r ≡ true → false ≡ allAgree (headsIn (flats c nodes start (to - start)))
-    unfolding allAgree headsIn
-    heads-not k = sym (rw (flats-more c nodes i to h, ← g, not-true r k) at (s .same))
-
-    pub heads-next : not r ≡ false → HeadsLeft c nodes start to (i + 1)
-    unfolding allAgree headsIn
-    heads-next k = record { same = rw (flats-more c nodes i to h, ← g, not-false r k) at (s .same) }
 
 pub ruleset agree-steps = (
   node-steps,
@@ -131,12 +94,4 @@ pub ruleset agree-steps = (
   map-differs,
   count-differs,
   list-decides,
-  agrees-start,
-  agrees-end,
-  agrees-not,
-  agrees-next,
-  heads-start,
-  heads-end,
-  heads-not,
-  heads-next,
 )

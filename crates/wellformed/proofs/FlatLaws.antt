@@ -1,5 +1,5 @@
--- Questions 13, 14 and 15 over the rows of a tree are the same questions over the tree. Rows in reading order keep what the
--- tree says: the nodes below one are those that follow it and stand deeper.
+-- Over the rows of a tree the nodes are met as over the tree, and question 15 is the same. Rows in reading order keep what the tree
+-- says: the nodes below one are those that follow it and stand deeper.
 use Prim.Native.Nat.{ℕ, zero, suc, _+_, _<_, _≤_}
 use mathlib.Core.Bool.{Bool, true, false, cond, not, _&&_, _||_, and-assoc, or-comm, or-assoc, or-false, and-true}
 use mathlib.Core.List.{List, [], _∷_, _++_, append-assoc, append-nil}
@@ -15,16 +15,16 @@ use Rattle.inference.specs.Lists.{every, rising}
 use Rattle.policy.proofs.NodeLaws.{depth-small}
 use Rattle.reading.proofs.FormLaws.{both-true}
 use Rattle.policy.specs.Syntax.{Permissions, Nodes, none, more, Head, headsOf}
-use Rattle.policy.specs.WellFormed.{newBelow, allKeep, keepsWithin}
+use Rattle.policy.specs.WellFormed.{metFrom, allKeep, keepsWithin}
 use Rattle.policy.specs.Rows.{nodeAt, Flat, flatOf, flats, flatten}
-use Rattle.wellformed.specs.Rows.{freshBelow, headsIn, belowIn, keptIn, allKept}
+use Rattle.wellformed.specs.Rows.{metRows, headsIn, belowIn, keptIn, allKept}
 
 regroup : (a b c e : Bool) → (a && (b && (c && e))) ≡ (a && (b && c) && e)
 regroup true true c e = refl
 regroup true false c e = refl
 regroup false b c e = refl
 
--- 14: the heads.
+-- The heads.
 heads-append : (l m : List Flat) → headsIn (l ++ m) ≡ headsIn l ++ headsIn m
 unfolding headsIn
 heads-append [] m = refl
@@ -83,53 +83,45 @@ pub kept-flatten : (d : ℕ) (ns : Nodes) → allKept (flatten d ns) ≡ allKeep
 unfolding allKept belowIn
 kept-flatten d ns = rw append-nil at (kept-nodes d ns [] refl) ∙ and-true (allKeep ns)
 
--- 13: only which groups stand above a node matters.
-member-append : (x : ℕ) (l m : List ℕ) → member x (l ++ m) ≡ (member x l || member x m)
-unfolding member
-member-append x [] m = refl
-member-append x (y ∷ l) m = rw (member-append x l m, or-assoc (eqb y x) (member x l) (member x m))
-
-member-end : (x g : ℕ) (l : List ℕ) → member x (l ++ (g ∷ [])) ≡ member x (g ∷ l)
-unfolding member
-member-end x g l = rw (member-append x l (g ∷ []), or-false (eqb g x), or-comm (member x l) (eqb g x))
-
-new-same : (a b : List ℕ) (ns : Nodes) → ((x : ℕ) → member x a ≡ member x b) → newBelow a ns ≡ newBelow b ns
-unfolding newBelow member
-new-same a b none h = refl
-new-same a b (more g p below rest) h =
-    rw (h g, new-same (g ∷ a) (g ∷ b) below (λ x. ap (λ (t : Bool). eqb g x || t) (h x)), new-same a b rest h)
-
--- Rows whose answer depends only on the groups above a depth.
+-- 13 and 14: rows whose nodes are met alike wherever the groups above a depth are the same.
 Steady : ℕ → List Flat → Type 0
-Steady d later = (a b : List ℕ) → length a ≡ 8 → length b ≡ 8 → take d a ≡ take d b → freshBelow a later ≡ freshBelow b later
+Steady d later = (a b : List ℕ) (earlier : List Head) → length a ≡ 8 → length b ≡ 8 → take d a ≡ take d b → metRows a earlier later ≡ metRows b earlier later
 
 module _ (d g : ℕ) (p : Permissions) (below rest : Nodes) (later : List Flat) (s : Steady d later) (low : d < 8)
-    (right : (a : List ℕ) → length a ≡ 8 → freshBelow a (flatten d rest ++ later) ≡ (newBelow (take d a) rest && freshBelow a later)) where
+    (right : (a : List ℕ) (earlier : List Head) → length a ≡ 8
+    → metRows a earlier (flatten d rest ++ later) ≡ metFrom (take d a) earlier rest ++ metRows a (earlier ++ headsOf rest) later) where
   steadier : Steady (d + 1) (flatten d rest ++ later)
   unfolding Steady
-  steadier a b h k e =
+  steadier a b earlier h k e =
       let z : take d a ≡ take d b = sym (take-take d (d + 1) a (omega arith)) ∙ ap (λ (l : List ℕ). take d l) e ∙ take-take d (d + 1) b (omega arith) in
-      right a h ∙ rw (z, s a b h k z) (sym (right b k))
+      right a earlier h ∙ rw (z, s a b (earlier ++ headsOf rest) h k z) (sym (right b earlier k))
 
-  fresh-step : (above : List ℕ) → length above ≡ 8
-      → ((a : List ℕ) → length a ≡ 8 → freshBelow a (flatten (d + 1) below ++ (flatten d rest ++ later))
-      ≡ (newBelow (take (d + 1) a) below && freshBelow a (flatten d rest ++ later)))
-      → freshBelow above (flatten d (more g p below rest) ++ later) ≡ (newBelow (take d above) (more g p below rest) && freshBelow above later)
-  unfolding flatten freshBelow newBelow Steady
-  fresh-step above h left =
+  met-step : (above : List ℕ) (earlier : List Head) → length above ≡ 8
+      → ((a : List ℕ) (before : List Head) → length a ≡ 8 → metRows a before (flatten (d + 1) below ++ (flatten d rest ++ later))
+      ≡ metFrom (take (d + 1) a) before below ++ metRows a (before ++ headsOf below) (flatten d rest ++ later))
+      → metRows above earlier (flatten d (more g p below rest) ++ later)
+      ≡ metFrom (take d above) earlier (more g p below rest) ++ metRows above (earlier ++ headsOf (more g p below rest)) later
+  unfolding flatten metRows metFrom headsOf Steady
+  met-step above earlier h left =
+      let head : Head = record { group = g; permissions = p } in
       let k : length (set above d g) ≡ 8 = length-set above d g ∙ h in
       let z : take d (set above d g) ≡ take d above = take-set-le d above d g (omega arith) in
-      let y : newBelow (take (d + 1) (set above d g)) below ≡ newBelow (g ∷ take d above) below =
-      rw (add-one d, take-suc-set above d g (omega arith)) (new-same (take d above ++ (g ∷ [])) (g ∷ take d above) below (λ x. member-end x g (take d above))) in
+      let y : take (d + 1) (set above d g) ≡ take d above ++ (g ∷ []) = rw (add-one d) (take-suc-set above d g (omega arith)) in
+      let w : (earlier ++ (head ∷ [])) ++ headsOf below ≡ earlier ++ (head ∷ headsOf below) = append-assoc earlier (head ∷ []) (headsOf below) in
+      let v : (earlier ++ (head ∷ headsOf below)) ++ headsOf rest ≡ earlier ++ (head ∷ (headsOf below ++ headsOf rest)) =
+      append-assoc earlier (head ∷ headsOf below) (headsOf rest) in
       rw (
         append-assoc (flatten (d + 1) below) (flatten d rest) later,
-        left (set above d g) k,
-        right (set above d g) k,
+        left (set above d g) (earlier ++ (head ∷ [])) k,
+        w,
+        right (set above d g) (earlier ++ (head ∷ headsOf below)) k,
         y,
         z,
-        s (set above d g) above k h z,
+        v,
+        s (set above d g) above (earlier ++ (head ∷ (headsOf below ++ headsOf rest))) k h z,
+        append-assoc (metFrom (take d above ++ (g ∷ [])) (earlier ++ (head ∷ [])) below) (metFrom (take d above) (earlier ++ (head ∷ headsOf below)) rest)
+            (metRows above (earlier ++ (head ∷ (headsOf below ++ headsOf rest))) later),
       )
-      (regroup (not (member g (take d above))) (newBelow (g ∷ take d above) below) (newBelow (take d above) rest) (freshBelow above later))
 
 -- All depths below 8.
 unfoldable pub allLow : List Flat → Bool
@@ -152,20 +144,22 @@ low-parts d g p below rest e =
     let k = both-true (allLow (flatten (d + 1) below)) (allLow (flatten d rest)) (sym (low-append (flatten (d + 1) below) (flatten d rest)) ∙ h .1) in
     record { here = ltb-true d 8 (h .0); deeper = k .0; after = k .1 }
 
-fresh-nodes : (d : ℕ) (ns : Nodes) (later : List Flat) → allLow (flatten d ns) ≡ true → Steady d later → (above : List ℕ) → length above ≡ 8
-    → freshBelow above (flatten d ns ++ later) ≡ (newBelow (take d above) ns && freshBelow above later)
-unfolding flatten newBelow
-fresh-nodes d none later l s above h = refl
-fresh-nodes d (more g p below rest) later l s above h =
+met-nodes : (d : ℕ) (ns : Nodes) (later : List Flat) → allLow (flatten d ns) ≡ true → Steady d later → (above : List ℕ) (earlier : List Head)
+    → length above ≡ 8 → metRows above earlier (flatten d ns ++ later) ≡ metFrom (take d above) earlier ns ++ metRows above (earlier ++ headsOf ns) later
+unfolding flatten metFrom headsOf
+met-nodes d none later l s above earlier h = rw (append-nil earlier)
+met-nodes d (more g p below rest) later l s above earlier h =
     let q = low-parts d g p below rest l in
-    let right : (a : List ℕ) → length a ≡ 8 → freshBelow a (flatten d rest ++ later) ≡ (newBelow (take d a) rest && freshBelow a later) =
-    λ a k. fresh-nodes d rest later (q .after) s a k in
+    let right : (a : List ℕ) (before : List Head) → length a ≡ 8
+    → metRows a before (flatten d rest ++ later) ≡ metFrom (take d a) before rest ++ metRows a (before ++ headsOf rest) later =
+    λ a before k. met-nodes d rest later (q .after) s a before k in
     let steady = steadier d g p below rest later s (q .here) right in
-    fresh-step d g p below rest later s (q .here) right above h (λ a k. fresh-nodes (d + 1) below (flatten d rest ++ later) (q .deeper) steady a k)
+    met-step d g p below rest later s (q .here) right above earlier h
+    (λ a before k. met-nodes (d + 1) below (flatten d rest ++ later) (q .deeper) steady a before k)
 
-pub fresh-flatten : (ns : Nodes) → allLow (flatten 0 ns) ≡ true → freshBelow (replicate 8 0) (flatten 0 ns) ≡ newBelow [] ns
-unfolding freshBelow Steady
-fresh-flatten ns l = rw append-nil at (fresh-nodes 0 ns [] l (λ a b h k e. refl) (replicate 8 0) refl) ∙ and-true (newBelow [] ns)
+pub met-flatten : (ns : Nodes) → allLow (flatten 0 ns) ≡ true → metRows (replicate 8 0) [] (flatten 0 ns) ≡ metFrom [] [] ns
+unfolding metRows Steady
+met-flatten ns l = rw (append-nil (flatten 0 ns), append-nil (metFrom [] [] ns)) at (met-nodes 0 ns [] l (λ a b earlier h k e. refl) (replicate 8 0) [] refl)
 
 -- The rows of the table are low.
 pub low-flats : (c nodes : List ℕ) (i n : ℕ) → allLow (flats c nodes i n) ≡ true

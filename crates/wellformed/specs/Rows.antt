@@ -1,20 +1,26 @@
--- Questions 13, 14 and 15 over the rows of a tree, as the code asks them.
-use Prim.Native.Nat.{ℕ}
-use mathlib.Core.List.{List, [], _∷_, map}
+-- Questions 13 to 15 over the rows of a tree, as the code asks them.
+use Prim.Native.Nat.{ℕ, zero, suc}
+use mathlib.Core.List.{List, [], _∷_, _++_, map}
 use mathlib.Core.Bool.{Bool, true, false, cond, not, _&&_, _||_}
 use lib.ListN.{getD, set, take, replicate}
 use lib.Dec.{ltb, eqb}
 use Rattle.reading.specs.Forms.{member}
 use Rattle.inference.specs.Lists.{every}
-use Rattle.policy.specs.Syntax.{Granted, Head, hasBit}
-use Rattle.policy.specs.WellFormed.{allAgree, disclosedTo, groupsAt}
-use Rattle.policy.specs.Rows.{Flat}
+use Rattle.policy.specs.Syntax.{Granted, Permissions, Head, hasBit}
+use Rattle.policy.specs.WellFormed.{samePermissions, disclosedTo, groupsAt, Met, nodeFault, firstFault}
+use Rattle.policy.specs.Rows.{nodeAt, permissionsOf, Flat}
 
--- 13 over a tree's rows: `above` holds by depth the groups on the way down.
-unfoldable pub freshBelow : List ℕ → List Flat → Bool
-freshBelow above [] = true
-freshBelow above (f ∷ later) =
-    not (member (f .head .group) (take (f .depth) above)) && freshBelow (set above (f .depth) (f .head .group)) later
+-- The nodes of a tree's rows as they are met: `above` holds by depth the groups on the way down, `earlier` the nodes before.
+unfoldable pub metRows : List ℕ → List Head → List Flat → List Met
+metRows above earlier [] = []
+metRows above earlier (f ∷ later) =
+    record { head = f .head; above = take (f .depth) above; earlier = earlier }
+    ∷ metRows (set above (f .depth) (f .head .group)) (earlier ++ (f .head ∷ [])) later
+
+-- 14 against one node, that of the row before `next`; where `next` is 0 there is none.
+unfoldable pub sameAsLast : List ℕ → List ℕ → ℕ → Permissions → Bool
+sameAsLast c nodes zero p = true
+sameAsLast c nodes (suc row) p = samePermissions (permissionsOf c (nodeAt nodes row .permissions)) p
 
 unfoldable pub headsIn : List Flat → List Head
 headsIn fs = map (λ f. f .head) fs
@@ -50,7 +56,7 @@ allMarked marks hs = every (λ h. ltb h 64 && isMarked marks h) hs
 unfoldable pub listedGroups : List Granted → List ℕ
 listedGroups ds = map (λ d. d .group) ds
 
--- Questions 13, 14 and 15 over a tree's rows.
-unfoldable pub passesIn : ℕ → List Flat → Bool
-passesIn question fs =
-    cond (eqb question 13) (freshBelow (replicate 8 0) fs) (cond (eqb question 14) (allAgree (headsIn fs)) (allKept fs))
+-- The question that a tree's rows fail, or 0: of 13 and 14, by their first node that fails, or 15.
+unfoldable pub faultIn : ℕ → List Flat → ℕ
+faultIn question fs =
+    cond (eqb question 15) (cond (allKept fs) 0 15) (firstFault (map nodeFault (metRows (replicate 8 0) [] fs)))

@@ -1,14 +1,13 @@
-// Questions 13 and 14 over the rows of a tree.
+// Questions 13 and 14 over the rows of a tree, in one pass.
 ghost use mathlib.Core.Path.{_≡_};
-ghost use mathlib.Core.List.{List};
+ghost use mathlib.Core.List.{[], map};
 ghost use mathlib.Core.Bool.{_&&_};
-ghost use Prim.Native.Nat.{ℕ, _<_, _≤_, _+_, _-_};
+ghost use Prim.Native.Nat.{_<_, _≤_, _+_, _-_};
 ghost use lib.ListN.{getD, replicate};
 ghost use lib.Dec.{eqb};
-ghost use Rattle.inference.specs.Lists.{every};
-ghost use Rattle.policy.specs.WellFormed.{sameList, samePermissions, agree, allAgree};
-ghost use Rattle.policy.specs.Rows.{nodeAt, wordIn, itemsAt, permissionsOf, flatOf, flats};
-ghost use Rattle.wellformed.specs.Rows.{headsIn, freshBelow};
+ghost use Rattle.policy.specs.WellFormed.{sameList, samePermissions, nodeFault, firstFault};
+ghost use Rattle.policy.specs.Rows.{wordIn, itemsAt, permissionsOf, flats};
+ghost use Rattle.wellformed.specs.Rows.{metRows, sameAsLast};
 use policy::Node;
 use policy::Permissions;
 use policy::Span;
@@ -17,25 +16,6 @@ use policy::nodes::node_at;
 use policy::nodes::word_in;
 use reading::Path;
 use reading::paths;
-
-// 13 in one tree: no node's group at a node above it?
-pub fn none_above(nodes: &[usize], tree: Span) -> bool
-    requires { ⌜ tree .to ≤ 64 ⌝ }
-    ensures { λ r. ⌜ ((c : List ℕ) → r ≡ freshBelow (replicate 8 0) (flats c (now (nodes .entry)) (tree .from) (tree .to - tree .from))) ⌝ }
-{
-    let mut groups = [0usize; 8];
-    let mut i = tree.from;
-    while i < tree.to {
-        let node = node_at(nodes, i);
-        let depth = node.depth;
-        if paths::has(Path { groups, len: depth }, node.group) {
-            return false;
-        }
-        groups[depth] = node.group;
-        i += 1;
-    }
-    true
-}
 
 // The same item at two places?
 fn same_item(c: &[u8], a: usize, b: usize) -> bool
@@ -79,46 +59,42 @@ fn same_permissions(c: &[u8], p: Permissions, q: Permissions) -> bool
     same_items(c, p.list, q.list, p.count)
 }
 
-// Another group, or the same map and list?
-fn agrees(c: &[u8], a: Node, b: Node) -> bool
-    requires { ⌜ (a .permissions .list < 8192) × (b .permissions .list < 8192) × (a .permissions .count < 128) ⌝ }
-    ensures { λ r. ⌜ r ≡ agree (flatOf (now (c .entry)) a .head) (flatOf (now (c .entry)) b .head) ⌝ }
+// 14 at one node: the same map and list as at the last node of its group before it, whose row is the one before `next`? Where
+// `next` is 0 there is no such node.
+fn same_as_last(c: &[u8], nodes: &[usize], next: usize, node: Node) -> bool
+    requires { ⌜ (next ≤ 64) × (node .permissions .list < 8192) ⌝ }
+    ensures { λ r. ⌜ r ≡ sameAsLast (now (c .entry)) (now (nodes .entry)) next (permissionsOf (now (c .entry)) (node .permissions)) ⌝ }
 {
-    if a.group == b.group {
-        same_permissions(c, a.permissions, b.permissions)
-    } else {
-        true
+    if next == 0 {
+        return true;
     }
+    same_permissions(c, node_at(nodes, next - 1).permissions, node.permissions)
 }
 
-// Do all nodes after a row agree with the row's?
-fn agrees_after(c: &[u8], nodes: &[usize], row: usize, to: usize) -> bool
-    requires { ⌜ (row < to) × (to ≤ 64) ⌝ }
-    ensures { λ r. ⌜ r ≡ every (agree (flatOf (now (c .entry)) (nodeAt (now (nodes .entry)) row) .head))
-        (headsIn (flats (now (c .entry)) (now (nodes .entry)) (row + 1) (to - (row + 1)))) ⌝ }
-{
-    let node = node_at(nodes, row);
-    let mut i = row + 1;
-    while i < to {
-        if !agrees(c, node, node_at(nodes, i)) {
-            return false;
-        }
-        i += 1;
-    }
-    true
-}
-
-// 14 in one tree: no node whose group stands at an earlier node with another map or list?
-pub fn same_heads(c: &[u8], nodes: &[usize], tree: Span) -> bool
+// 13 and 14 in one tree, node after node: the question that the first node with a fault fails, or 0.
+pub fn heads_fault(c: &[u8], nodes: &[usize], tree: Span) -> usize
     requires { ⌜ tree .to ≤ 64 ⌝ }
-    ensures { λ r. ⌜ r ≡ allAgree (headsIn (flats (now (c .entry)) (now (nodes .entry)) (tree .from) (tree .to - tree .from))) ⌝ }
+    ensures { λ r. ⌜ r ≡ firstFault (map nodeFault (metRows (replicate 8 0) []
+        (flats (now (c .entry)) (now (nodes .entry)) (tree .from) (tree .to - tree .from)))) ⌝ }
 {
+    // by group, the row after its last node
+    let mut last = [0usize; 64];
+    // by depth, the groups on the way down
+    let mut groups = [0usize; 8];
     let mut i = tree.from;
     while i < tree.to {
-        if !agrees_after(c, nodes, i, tree.to) {
-            return false;
+        let node = node_at(nodes, i);
+        let group = node.group;
+        if !same_as_last(c, nodes, last[group], node) {
+            return 14;
         }
+        let depth = node.depth;
+        if paths::has(Path { groups, len: depth }, group) {
+            return 13;
+        }
+        last[group] = i + 1;
+        groups[depth] = group;
         i += 1;
     }
-    true
+    0
 }

@@ -1,46 +1,45 @@
-// Questions 12 to 15, each put to the whole policy, in order.
+// Questions 12 to 15 of a whole policy: 12 first, 13 and 14 node after node, 15 last.
 ghost use mathlib.Core.Path.{_≡_};
 ghost use mathlib.Core.List.{List};
 ghost use Prim.Native.Nat.{_≤_, _-_};
 ghost use Rattle.policy.specs.Syntax.{Tree};
 ghost use Rattle.policy.specs.Rows.{flats};
 ghost use Rattle.policy.specs.Loads.{Bounded, AllHeld};
-ghost use Rattle.wellformed.specs.Rows.{passesIn};
-ghost use Rattle.wellformed.specs.Faults.{allPass, policyFault};
+ghost use Rattle.wellformed.specs.Rows.{faultIn};
+ghost use Rattle.wellformed.specs.Faults.{treesFault, policyFault};
 use crate::fences::fenced;
-use crate::heads::none_above;
-use crate::heads::same_heads;
+use crate::heads::heads_fault;
 use crate::kinds::kinds_distinct;
 use policy::Span;
 use policy::Trees;
 use policy::nodes::span_of;
 
-// Does a tree pass question 13, 14 or 15?
-fn tree_passes(question: usize, c: &[u8], nodes: &[usize], tree: Span) -> bool
+// The question that a tree fails, or 0: 13 or 14, by its first node that fails, or 15.
+fn tree_fault(question: usize, c: &[u8], nodes: &[usize], tree: Span) -> usize
     requires { ⌜ tree .to ≤ 64 ⌝ }
-    ensures { λ r. ⌜ r ≡ passesIn question (flats (now (c .entry)) (now (nodes .entry)) (tree .from) (tree .to - tree .from)) ⌝ }
+    ensures { λ r. ⌜ r ≡ faultIn question (flats (now (c .entry)) (now (nodes .entry)) (tree .from) (tree .to - tree .from)) ⌝ }
 {
-    match question {
-        13 => none_above(nodes, tree),
-        14 => same_heads(c, nodes, tree),
-        _ => fenced(c, nodes, tree),
+    if question != 15 {
+        return heads_fault(c, nodes, tree);
     }
+    if fenced(c, nodes, tree) { 0 } else { 15 }
 }
 
-// Do all trees pass question 13, 14 or 15?
-fn all_pass(question: usize, c: &[u8], nodes: &[usize], trees: Trees) -> bool
+// The question that the first tree with a fault fails, or 0.
+fn trees_fault(question: usize, c: &[u8], nodes: &[usize], trees: Trees) -> usize
     requires { ⌜ Bounded trees ⌝ }
     ensures { λ r. ⌜ ((policy : List Tree) → AllHeld (now (c .entry)) (now (nodes .entry)) trees 0 policy
-        → r ≡ allPass question policy) ⌝ }
+        → r ≡ treesFault question policy) ⌝ }
 {
     let mut t: usize = 0;
     while t < trees.len {
-        if !tree_passes(question, c, nodes, span_of(trees, t)) {
-            return false;
+        let fault = tree_fault(question, c, nodes, span_of(trees, t));
+        if fault != 0 {
+            return fault;
         }
         t += 1;
     }
-    true
+    0
 }
 
 // The first of questions 12 to 15 that a policy fails, or 16.
@@ -51,15 +50,13 @@ pub fn policy_fault(c: &[u8], nodes: &[usize], trees: Trees) -> usize
     if !kinds_distinct(trees) {
         return 12;
     }
-    if !all_pass(13, c, nodes, trees) {
-        return 13;
+    let fault = trees_fault(14, c, nodes, trees);
+    if fault != 0 {
+        return fault;
     }
-    if !all_pass(14, c, nodes, trees) {
-        return 14;
+    let fence = trees_fault(15, c, nodes, trees);
+    if fence != 0 {
+        return fence;
     }
-    if all_pass(15, c, nodes, trees) {
-        16
-    } else {
-        15
-    }
+    16
 }

@@ -1,5 +1,5 @@
--- `policy_fault`: the first question that fails, each put to the whole policy.
-use Rattle.wellformed.proofs.PassSteps.{fault-steps, fails-15}
+-- `policy_fault`: 12 of the whole policy, then the first node that fails, then 15 of the whole.
+use Rattle.wellformed.proofs.PassSteps.{fault-steps}
 use borrow.Author.Needs.{needs}
 use Rattle.wellformed.proofs.questions.policy_fault.Statement.{statement}
 use Rattle.wellformed.proofs.questions.policy_fault.Tie as tie
@@ -14,6 +14,4 @@ policy-fault-spec =
     (λ c. search fault-steps)
     (λ c κs. search needs)
     (λ c. search fault-steps)
-    (λ c κs. search needs)
-    (λ c. search fault-steps)
-    (λ c. search (needs, fails-15)))
+    (λ c. search fault-steps))
