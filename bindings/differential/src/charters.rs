@@ -46,6 +46,11 @@ fn node(group: u8, grants: &Grants) -> Node {
     Node { group, grant, nondisclose: false, children: Vec::new() }
 }
 
+/// A node of any group, without permissions.
+pub fn new_node(random: &mut Random) -> Node {
+    node(random.below(64) as u8, &Grants::new())
+}
+
 /// Adds a chain of groups below a node, sharing what is there.
 fn insert(below: &mut Node, chain: &[u8], grants: &Grants) {
     let Some((&group, rest)) = chain.split_first() else { return };
@@ -114,7 +119,7 @@ pub fn perturb(random: &mut Random, charter: &mut Charter) {
 
 fn perturb_trees(random: &mut Random, charter: &mut Charter) {
     if charter.trees.is_empty() || charter.trees.len() > 15 {
-        let root = node(random.below(64) as u8, &Grants::new());
+        let root = new_node(random);
         charter.trees = vec![Tree { kind: random.below(16) as u8, root }];
     } else if random.chance(50) {
         charter.trees.pop();
@@ -159,7 +164,7 @@ fn change_grant(random: &mut Random, root: &mut Node, change: fn(&mut Random, &m
     });
 }
 
-fn change_count(random: &mut Random, node: &mut Node) {
+pub fn change_count(random: &mut Random, node: &mut Node) {
     let groups: Vec<u8> = node.grant.disclose.keys().copied().collect();
     if groups.is_empty() {
         let count = random.pick(&[Count::Finite(1), Count::Finite(4095), Count::Unlimited]);
@@ -178,7 +183,7 @@ fn change_count(random: &mut Random, node: &mut Node) {
     }
 }
 
-fn change_flag(random: &mut Random, node: &mut Node) {
+pub fn change_flag(random: &mut Random, node: &mut Node) {
     let grant = &mut node.grant;
     match random.below(3) {
         0 => grant.read = !grant.read,
@@ -194,7 +199,7 @@ fn drop_child(random: &mut Random, node: &mut Node) {
 }
 
 fn add_child(random: &mut Random, parent: &mut Node) {
-    let mut child = node(random.below(64) as u8, &Grants::new());
+    let mut child = new_node(random);
     child.nondisclose = random.chance(30);
     change_count(random, &mut child);
     parent.children.push(child);

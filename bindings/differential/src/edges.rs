@@ -12,8 +12,8 @@ pub fn edge(random: &mut Random) -> (Vec<u8>, Vec<u8>) {
         3 => (threads(62 + step), vec![0]),
         4 => (new_names(random.between(1022, 1025)), vec![0]),
         5 => (groups(6 + step), vec![0]),
-        6 => (vec![0, 0], wide_charter(62 + step)),
-        7 => (vec![0, 0], deep_charter(6 + step)),
+        6 => (vec![0, 0], with_last_node(random, wide_charter(62 + step))),
+        7 => (vec![0, 0], with_last_node(random, deep_charter(6 + step))),
         8 => (padded(4094 + step), vec![0]),
         9 => (vec![0, 0], padded(4094 + step)),
         10 => long_path(random, 6 + step),
@@ -112,6 +112,16 @@ fn deep_charter(levels: usize) -> Vec<u8> {
     let mut out = vec![1, 0];
     (0..levels).for_each(|level| out.extend_from_slice(&[level as u8, 0, (level + 1 < levels) as u8]));
     out
+}
+
+/// The charter, more often than not with a last node of the first or second group read, and with the map that it has there or another.
+fn with_last_node(random: &mut Random, mut charter: Vec<u8>) -> Vec<u8> {
+    if random.chance(60) {
+        let at = charter.len() - 3;
+        charter[at] = random.below(2) as u8;
+        charter[at + 1] = random.pick(&[0, 2]);
+    }
+    charter
 }
 
 fn padded(length: usize) -> Vec<u8> {

@@ -2,7 +2,7 @@
 
 use crate::case::Case;
 use crate::random::Random;
-use crate::{charters, damage, edges, names, scripts, sheets};
+use crate::{charters, damage, edges, names, repeats, scripts, sheets};
 use independent::running::State;
 use independent::{sheet, typing};
 
@@ -43,6 +43,9 @@ fn pair(random: &mut Random) -> (Vec<u8>, Vec<u8>) {
     }
     if random.chance(25) {
         (0..random.between(1, 2)).for_each(|_| charters::withhold(random, &mut charter, &interface));
+    }
+    if random.chance(12) {
+        repeats::repeat(random, &mut charter);
     }
     (bytes, charter.write())
 }

@@ -1,7 +1,10 @@
-//! What the cases of a run met: refusals by number, the first uncovered permissions by verb, records by label.
+//! What the cases of a run met: refusals by number, faults of charters that come together, the first uncovered permissions by verb,
+//! records by label.
 
 use crate::case::Case;
+use crate::faults;
 use crate::subject::Independent;
+use independent::charter;
 use independent::permissions::Need;
 use std::collections::BTreeMap;
 
@@ -16,6 +19,7 @@ pub struct Totals {
     check: BTreeMap<u32, u64>,
     explain: BTreeMap<u32, u64>,
     play: BTreeMap<u32, u64>,
+    faults: BTreeMap<&'static str, u64>,
     verbs: BTreeMap<&'static str, u64>,
     records: BTreeMap<(u8, u8), u64>,
 }
@@ -26,8 +30,20 @@ impl Totals {
         self.cases += 1;
         self.accepted += independent::accept(&case.sheet, &case.charter).is_ok() as u64;
         tally(&mut self.check, case.check(&Independent).answer);
+        self.count_faults(case);
         self.count_explanation(case);
         self.count_run(case);
+    }
+
+    /// Adds the faults of a charter that was asked 12 to 15.
+    fn count_faults(&mut self, case: &Case) {
+        if independent::accept(&case.sheet, &case.charter).is_err_and(|number| number < 12) {
+            return;
+        }
+        let charter = charter::read(&case.charter).expect("a charter that passes 11");
+        for what in faults::met(&charter) {
+            *self.faults.entry(what).or_insert(0) += 1;
+        }
     }
 
     fn count_explanation(&mut self, case: &Case) {
@@ -52,6 +68,7 @@ impl Totals {
 
     pub fn print(&self) {
         println!("check, refused by number: {:?}", self.check);
+        println!("charters with nodes that fail 13 or 14: {:?}", self.faults);
         println!("explain, refused by number: {:?}; {} sentences, the longest of {} bytes", self.explain, self.sentences, self.longest);
         println!("first uncovered permission, by verb: {:?}", self.verbs);
         println!("play, refused by number: {:?}", self.play);

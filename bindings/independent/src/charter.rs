@@ -2,7 +2,7 @@
 
 use crate::bytes::Reader;
 use crate::permissions::{Count, Permissions};
-use std::collections::{BTreeSet, HashMap};
+use std::collections::BTreeSet;
 
 #[derive(Clone, PartialEq, Eq, Debug)]
 pub struct Charter {
@@ -92,20 +92,14 @@ impl Charter {
         self.trees.iter().find(|tree| tree.kind == kind)
     }
 
-    /// Questions 12 to 15, each put to all trees before the next.
+    /// Questions 12 to 15: 12 of the whole charter, 13 and 14 node by node, tree after tree, then 15 of the whole charter.
     pub fn check(&self) -> Result<(), u32> {
         let kinds: BTreeSet<u8> = self.trees.iter().map(|tree| tree.kind).collect();
         if kinds.len() != self.trees.len() {
             return Err(12);
         }
-        let all = |question: fn(&Node) -> bool| self.trees.iter().all(|tree| question(&tree.root));
-        if !all(|root| groups_new_downwards(root, &mut Vec::new())) {
-            return Err(13);
-        }
-        if !all(|root| same_group_same_grant(root, &mut HashMap::new())) {
-            return Err(14);
-        }
-        if !all(fences_hold) {
+        self.trees.iter().try_for_each(|tree| check_nodes(&tree.root, &mut Vec::new(), &mut Vec::new()))?;
+        if !self.trees.iter().all(|tree| fences_hold(&tree.root)) {
             return Err(15);
         }
         Ok(())
@@ -141,25 +135,31 @@ impl Node {
     }
 }
 
-/// Question 13 below the groups in `above`.
-fn groups_new_downwards(node: &Node, above: &mut Vec<u8>) -> bool {
-    if above.contains(&node.group) {
-        return false;
+/// Questions 13 and 14 of a node and then of those below it, in reading order: the first node that fails one of them gives the number, and
+/// 14 goes before 13. `above` holds the nodes above it, `earlier` all that its tree has before it.
+fn check_nodes<'a>(node: &'a Node, above: &mut Vec<&'a Node>, earlier: &mut Vec<&'a Node>) -> Result<(), u32> {
+    if !same_permissions(node, earlier) {
+        return Err(14);
     }
-    above.push(node.group);
-    let fine = node.children.iter().all(|child| groups_new_downwards(child, above));
+    if !new_group(node, above) {
+        return Err(13);
+    }
+    above.push(node);
+    earlier.push(node);
+    node.children.iter().try_for_each(|child| check_nodes(child, above, earlier))?;
     above.pop();
-    fine
+    Ok(())
 }
 
-/// Question 14 for one tree.
-fn same_group_same_grant<'a>(root: &'a Node, seen: &mut HashMap<u8, &'a Node>) -> bool {
-    let mut fine = true;
-    root.visit(&mut |node| {
-        let first = *seen.entry(node.group).or_insert(node);
-        fine &= first.grant == node.grant && first.nondisclose == node.nondisclose;
-    });
-    fine
+/// Question 13 of one node: no node above it has its group.
+fn new_group(node: &Node, above: &[&Node]) -> bool {
+    above.iter().all(|other| other.group != node.group)
+}
+
+/// Question 14 of one node: each earlier node of its group has its map and list.
+fn same_permissions(node: &Node, earlier: &[&Node]) -> bool {
+    let mut same_group = earlier.iter().filter(|other| other.group == node.group);
+    same_group.all(|other| other.nondisclose == node.nondisclose && other.grant == node.grant)
 }
 
 /// Question 15 for a node and all below it.
