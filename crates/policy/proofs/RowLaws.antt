@@ -1,7 +1,6 @@
 -- Rows of the table, items of a list and kinds of the trees, one by one: how a loop that goes over them with a number i unrolls its
 -- definition.
 use Prim.Native.Nat.{ℕ, zero, suc, _+_, _-_, _*_, _<_, _≤_}
-use mathlib.Core.Bool.{Bool, true, false, _&&_}
 use mathlib.Core.List.{List, [], _∷_}
 use mathlib.Core.Path.{_≡_, refl}
 use native.Mathlib.Numerals.{add-one}

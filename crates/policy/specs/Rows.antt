@@ -3,13 +3,9 @@
 -- (`flatten`).
 use Prim.Native.Nat.{ℕ, zero, suc, _+_, _*_, _%_}
 use mathlib.Core.List.{List, [], _∷_, _++_, map}
-use mathlib.Core.Bool.{Bool, true, false, cond, not, _&&_, _||_}
-use lib.ListN.{getD, set, take, replicate}
-use lib.Dec.{ltb, eqb}
-use Rattle.reading.specs.Forms.{member}
-use Rattle.inference.specs.Lists.{every, any, rising}
-use Rattle.policy.specs.Syntax.{Granted, Permissions, Nodes, none, more, Head, hasBit}
-use Rattle.policy.specs.WellFormed.{allAgree, disclosedTo, groupsAt}
+use lib.ListN.{getD, set}
+use Rattle.inference.specs.Lists.{rising}
+use Rattle.policy.specs.Syntax.{Granted, Permissions, Nodes, none, more, Head}
 use Rattle.policy.specs.declared.Node.{Node}
 use Rattle.policy.specs.declared.Permissions.{Permissions as Stored}
 

@@ -1,16 +1,15 @@
 -- Over the rows of a tree the nodes are met as over the tree, and question 15 is the same. Rows in reading order keep what the tree
 -- says: the nodes below one are those that follow it and stand deeper.
 use Prim.Native.Nat.{ℕ, zero, suc, _+_, _<_, _≤_}
-use mathlib.Core.Bool.{Bool, true, false, cond, not, _&&_, _||_, and-assoc, or-comm, or-assoc, or-false, and-true}
+use mathlib.Core.Bool.{Bool, true, false, cond, _&&_, and-assoc, and-true}
 use mathlib.Core.List.{List, [], _∷_, _++_, append-assoc, append-nil}
 use mathlib.Core.Path.{_≡_, refl, sym, ap, _∙_}
 use native.Mathlib.Numerals.{add-one}
 use native.Mathlib.Omega.{arith}
 use borrow.Author.Tests.{lt-ltb, le-ltb, ltb-true, ltb-false}
-use lib.Dec.{ltb, eqb}
+use lib.Dec.{ltb}
 use lib.ListN.{length, take, set, replicate, length-set}
 use lib.Seq.{take-take, take-suc-set, take-set-le}
-use Rattle.reading.specs.Forms.{member}
 use Rattle.inference.specs.Lists.{every, rising}
 use Rattle.policy.proofs.NodeLaws.{depth-small}
 use Rattle.reading.proofs.FormLaws.{both-true}

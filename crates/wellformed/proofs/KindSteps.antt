@@ -1,13 +1,10 @@
 -- Question 12, kind by kind: a kind is distinct from those after it, and then those from each other.
 use Prim.Native.Nat.{ℕ, _+_, _<_, _≤_}
 use mathlib.Core.Bool.{Bool, true, false}
-use mathlib.Core.List.{List, [], _∷_}
+use mathlib.Core.List.{List}
 use mathlib.Core.Path.{_≡_, refl, sym}
-use native.Mathlib.Numerals.{add-one}
-use native.Mathlib.Omega.{arith}
 use borrow.Author.Tests.{eq-eqb, ne-eqb}
-use lib.ListN.{length, take, drop, getD, length-take, drop-of-length-le}
-use lib.Seq.{drop-cons, getD-take}
+use lib.ListN.{length, take, drop, getD}
 use Rattle.reading.proofs.Tests.{tests}
 use Rattle.reading.specs.Forms.{member}
 use Rattle.policy.proofs.RowLaws.{kinds-more, kinds-none}

@@ -2,7 +2,7 @@
 -- policy fails 13 or 14 exactly where the policy passes 13 and passes 14, each put to the whole as document 01 has it. For 14 the
 -- pairs of an earlier and a later node are the same pairs, told off from either side.
 use Prim.Native.Nat.{ℕ, _≤_}
-use mathlib.Core.Bool.{Bool, true, false, cond, not, _&&_, _||_, and-assoc, or-assoc, or-comm, or-false}
+use mathlib.Core.Bool.{Bool, true, false, cond, _&&_, _||_, and-assoc, or-assoc, or-comm, or-false}
 use mathlib.Core.List.{List, [], _∷_, _++_, map, append-assoc, append-nil}
 use mathlib.Core.Path.{_≡_, refl, sym, ap, ap₂, _∙_}
 use native.Mathlib.Omega.{arith}

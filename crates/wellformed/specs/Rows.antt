@@ -1,7 +1,7 @@
 -- Questions 13 to 15 over the rows of a tree, as the code asks them.
 use Prim.Native.Nat.{ℕ, zero, suc}
 use mathlib.Core.List.{List, [], _∷_, _++_, map}
-use mathlib.Core.Bool.{Bool, true, false, cond, not, _&&_, _||_}
+use mathlib.Core.Bool.{Bool, true, cond, not, _&&_, _||_}
 use lib.ListN.{getD, set, take, replicate}
 use lib.Dec.{ltb, eqb}
 use Rattle.reading.specs.Forms.{member}
