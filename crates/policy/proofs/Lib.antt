@@ -1,4 +1,5 @@
 -- Laws of the policy's definitions, and the lemmas that its functions' proofs share.
+pub mod Cases
 pub mod NodeLaws
 pub mod RowLaws
 pub mod SpanSteps

@@ -1,12 +1,12 @@
 -- Questions 13 and 14 over the rows of a tree, row by row: the groups on the way down are kept by depth, and for each group the row
 -- after its last node. To compare a node with the last of its group is to compare it with all before it, since those are all the same.
 use Prim.Native.Nat.{ℕ, zero, suc, _+_, _-_, _<_, _≤_}
-use mathlib.Core.Bool.{Bool, true, false, not, _&&_, _||_, and-true}
+use mathlib.Core.Bool.{Bool, true, false, cond, not, _&&_, _||_, and-true}
 use mathlib.Core.List.{List, [], _∷_, _++_, map}
 use mathlib.Core.Path.{_≡_, refl, sym, _∙_}
 use native.Mathlib.Numerals.{add-one, sub-one}
 use native.Mathlib.Omega.{arith}
-use borrow.Author.Tests.{not-true, not-false, eqb-true, eqb-false}
+use borrow.Author.Tests.{not-true, not-false, eq-eqb, ne-eqb, eqb-true, eqb-false}
 use lib.Dec.{eqb}
 use lib.ListN.{length, getD, take, set, replicate, length-set, getD-replicate}
 use lib.Seq.{getD-set-same, getD-set-other}
@@ -18,7 +18,7 @@ use Rattle.policy.specs.Syntax.{Permissions, Head}
 use Rattle.policy.specs.WellFormed.{samePermissions, agree, isNew, isSame, nodeFault, firstFault}
 use Rattle.policy.specs.Rows.{nodeAt, permissionsOf, flatOf, flats}
 use Rattle.policy.specs.declared.Node.{Node}
-use Rattle.wellformed.specs.Rows.{metRows, sameAsLast}
+use Rattle.wellformed.specs.Rows.{metRows, faultOf, sameAsLast}
 use Rattle.wellformed.proofs.AgreeSteps.{permissions-equal}
 use Rattle.wellformed.proofs.OrderLaws.{every-append}
 
@@ -32,6 +32,19 @@ pub one-before : (c nodes : List ℕ) (next : ℕ) (p : Permissions) (n : Node) 
 unfolding sameAsLast
 one-before c nodes zero p n r h e k = absurd (h refl)
 one-before c nodes (suc row) p n r h e k = k ∙ rw (e, sub-one (suc row))
+
+-- At one node.
+pub fault-14 : (same fresh : Bool) → not same ≡ true → 14 ≡ faultOf same fresh
+unfolding faultOf
+fault-14 same fresh h = rw (not-true same h)
+
+pub fault-none : (same fresh : Bool) → not same ≡ false → fresh ≡ true → 0 ≡ faultOf same fresh
+unfolding faultOf
+fault-none same fresh h k = rw (not-false same h, k)
+
+pub fault-13 : (same fresh : Bool) → not same ≡ false → fresh ≡ false → 13 ≡ faultOf same fresh
+unfolding faultOf
+fault-13 same fresh h k = rw (not-false same h, k)
 
 -- All nodes before are answered for by `last`.
 abbrev pub Answers : List ℕ → List ℕ → List Head → List ℕ → Type 0
@@ -103,30 +116,35 @@ module _ (c nodes : List ℕ) (start to : ℕ) (last groups : List ℕ) (i : ℕ
         s .answers (nodeAt nodes i .group) (permissionsOf c (nodeAt nodes i .permissions)) (group-small nodes i (nodeAt nodes i) refl)
         ∙ sym (rw e at a)
 
-    pub heads-14 : not r ≡ true → 14 ≡ firstFault (map nodeFault (metRows (replicate 8 0) [] (flats c nodes start (to - start))))
-    unfolding metRows firstFault nodeFault isSame
-    heads-14 k = sym (rw (flats-more c nodes i to h, same-is, not-true r k) at (s .same))
+    module _ (b : Bool) (m : b ≡ member (n .group) (take (n .depth) groups)) (fault : ℕ) (f : fault ≡ faultOf r (not b)) where
+      fault-is : firstFault (map nodeFault (metRows (replicate 8 0) [] (flats c nodes start (to - start))))
+          ≡ cond (eqb fault 0)
+          (firstFault (map nodeFault (metRows (set groups (n .depth) (n .group)) (s .earlier ++ (flatOf c n .head ∷ [])) (flats c nodes (i + 1) (to - (i + 1)))))) fault
+      unfolding metRows firstFault nodeFault isSame isNew flatOf faultOf
+      fault-is = rw (flats-more c nodes i to h, same-is, ← e, ← m, ← f) at (s .same)
 
-    module _ (k : not r ≡ false) (b : Bool) (m : b ≡ member (n .group) (take (n .depth) groups)) where
-      pub heads-13 : b ≡ true → 13 ≡ firstFault (map nodeFault (metRows (replicate 8 0) [] (flats c nodes start (to - start))))
-      unfolding metRows firstFault nodeFault isSame isNew flatOf
-      heads-13 l = sym (rw (flats-more c nodes i to h, same-is, not-false r k, ← e, ← m, l) at (s .same))
+      pub heads-fail : (fault ≡ 0 → ⊥) → fault ≡ firstFault (map nodeFault (metRows (replicate 8 0) [] (flats c nodes start (to - start))))
+      heads-fail k = sym (rw (ne-eqb fault 0 k) at fault-is)
 
-      pub heads-next : b ≡ false → HeadsLeft c nodes start to (set last (n .group) (i + 1)) (set groups (n .depth) (n .group)) (i + 1)
-      unfolding metRows firstFault nodeFault isSame isNew flatOf
-      heads-next l = record {
+      same-here : (t : Bool) → fault ≡ faultOf t (not b) → fault ≡ 0 → t ≡ true
+      unfolding faultOf
+      same-here true x k = refl
+      same-here false x k = absurd (omega arith)
+
+      rows-next : (g : ℕ) → g < 64 → getD (set last (n .group) (i + 1)) g 0 ≤ i + 1
+      rows-next g x = go (eqb (n .group) g) refl
+        where
+          go : (t : Bool) → eqb (n .group) g ≡ t → getD (set last (n .group) (i + 1)) g 0 ≤ i + 1
+          go true z = rw (← eqb-true (n .group) g z, getD-set-same last (n .group) (i + 1) 0 (omega (arith, group-small nodes i n e, s .long))) (omega arith)
+          go false z = rw (getD-set-other last (n .group) g (i + 1) 0 (λ y. eqb-false (n .group) g z (sym y))) (omega (arith, s .rows g x))
+
+      pub heads-next : fault ≡ 0 → HeadsLeft c nodes start to (set last (n .group) (i + 1)) (set groups (n .depth) (n .group)) (i + 1)
+      heads-next k = record {
         long = length-set last (n .group) (i + 1) ∙ s .long;
         earlier = s .earlier ++ (flatOf c n .head ∷ []);
-        answers = rw e (answers-next c nodes (s .earlier) last i (s .long) (s .answers) (same-is ∙ not-false r k));
+        answers = rw e (answers-next c nodes (s .earlier) last i (s .long) (s .answers) (same-is ∙ same-here r f k));
         rows = rows-next;
-        same = rw (flats-more c nodes i to h, same-is, not-false r k, ← e, ← m, l) at (s .same);
+        same = rw (eq-eqb fault 0 k) at fault-is;
       }
-        where
-          rows-next : (g : ℕ) → g < 64 → getD (set last (n .group) (i + 1)) g 0 ≤ i + 1
-          rows-next g x = go (eqb (n .group) g) refl
-            where
-              go : (t : Bool) → eqb (n .group) g ≡ t → getD (set last (n .group) (i + 1)) g 0 ≤ i + 1
-              go true z = rw (← eqb-true (n .group) g z, getD-set-same last (n .group) (i + 1) 0 (omega (arith, group-small nodes i n e, s .long))) (omega arith)
-              go false z = rw (getD-set-other last (n .group) g (i + 1) 0 (λ y. eqb-false (n .group) g z (sym y))) (omega (arith, s .rows g x))
 
-pub ruleset head-steps = (node-steps, none-before, one-before, heads-start, heads-end, last-row, heads-14, heads-13, heads-next)
+pub ruleset head-steps = (node-steps, none-before, one-before, heads-start, heads-end, last-row, fault-14, fault-none, fault-13, heads-fail, heads-next)

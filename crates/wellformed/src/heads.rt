@@ -7,7 +7,7 @@ ghost use lib.ListN.{getD, replicate};
 ghost use lib.Dec.{eqb};
 ghost use Rattle.policy.specs.WellFormed.{sameList, samePermissions, nodeFault, firstFault};
 ghost use Rattle.policy.specs.Rows.{wordIn, itemsAt, permissionsOf, flats};
-ghost use Rattle.wellformed.specs.Rows.{metRows, sameAsLast};
+ghost use Rattle.wellformed.specs.Rows.{metRows, faultOf, sameAsLast};
 use policy::Node;
 use policy::Permissions;
 use policy::Span;
@@ -71,6 +71,16 @@ fn same_as_last(c: &[u8], nodes: &[usize], next: usize, node: Node) -> bool
     same_permissions(c, node_at(nodes, next - 1).permissions, node.permissions)
 }
 
+// The question that a node fails, or 0: where it fails both, 14. `same` and `fresh` are what 14 and 13 say of it.
+fn node_fault(same: bool, fresh: bool) -> usize
+    ensures { λ r. ⌜ r ≡ faultOf same fresh ⌝ }
+{
+    if !same {
+        return 14;
+    }
+    if fresh { 0 } else { 13 }
+}
+
 // 13 and 14 in one tree, node after node: the question that the first node with a fault fails, or 0.
 pub fn heads_fault(c: &[u8], nodes: &[usize], tree: Span) -> usize
     requires { ⌜ tree .to ≤ 64 ⌝ }
@@ -85,12 +95,12 @@ pub fn heads_fault(c: &[u8], nodes: &[usize], tree: Span) -> usize
     while i < tree.to {
         let node = node_at(nodes, i);
         let group = node.group;
-        if !same_as_last(c, nodes, last[group], node) {
-            return 14;
-        }
         let depth = node.depth;
-        if paths::has(Path { groups, len: depth }, group) {
-            return 13;
+        let same = same_as_last(c, nodes, last[group], node);
+        let above = paths::has(Path { groups, len: depth }, group);
+        let fault = node_fault(same, !above);
+        if fault != 0 {
+            return fault;
         }
         last[group] = i + 1;
         groups[depth] = group;

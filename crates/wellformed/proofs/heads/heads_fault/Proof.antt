@@ -1,9 +1,9 @@
 -- `heads_fault`: the rows that are left decide, with the groups on the way down and the last node of each group (HeadsLeft).
 use borrow.Author.Needs.{needs}
 use Rattle.wellformed.proofs.HeadSteps.{head-steps, heads-next, HeadsLeft}
+use Prim.Native.Nat.{_-_}
 use native.Mathlib.Omega.{arith}
 use Rattle.policy.proofs.NodeLaws.{group-small, depth-small}
-use Prim.Native.Nat.{_-_}
 use Rattle.wellformed.proofs.heads.heads_fault.Statement.{statement}
 use Rattle.wellformed.proofs.heads.heads_fault.Tie as tie
 
@@ -21,7 +21,7 @@ mul-groups c = record { fits = omega (arith, depth-small _ _ _ (c .before .befor
 
 loop-again : tie.Need-loop-again Inv-loop μ-loop
 loop-again c =
-    heads-next _ _ _ _ _ _ _ (c .before .before .before .before .before .before .before .loop .inv) (search needs) _ (c .before .before .before .before .node-at .ensures) _ (c .before .before .before .same-as-last .ensures) (search needs) _ (c .before .has .ensures) (search needs)
+    heads-next _ _ _ _ _ _ _ (c .before .before .before .before .before .before .before .loop .inv) (search needs) _ (c .before .before .before .before .node-at .ensures) _ (c .before .before .before .same-as-last .ensures) _ (c .before .before .has .ensures) _ (c .before .node-fault .ensures) (search needs)
 
 pub heads-fault-spec : {M : Type 1} → statement M
 heads-fault-spec =
@@ -34,7 +34,7 @@ heads-fault-spec =
     (λ c. search head-steps)
     (λ c. search head-steps)
     (λ c κs. search head-steps)
-    (λ c. search head-steps)
+    (λ c κs. search needs)
     (λ c κs. search needs)
     (λ c. search head-steps)
     (λ c. search needs)
