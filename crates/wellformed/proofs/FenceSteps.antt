@@ -1,9 +1,9 @@
 -- Question 15 over the rows of a tree: the groups at and below a row are marked, and each group disclosed to below it is looked
 -- up among the marks.
 use Prim.Native.Nat.{ℕ, zero, suc, _+_, _-_, _*_, _<_, _≤_}
-use mathlib.Core.Bool.{Bool, true, false, cond, not, _&&_, _||_, or-false, or-true, and-assoc}
+use mathlib.Core.Bool.{Bool, true, false, cond, not, _&&_, _||_, or-false, or-true}
 use mathlib.Core.List.{List, [], _∷_, _++_}
-use mathlib.Core.Path.{_≡_, refl, sym, ap, _∙_}
+use mathlib.Core.Path.{_≡_, refl, sym, _∙_}
 use native.Mathlib.Omega.{arith}
 use borrow.Author.Tests.{not-true, not-false, lt-ltb, le-ltb, ne-eqb, eqb-true, eqb-false, ltb-true, ltb-false}
 use lib.Dec.{eqb, ltb}
@@ -13,6 +13,7 @@ use Rattle.inference.specs.Lists.{every, gather, rising}
 use Rattle.reading.specs.Forms.{member}
 use Rattle.policy.proofs.NodeLaws.{node-steps, group-small}
 use Rattle.policy.proofs.RowLaws.{flats-more, flats-none, items-more, items-none, items-all}
+use Rattle.wellformed.proofs.EveryLaws.{every-append, every-same}
 use Rattle.policy.specs.Syntax.{hasBit}
 use Rattle.policy.specs.WellFormed.{disclosedTo, groupsAt}
 use Rattle.policy.specs.Rows.{nodeAt, itemsAt, permissionsOf, flatOf, flats}
@@ -109,11 +110,8 @@ pub kept-start : (c nodes marks : List ℕ) (row to : ℕ) → KeptLeft c nodes 
 kept-start c nodes marks row to = record { same = refl }
 
 marked-append : (marks l m : List ℕ) → allMarked marks (l ++ m) ≡ (allMarked marks l && allMarked marks m)
-unfolding allMarked every
-marked-append marks [] m = refl
-marked-append marks (h ∷ l) m =
-    ap (λ (t : Bool). (ltb h 64 && isMarked marks h) && t) (marked-append marks l m)
-    ∙ sym (and-assoc (ltb h 64 && isMarked marks h) (allMarked marks l) (allMarked marks m))
+unfolding allMarked
+marked-append marks l m = every-append (λ h. ltb h 64 && isMarked marks h) l m
 
 module _ (c nodes marks : List ℕ) (row to i : ℕ) (s : KeptLeft c nodes marks row to i) where
   abbrev keptBelow : ℕ → Bool
@@ -155,11 +153,6 @@ none-large c nodes d h i (suc k) l = go (ltb d (flatOf c (nodeAt nodes i) .depth
         → member h (groupsAt (headsIn (cond t (flatOf c (nodeAt nodes i) ∷ belowIn d (flats c nodes (suc i) k)) []))) ≡ false
     go true e = rw (ne-eqb (flatOf c (nodeAt nodes i) .head .group) h other) e
     go false e = refl
-
-every-same : {A : Type 0} (p q : A → Bool) (l : List A) → ((x : A) → p x ≡ q x) → every p l ≡ every q l
-unfolding every
-every-same p q [] h = refl
-every-same p q (x ∷ l) h = rw (h x, every-same p q l h)
 
 -- A row's node: without nondisclose, and with it, where its groups are marked.
 module _ (c nodes : List ℕ) (row to : ℕ) (n : Node) (e : n ≡ nodeAt nodes row) (b : Bool) (k : b ≡ hasBit 8 (n .permissions .map)) where

@@ -1,7 +1,7 @@
 -- Over the rows of a tree the nodes are met as over the tree, and question 15 is the same. Rows in reading order keep what the tree
 -- says: the nodes below one are those that follow it and stand deeper.
 use Prim.Native.Nat.{ℕ, zero, suc, _+_, _<_, _≤_}
-use mathlib.Core.Bool.{Bool, true, false, cond, _&&_, and-assoc, and-true}
+use mathlib.Core.Bool.{Bool, true, false, cond, _&&_, and-true}
 use mathlib.Core.List.{List, [], _∷_, _++_, append-assoc, append-nil}
 use mathlib.Core.Path.{_≡_, refl, sym, ap, _∙_}
 use native.Mathlib.Numerals.{add-one}
@@ -13,6 +13,7 @@ use lib.Seq.{take-take, take-suc-set, take-set-le}
 use Rattle.inference.specs.Lists.{every, rising}
 use Rattle.policy.proofs.NodeLaws.{depth-small}
 use Rattle.reading.proofs.FormLaws.{both-true}
+use Rattle.wellformed.proofs.EveryLaws.{every-append}
 use Rattle.policy.specs.Syntax.{Permissions, Nodes, none, more, Head, headsOf}
 use Rattle.policy.specs.WellFormed.{metFrom, allKeep, keepsWithin}
 use Rattle.policy.specs.Rows.{nodeAt, Flat, flatOf, flats, flatten}
@@ -127,9 +128,8 @@ unfoldable pub allLow : List Flat → Bool
 allLow fs = every (λ f. ltb (f .depth) 8) fs
 
 low-append : (l m : List Flat) → allLow (l ++ m) ≡ (allLow l && allLow m)
-unfolding allLow every
-low-append [] m = refl
-low-append (f ∷ l) m = ap (λ (t : Bool). ltb (f .depth) 8 && t) (low-append l m) ∙ sym (and-assoc (ltb (f .depth) 8) (allLow l) (allLow m))
+unfolding allLow
+low-append l m = every-append (λ f. ltb (f .depth) 8) l m
 
 record Low (d : ℕ) (below rest : Nodes) : Type 0 where
   here : d < 8

@@ -2,7 +2,7 @@
 -- after its last node. To compare a node with the last of its group is to compare it with all before it, since those are all the same.
 use Prim.Native.Nat.{ℕ, zero, suc, _+_, _-_, _<_, _≤_}
 use mathlib.Core.Bool.{Bool, true, false, cond, not, _&&_, _||_, and-true}
-use mathlib.Core.List.{List, [], _∷_, _++_, map}
+use mathlib.Core.List.{List, [], _∷_, _++_}
 use mathlib.Core.Path.{_≡_, refl, sym, _∙_}
 use native.Mathlib.Numerals.{add-one, sub-one}
 use native.Mathlib.Omega.{arith}
@@ -18,9 +18,9 @@ use Rattle.policy.specs.Syntax.{Permissions, Head}
 use Rattle.policy.specs.WellFormed.{samePermissions, agree, isNew, isSame, nodeFault, firstFault}
 use Rattle.policy.specs.Rows.{nodeAt, permissionsOf, flatOf, flats}
 use Rattle.policy.specs.declared.Node.{Node}
-use Rattle.wellformed.specs.Rows.{metRows, faultOf, sameAsLast}
+use Rattle.wellformed.specs.Rows.{metRows, headsFault, faultOf, sameAsLast}
 use Rattle.wellformed.proofs.AgreeSteps.{permissions-equal}
-use Rattle.wellformed.proofs.OrderLaws.{every-append}
+use Rattle.wellformed.proofs.EveryLaws.{every-append}
 
 -- 14 against the last node.
 pub none-before : (c nodes : List ℕ) (next : ℕ) (p : Permissions) → next ≡ 0 → true ≡ sameAsLast c nodes next p
@@ -88,8 +88,8 @@ pub record HeadsLeft (c nodes : List ℕ) (start to : ℕ) (last groups : List �
   pub earlier : List Head
   pub answers : Answers c nodes earlier last
   pub rows : (g : ℕ) → g < 64 → getD last g 0 ≤ i
-  pub same : firstFault (map nodeFault (metRows (replicate 8 0) [] (flats c nodes start (to - start))))
-      ≡ firstFault (map nodeFault (metRows groups earlier (flats c nodes i (to - i))))
+  pub same : headsFault (replicate 8 0) [] (flats c nodes start (to - start))
+      ≡ headsFault groups earlier (flats c nodes i (to - i))
 
 pub heads-start : (c nodes : List ℕ) (start to : ℕ) → HeadsLeft c nodes start to (replicate 64 0) (replicate 8 0) start
 unfolding every sameAsLast
@@ -102,8 +102,8 @@ heads-start c nodes start to = record {
 }
 
 module _ (c nodes : List ℕ) (start to : ℕ) (last groups : List ℕ) (i : ℕ) (s : HeadsLeft c nodes start to last groups i) where
-  pub heads-end : to ≤ i → 0 ≡ firstFault (map nodeFault (metRows (replicate 8 0) [] (flats c nodes start (to - start))))
-  unfolding metRows firstFault
+  pub heads-end : to ≤ i → 0 ≡ headsFault (replicate 8 0) [] (flats c nodes start (to - start))
+  unfolding headsFault metRows firstFault
   heads-end h = rw (flats-none c nodes i to h) at (sym (s .same))
 
   pub last-row : (g : ℕ) → g < 64 → i < to → to ≤ 64 → getD last g 0 ≤ 64
@@ -117,13 +117,13 @@ module _ (c nodes : List ℕ) (start to : ℕ) (last groups : List ℕ) (i : ℕ
         ∙ sym (rw e at a)
 
     module _ (b : Bool) (m : b ≡ member (n .group) (take (n .depth) groups)) (fault : ℕ) (f : fault ≡ faultOf r (not b)) where
-      fault-is : firstFault (map nodeFault (metRows (replicate 8 0) [] (flats c nodes start (to - start))))
+      fault-is : headsFault (replicate 8 0) [] (flats c nodes start (to - start))
           ≡ cond (eqb fault 0)
-          (firstFault (map nodeFault (metRows (set groups (n .depth) (n .group)) (s .earlier ++ (flatOf c n .head ∷ [])) (flats c nodes (i + 1) (to - (i + 1)))))) fault
-      unfolding metRows firstFault nodeFault isSame isNew flatOf faultOf
+          (headsFault (set groups (n .depth) (n .group)) (s .earlier ++ (flatOf c n .head ∷ [])) (flats c nodes (i + 1) (to - (i + 1)))) fault
+      unfolding headsFault metRows firstFault nodeFault isSame isNew flatOf faultOf
       fault-is = rw (flats-more c nodes i to h, same-is, ← e, ← m, ← f) at (s .same)
 
-      pub heads-fail : (fault ≡ 0 → ⊥) → fault ≡ firstFault (map nodeFault (metRows (replicate 8 0) [] (flats c nodes start (to - start))))
+      pub heads-fail : (fault ≡ 0 → ⊥) → fault ≡ headsFault (replicate 8 0) [] (flats c nodes start (to - start))
       heads-fail k = sym (rw (ne-eqb fault 0 k) at fault-is)
 
       same-here : (t : Bool) → fault ≡ faultOf t (not b) → fault ≡ 0 → t ≡ true

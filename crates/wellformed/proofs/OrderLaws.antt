@@ -9,13 +9,9 @@ use native.Mathlib.Omega.{arith}
 use lib.Dec.{eqb}
 use Rattle.reading.specs.Forms.{member}
 use Rattle.inference.specs.Lists.{every, gather}
+use Rattle.wellformed.proofs.EveryLaws.{every-append, every-pair, every-none}
 use Rattle.policy.specs.Syntax.{Nodes, none, more, Head, headsOf, heads, Tree, alone}
 use Rattle.policy.specs.WellFormed.{newBelow, noneAbove, agree, allAgree, sameHeads, Met, metFrom, metIn, isNew, isSame, nodeFault, firstFault, nodesFault}
-
-pub every-append : {A : Type 0} (p : A → Bool) (xs ys : List A) → every p (xs ++ ys) ≡ (every p xs && every p ys)
-unfolding every
-every-append p [] ys = refl
-every-append p (x ∷ xs) ys = ap (λ (t : Bool). p x && t) (every-append p xs ys) ∙ sym (and-assoc (p x) (every p xs) (every p ys))
 
 -- 13: only which groups stand above a node matters.
 member-append : (x : ℕ) (l m : List ℕ) → member x (l ++ m) ≡ (member x l || member x m)
@@ -66,22 +62,6 @@ same-nodes above earlier (more g p below rest) =
     )
 
 -- The same pairs: each node agrees with those before it, or each with those after it.
-every-pair : {A : Type 0} (p q : A → Bool) (xs : List A) → every (λ x. p x && q x) xs ≡ (every p xs && every q xs)
-unfolding every
-every-pair p q [] = refl
-every-pair p q (x ∷ xs) = ap (λ (t : Bool). (p x && q x) && t) (every-pair p q xs) ∙ crossed (p x) (q x) (every p xs) (every q xs)
-  where
-    crossed : (a b c d : Bool) → ((a && b) && (c && d)) ≡ ((a && c) && (b && d))
-    crossed true true c d = refl
-    crossed true false true d = refl
-    crossed true false false d = refl
-    crossed false b c d = refl
-
-every-none : {A B : Type 0} (p : A → B → Bool) (xs : List A) → every (λ x. every (p x) []) xs ≡ true
-unfolding every
-every-none p [] = refl
-every-none p (x ∷ xs) = every-none p xs
-
 same-pairs : (earlier hs : List Head) → allSame earlier hs ≡ (every (λ e. every (agree e) hs) earlier && allAgree hs)
 unfolding allSame allAgree every
 same-pairs earlier [] = rw (every-none agree earlier)

@@ -17,7 +17,7 @@ use Rattle.wellformed.proofs.OrderLaws.{first-append}
 use Rattle.policy.specs.Syntax.{Tree, alone}
 use Rattle.policy.specs.WellFormed.{distinct, kindsDistinct, metFrom, metIn, nodeFault, firstFault, nodesFault, allKeep, fenced}
 use Rattle.policy.specs.Rows.{Flat, flats, flatten}
-use Rattle.wellformed.specs.Rows.{metRows, allKept, faultIn}
+use Rattle.wellformed.specs.Rows.{headsFault, allKept, faultIn}
 use Rattle.policy.specs.Loads.{startOf, AllHeld, held-none, held-more, Bounded}
 use Rattle.wellformed.specs.Faults.{treesFault, policyFault}
 use Rattle.policy.specs.declared.Trees.{Trees}
@@ -25,7 +25,7 @@ use Rattle.policy.specs.declared.Span.{Span}
 
 -- One tree's rows, by question.
 module _ (question : ℕ) (fs : List Flat) where
-  pub asks-nodes : (n : ℕ) → (question ≡ 15 → ⊥) → n ≡ firstFault (map nodeFault (metRows (replicate 8 0) [] fs)) → n ≡ faultIn question fs
+  pub asks-nodes : (n : ℕ) → (question ≡ 15 → ⊥) → n ≡ headsFault (replicate 8 0) [] fs → n ≡ faultIn question fs
   unfolding faultIn
   asks-nodes n h k = rw (ne-eqb question 15 h) k
 
@@ -101,7 +101,7 @@ module _ (c nodes : List ℕ) (trees : Trees) where
       rw (kinds-more (trees .kinds) (trees .len) t l few (omega (arith, held-count c nodes trees k)), h .kind, add-one t, kinds-held l few k)
 
   held-nodes : {t : ℕ} {policy : List Tree} → AllHeld c nodes trees t policy → treesFault 14 policy ≡ nodesFault policy
-  unfolding treesFault firstFault faultIn nodesFault metIn gather
+  unfolding treesFault firstFault faultIn headsFault nodesFault metIn gather
   held-nodes (held-none e) = refl
   held-nodes (held-more {t} {tree} {rest} h k) =
       rw (

@@ -17,6 +17,10 @@ metRows above earlier (f ∷ later) =
     record { head = f .head; above = take (f .depth) above; earlier = earlier }
     ∷ metRows (set above (f .depth) (f .head .group)) (earlier ++ (f .head ∷ [])) later
 
+-- 13 and 14 over rows: the question that the first node with a fault fails, or 0.
+unfoldable pub headsFault : List ℕ → List Head → List Flat → ℕ
+headsFault above earlier fs = firstFault (map nodeFault (metRows above earlier fs))
+
 -- The question that a node fails, or 0, by what 14 and 13 say of it.
 unfoldable pub faultOf : Bool → Bool → ℕ
 faultOf same fresh = cond same (cond fresh 0 13) 14
@@ -63,4 +67,4 @@ listedGroups ds = map (λ d. d .group) ds
 -- The question that a tree's rows fail, or 0: of 13 and 14, by their first node that fails, or 15.
 unfoldable pub faultIn : ℕ → List Flat → ℕ
 faultIn question fs =
-    cond (eqb question 15) (cond (allKept fs) 0 15) (firstFault (map nodeFault (metRows (replicate 8 0) [] fs)))
+    cond (eqb question 15) (cond (allKept fs) 0 15) (headsFault (replicate 8 0) [] fs)

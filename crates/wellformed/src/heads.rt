@@ -1,13 +1,13 @@
 // Questions 13 and 14 over the rows of a tree, in one pass.
 ghost use mathlib.Core.Path.{_≡_};
-ghost use mathlib.Core.List.{[], map};
+ghost use mathlib.Core.List.{[]};
 ghost use mathlib.Core.Bool.{_&&_};
 ghost use Prim.Native.Nat.{_<_, _≤_, _+_, _-_};
 ghost use lib.ListN.{getD, replicate};
 ghost use lib.Dec.{eqb};
-ghost use Rattle.policy.specs.WellFormed.{sameList, samePermissions, nodeFault, firstFault};
+ghost use Rattle.policy.specs.WellFormed.{sameList, samePermissions};
 ghost use Rattle.policy.specs.Rows.{wordIn, itemsAt, permissionsOf, flats};
-ghost use Rattle.wellformed.specs.Rows.{metRows, faultOf, sameAsLast};
+ghost use Rattle.wellformed.specs.Rows.{headsFault, faultOf, sameAsLast};
 use policy::Node;
 use policy::Permissions;
 use policy::Span;
@@ -84,8 +84,7 @@ fn node_fault(same: bool, fresh: bool) -> usize
 // 13 and 14 in one tree, node after node: the question that the first node with a fault fails, or 0.
 pub fn heads_fault(c: &[u8], nodes: &[usize], tree: Span) -> usize
     requires { ⌜ tree .to ≤ 64 ⌝ }
-    ensures { λ r. ⌜ r ≡ firstFault (map nodeFault (metRows (replicate 8 0) []
-        (flats (now (c .entry)) (now (nodes .entry)) (tree .from) (tree .to - tree .from)))) ⌝ }
+    ensures { λ r. ⌜ r ≡ headsFault (replicate 8 0) [] (flats (now (c .entry)) (now (nodes .entry)) (tree .from) (tree .to - tree .from)) ⌝ }
 {
     // by group, the row after its last node
     let mut last = [0usize; 64];
