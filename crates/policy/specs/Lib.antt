@@ -1,4 +1,4 @@
--- What the contracts of the policy's reader cite: document 01's "Charter", and questions 11 to 15.
+-- Document 01's "Charter": what the contracts of the policy's reader cite, question 11, and questions 12 to 15 of a policy that is read.
 pub mod Syntax
 pub mod Reading
 pub mod WellFormed

@@ -64,7 +64,7 @@ allMarked marks hs = every (λ h. ltb h 64 && isMarked marks h) hs
 unfoldable pub listedGroups : List Granted → List ℕ
 listedGroups ds = map (λ d. d .group) ds
 
--- The question that a tree's rows fail, or 0: of 13 and 14, by their first node that fails, or 15.
+-- The question that a tree's rows fail, or 0. Asked 15, the fences decide, otherwise the first node that fails 13 or 14.
 unfoldable pub faultIn : ℕ → List Flat → ℕ
 faultIn question fs =
     cond (eqb question 15) (cond (allKept fs) 0 15) (headsFault (replicate 8 0) [] fs)

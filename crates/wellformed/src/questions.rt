@@ -14,7 +14,7 @@ use policy::Span;
 use policy::Trees;
 use policy::nodes::span_of;
 
-// The question that a tree fails, or 0: 13 or 14, by its first node that fails, or 15.
+// The question that a tree fails, or 0. Asked 15, its fences decide, otherwise its first node that fails 13 or 14.
 fn tree_fault(question: usize, c: &[u8], nodes: &[usize], tree: Span) -> usize
     requires { ⌜ tree .to ≤ 64 ⌝ }
     ensures { λ r. ⌜ r ≡ faultIn question (flats (now (c .entry)) (now (nodes .entry)) (tree .from) (tree .to - tree .from)) ⌝ }
