@@ -5,7 +5,7 @@ use mathlib.Core.Path.{_≡_, refl}
 use Rattle.reading.specs.Forms.{member}
 use Rattle.inference.specs.Lists.{every, gather}
 use Rattle.policy.specs.Syntax.{Permissions, Nodes, none, more, Tree, headsOf, alone}
-use Rattle.policy.specs.WellFormed.{sameList, samePermissions, agree, metFrom, metIn, isNew, isSame, nodeFault, firstFault, nodesFault}
+use Rattle.policy.specs.WellFormed.{sameList, samePermissions, agree, metFrom, metIn, isNew, isSame, faultOf, nodeFault, firstFault, nodesFault}
 
 -- A map without a list; a list of one group with a count.
 abbrev flags : ℕ → Permissions
@@ -48,5 +48,5 @@ cases =
     []
 
 pub cases-hold : map nodesFault cases ≡ 14 ∷ 14 ∷ 14 ∷ 13 ∷ 13 ∷ 13 ∷ 14 ∷ 13 ∷ 14 ∷ 14 ∷ 13 ∷ 0 ∷ []
-unfolding nodesFault firstFault nodeFault isNew isSame metIn metFrom agree samePermissions sameList member every gather headsOf alone
+unfolding nodesFault firstFault nodeFault faultOf isNew isSame metIn metFrom agree samePermissions sameList member every gather headsOf alone
 cases-hold = refl

@@ -51,7 +51,7 @@ pub record Met : Type 0 where
   pub above : List ℕ
   pub earlier : List Head
 
--- "Nodes are now taken in reading order": nodes below the groups `above`, after the nodes `earlier`.
+-- "Nodes are now taken in reading order" (preorder): nodes below the groups `above`, after the nodes `earlier`.
 unfoldable pub metFrom : List ℕ → List Head → Nodes → List Met
 metFrom above earlier none = []
 metFrom above earlier (more g p below rest) =
@@ -71,9 +71,12 @@ isNew m = not (member (m .head .group) (m .above))
 unfoldable pub isSame : Met → Bool
 isSame m = every (λ e. agree e (m .head)) (m .earlier)
 
--- "at one node 14 goes before 13": the question that a node fails, or 0.
+-- "at one node 14 goes before 13": the question that a node fails, or 0, by what 14 and 13 say of it.
+unfoldable pub faultOf : Bool → Bool → ℕ
+faultOf same new = cond same (cond new 0 13) 14
+
 unfoldable pub nodeFault : Met → ℕ
-nodeFault m = cond (isSame m) (cond (isNew m) 0 13) 14
+nodeFault m = faultOf (isSame m) (isNew m)
 
 -- The first number other than 0, or 0.
 unfoldable pub firstFault : List ℕ → ℕ

@@ -87,22 +87,21 @@ kept-flatten d ns = rw append-nil at (kept-nodes d ns [] refl) ∙ and-true (all
 Steady : ℕ → List Flat → Type 0
 Steady d later = (a b : List ℕ) (earlier : List Head) → length a ≡ 8 → length b ≡ 8 → take d a ≡ take d b → metRows a earlier later ≡ metRows b earlier later
 
-module _ (d g : ℕ) (p : Permissions) (below rest : Nodes) (later : List Flat) (s : Steady d later) (low : d < 8)
-    (right : (a : List ℕ) (earlier : List Head) → length a ≡ 8
-    → metRows a earlier (flatten d rest ++ later) ≡ metFrom (take d a) earlier rest ++ metRows a (earlier ++ headsOf rest) later) where
+-- Rows of nodes, and rows after them: the nodes are met as over the tree, then those after them.
+abbrev Splits : ℕ → Nodes → List Flat → Type 0
+Splits d ns later = (a : List ℕ) (earlier : List Head) → length a ≡ 8
+    → metRows a earlier (flatten d ns ++ later) ≡ metFrom (take d a) earlier ns ++ metRows a (earlier ++ headsOf ns) later
+
+module _ (d g : ℕ) (p : Permissions) (below rest : Nodes) (later : List Flat) (s : Steady d later) (low : d < 8) (right : Splits d rest later) where
   steadier : Steady (d + 1) (flatten d rest ++ later)
   unfolding Steady
   steadier a b earlier h k e =
       let z : take d a ≡ take d b = sym (take-take d (d + 1) a (omega arith)) ∙ ap (λ (l : List ℕ). take d l) e ∙ take-take d (d + 1) b (omega arith) in
       right a earlier h ∙ rw (z, s a b (earlier ++ headsOf rest) h k z) (sym (right b earlier k))
 
-  met-step : (above : List ℕ) (earlier : List Head) → length above ≡ 8
-      → ((a : List ℕ) (before : List Head) → length a ≡ 8 → metRows a before (flatten (d + 1) below ++ (flatten d rest ++ later))
-      ≡ metFrom (take (d + 1) a) before below ++ metRows a (before ++ headsOf below) (flatten d rest ++ later))
-      → metRows above earlier (flatten d (more g p below rest) ++ later)
-      ≡ metFrom (take d above) earlier (more g p below rest) ++ metRows above (earlier ++ headsOf (more g p below rest)) later
+  met-step : Splits (d + 1) below (flatten d rest ++ later) → Splits d (more g p below rest) later
   unfolding flatten metRows metFrom headsOf Steady
-  met-step above earlier h left =
+  met-step left above earlier h =
       let head : Head = record { group = g; permissions = p } in
       let k : length (set above d g) ≡ 8 = length-set above d g ∙ h in
       let z : take d (set above d g) ≡ take d above = take-set-le d above d g (omega arith) in
@@ -143,18 +142,15 @@ low-parts d g p below rest e =
     let k = both-true (allLow (flatten (d + 1) below)) (allLow (flatten d rest)) (sym (low-append (flatten (d + 1) below) (flatten d rest)) ∙ h .1) in
     record { here = ltb-true d 8 (h .0); deeper = k .0; after = k .1 }
 
-met-nodes : (d : ℕ) (ns : Nodes) (later : List Flat) → allLow (flatten d ns) ≡ true → Steady d later → (above : List ℕ) (earlier : List Head)
-    → length above ≡ 8 → metRows above earlier (flatten d ns ++ later) ≡ metFrom (take d above) earlier ns ++ metRows above (earlier ++ headsOf ns) later
+met-nodes : (d : ℕ) (ns : Nodes) (later : List Flat) → allLow (flatten d ns) ≡ true → Steady d later → Splits d ns later
 unfolding flatten metFrom headsOf
 met-nodes d none later l s above earlier h = rw (append-nil earlier)
 met-nodes d (more g p below rest) later l s above earlier h =
     let q = low-parts d g p below rest l in
-    let right : (a : List ℕ) (before : List Head) → length a ≡ 8
-    → metRows a before (flatten d rest ++ later) ≡ metFrom (take d a) before rest ++ metRows a (before ++ headsOf rest) later =
-    λ a before k. met-nodes d rest later (q .after) s a before k in
+    let right : Splits d rest later = λ a before k. met-nodes d rest later (q .after) s a before k in
     let steady = steadier d g p below rest later s (q .here) right in
-    met-step d g p below rest later s (q .here) right above earlier h
-    (λ a before k. met-nodes (d + 1) below (flatten d rest ++ later) (q .deeper) steady a before k)
+    let left : Splits (d + 1) below (flatten d rest ++ later) = λ a before k. met-nodes (d + 1) below (flatten d rest ++ later) (q .deeper) steady a before k in
+    met-step d g p below rest later s (q .here) right left above earlier h
 
 pub met-flatten : (ns : Nodes) → allLow (flatten 0 ns) ≡ true → metRows (replicate 8 0) [] (flatten 0 ns) ≡ metFrom [] [] ns
 unfolding metRows Steady

@@ -15,10 +15,10 @@ use Rattle.inference.specs.Lists.{every}
 use Rattle.policy.proofs.NodeLaws.{node-steps, group-small}
 use Rattle.policy.proofs.RowLaws.{flats-more, flats-none}
 use Rattle.policy.specs.Syntax.{Permissions, Head}
-use Rattle.policy.specs.WellFormed.{samePermissions, agree, isNew, isSame, nodeFault, firstFault}
+use Rattle.policy.specs.WellFormed.{samePermissions, agree, isNew, isSame, faultOf, nodeFault, firstFault}
 use Rattle.policy.specs.Rows.{nodeAt, permissionsOf, flatOf, flats}
 use Rattle.policy.specs.declared.Node.{Node}
-use Rattle.wellformed.specs.Rows.{metRows, headsFault, faultOf, sameAsLast}
+use Rattle.wellformed.specs.Rows.{metRows, headsFault, sameAsLast}
 use Rattle.wellformed.proofs.AgreeSteps.{permissions-equal}
 use Rattle.wellformed.proofs.EveryLaws.{every-append}
 
@@ -120,7 +120,7 @@ module _ (c nodes : List ℕ) (start to : ℕ) (last groups : List ℕ) (i : ℕ
       fault-is : headsFault (replicate 8 0) [] (flats c nodes start (to - start))
           ≡ cond (eqb fault 0)
           (headsFault (set groups (n .depth) (n .group)) (s .earlier ++ (flatOf c n .head ∷ [])) (flats c nodes (i + 1) (to - (i + 1)))) fault
-      unfolding headsFault metRows firstFault nodeFault isSame isNew flatOf faultOf
+      unfolding headsFault metRows firstFault nodeFault isSame isNew flatOf
       fault-is = rw (flats-more c nodes i to h, same-is, ← e, ← m, ← f) at (s .same)
 
       pub heads-fail : (fault ≡ 0 → ⊥) → fault ≡ headsFault (replicate 8 0) [] (flats c nodes start (to - start))

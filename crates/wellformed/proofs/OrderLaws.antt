@@ -11,7 +11,7 @@ use Rattle.reading.specs.Forms.{member}
 use Rattle.inference.specs.Lists.{every, gather}
 use Rattle.wellformed.proofs.EveryLaws.{every-append, every-pair, every-none}
 use Rattle.policy.specs.Syntax.{Nodes, none, more, Head, headsOf, heads, Tree, alone}
-use Rattle.policy.specs.WellFormed.{newBelow, noneAbove, agree, allAgree, sameHeads, Met, metFrom, metIn, isNew, isSame, nodeFault, firstFault, nodesFault}
+use Rattle.policy.specs.WellFormed.{newBelow, noneAbove, agree, allAgree, sameHeads, Met, metFrom, metIn, isNew, isSame, faultOf, nodeFault, firstFault, nodesFault}
 
 -- 13: only which groups stand above a node matters.
 member-append : (x : ℕ) (l m : List ℕ) → member x (l ++ m) ≡ (member x l || member x m)
@@ -77,24 +77,24 @@ same-pairs earlier (h ∷ hs) =
 
 -- The first fault is 0 where no node fails, and never above 14.
 no-fault : (ms : List Met) → eqb (firstFault (map nodeFault ms)) 0 ≡ (every isNew ms && every isSame ms)
-unfolding firstFault nodeFault every
+unfolding firstFault nodeFault faultOf every
 no-fault [] = refl
 no-fault (m ∷ ms) = go (isSame m) (isNew m) (every isNew ms) (every isSame ms) (no-fault ms)
   where
     go : (a b c d : Bool) → eqb (firstFault (map nodeFault ms)) 0 ≡ (c && d)
-        → eqb (cond (eqb (cond a (cond b 0 13) 14) 0) (firstFault (map nodeFault ms)) (cond a (cond b 0 13) 14)) 0 ≡ ((b && c) && (a && d))
+        → eqb (cond (eqb (faultOf a b) 0) (firstFault (map nodeFault ms)) (faultOf a b)) 0 ≡ ((b && c) && (a && d))
     go true true c d h = h
     go true false c d h = refl
     go false true true d h = refl
     go false true false d h = refl
     go false false c d h = refl
 
-least-fault : (ms : List Met) → firstFault (map nodeFault ms) ≤ 14
-unfolding firstFault nodeFault
-least-fault [] = omega arith
-least-fault (m ∷ ms) = go (isSame m) (isNew m) (least-fault ms)
+most-14 : (ms : List Met) → firstFault (map nodeFault ms) ≤ 14
+unfolding firstFault nodeFault faultOf
+most-14 [] = omega arith
+most-14 (m ∷ ms) = go (isSame m) (isNew m) (most-14 ms)
   where
-    go : (a b : Bool) → firstFault (map nodeFault ms) ≤ 14 → cond (eqb (cond a (cond b 0 13) 14) 0) (firstFault (map nodeFault ms)) (cond a (cond b 0 13) 14) ≤ 14
+    go : (a b : Bool) → firstFault (map nodeFault ms) ≤ 14 → cond (eqb (faultOf a b) 0) (firstFault (map nodeFault ms)) (faultOf a b) ≤ 14
     go true true h = h
     go true false h = omega arith
     go false b h = omega arith
@@ -112,24 +112,24 @@ first-append (n ∷ l) m = go (eqb n 0) refl (first-append l m)
 
 pub nodes-below : (policy : List Tree) → nodesFault policy ≤ 14
 unfolding nodesFault
-nodes-below policy = least-fault (metIn policy)
+nodes-below policy = most-14 (metIn policy)
 
 -- Tree after tree.
-every-new : (policy : List Tree) → every isNew (metIn policy) ≡ noneAbove policy
+new-policy : (policy : List Tree) → every isNew (metIn policy) ≡ noneAbove policy
 unfolding every metIn gather noneAbove
-every-new [] = refl
-every-new (t ∷ rest) =
+new-policy [] = refl
+new-policy (t ∷ rest) =
     every-append isNew (metFrom [] [] (alone (t .root))) (metIn rest)
-    ∙ ap₂ _&&_ (new-nodes [] [] [] (alone (t .root)) (λ x. refl)) (every-new rest)
+    ∙ ap₂ _&&_ (new-nodes [] [] [] (alone (t .root)) (λ x. refl)) (new-policy rest)
 
-every-same : (policy : List Tree) → every isSame (metIn policy) ≡ sameHeads policy
+same-policy : (policy : List Tree) → every isSame (metIn policy) ≡ sameHeads policy
 unfolding every metIn gather sameHeads heads
-every-same [] = refl
-every-same (t ∷ rest) =
+same-policy [] = refl
+same-policy (t ∷ rest) =
     every-append isSame (metFrom [] [] (alone (t .root))) (metIn rest)
-    ∙ ap₂ _&&_ (same-nodes [] [] (alone (t .root)) ∙ same-pairs [] (headsOf (alone (t .root)))) (every-same rest)
+    ∙ ap₂ _&&_ (same-nodes [] [] (alone (t .root)) ∙ same-pairs [] (headsOf (alone (t .root)))) (same-policy rest)
 
 -- A policy passes the new order exactly where it passed 13 and 14.
 pub nodes-pass : (policy : List Tree) → eqb (nodesFault policy) 0 ≡ (noneAbove policy && sameHeads policy)
 unfolding nodesFault
-nodes-pass policy = no-fault (metIn policy) ∙ ap₂ _&&_ (every-new policy) (every-same policy)
+nodes-pass policy = no-fault (metIn policy) ∙ ap₂ _&&_ (new-policy policy) (same-policy policy)

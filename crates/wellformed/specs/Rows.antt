@@ -21,10 +21,6 @@ metRows above earlier (f ∷ later) =
 unfoldable pub headsFault : List ℕ → List Head → List Flat → ℕ
 headsFault above earlier fs = firstFault (map nodeFault (metRows above earlier fs))
 
--- The question that a node fails, or 0, by what 14 and 13 say of it.
-unfoldable pub faultOf : Bool → Bool → ℕ
-faultOf same fresh = cond same (cond fresh 0 13) 14
-
 -- 14 against one node, that of the row before `next`; where `next` is 0 there is none.
 unfoldable pub sameAsLast : List ℕ → List ℕ → ℕ → Permissions → Bool
 sameAsLast c nodes zero p = true
