@@ -90,3 +90,43 @@ pub fn running_script(moves: usize, idle: usize) -> Vec<u8> {
     let turn: [&[u8]; 3] = [&[1, at], &[1, at + 2], &[4, at, at + 2]];
     (0..moves).flat_map(|i| turn[i % 3].to_vec()).collect()
 }
+
+/// A sheet of `size` bytes with one repeat: two sends, and after them a text of sends side by side that is never reached.
+pub fn text_sheet(size: usize) -> Vec<u8> {
+    let mut out = vec![2, 1, 0, 0, 0, 0, 4, 0, 7, 6, 0, 1, 6, 0, 1];
+    let sends = (size - out.len() + 1) / 5;
+    parallel(&mut out, sends, &mut |out| out.extend_from_slice(&[6, 0, 1, 0]));
+    out
+}
+
+/// Moves on such a sheet: so many unfoldings, each of which puts a copy before the repeat, then the first send of each copy.
+pub fn text_script(copies: u8) -> Vec<u8> {
+    let unfoldings = (0..copies).flat_map(|i| [1, i]);
+    unfoldings.chain((0..copies).flat_map(|i| [2, i])).collect()
+}
+
+/// A sheet of so many components with a path of eight groups; each receives a link, sends it on, and reads and writes through it.
+pub fn deep_sheet(components: usize) -> Vec<u8> {
+    let mut out = vec![2, 2, 0, 0, 0, 1, 0, 0];
+    for group in 0..7 {
+        out.extend_from_slice(&[2, group]);
+    }
+    parallel(&mut out, components, &mut |out| {
+        out.extend_from_slice(&[4, 7, 5, 0, 1, 0, 0, 6, 0, 2, 5, 2, 0, 0, 6, 2, 3, 0]);
+    });
+    out
+}
+
+/// A charter for such a sheet: one tree of 64 nodes, in which 56 that the path does not reach stand before those below the root that
+/// it reaches.
+pub fn deep_charter() -> Vec<u8> {
+    let mut out = vec![1, 0, 0, 0x10, 1, 0, 1, 0, 57];
+    for group in 8..64 {
+        out.extend_from_slice(&[group, 0x00, 0]);
+    }
+    for group in 1..7 {
+        out.extend_from_slice(&[group, 0x00, 1]);
+    }
+    out.extend_from_slice(&[7, 0x07, 0]);
+    out
+}

@@ -25,8 +25,15 @@ pub fn all() -> Vec<Workload> {
     for (size, components) in [(256, 2), (1024, 8), (4096, 32)] {
         all.push(check(&format!("check, growth: {size} bytes"), inputs::sheet(size, components, 4), inputs::charter(4)));
     }
+    for posts in [4, 8, 16, 32] {
+        all.push(check(&format!("check, deep: {posts} paths of 8, 64 nodes"), inputs::deep_sheet(posts), inputs::deep_charter()));
+    }
     for (moves, idle, threads) in [(1024, 0, "few"), (1024, 60, "64"), (512, 60, "64"), (256, 60, "64")] {
-        all.push(play(&format!("play, {moves} moves, {threads} threads"), moves, idle));
+        let name = format!("play, {moves} moves, {threads} threads");
+        all.push(play(&name, inputs::running_sheet(idle), inputs::running_script(moves, idle)));
+    }
+    for size in [500, 1000, 2000, 4000] {
+        all.push(play(&format!("play, 126 moves, text: {size} bytes"), inputs::text_sheet(size), inputs::text_script(63)));
     }
     all
 }
@@ -35,13 +42,8 @@ fn check(name: &str, sheet: Vec<u8>, charter: Vec<u8>) -> Workload {
     Workload { name: name.to_string(), sheet, charter, script: None }
 }
 
-fn play(name: &str, moves: usize, idle: usize) -> Workload {
-    Workload {
-        name: name.to_string(),
-        sheet: inputs::running_sheet(idle),
-        charter: inputs::RUNNING_CHARTER.to_vec(),
-        script: Some(inputs::running_script(moves, idle)),
-    }
+fn play(name: &str, sheet: Vec<u8>, script: Vec<u8>) -> Workload {
+    Workload { name: name.to_string(), sheet, charter: inputs::RUNNING_CHARTER.to_vec(), script: Some(script) }
 }
 
 impl Workload {
