@@ -19,11 +19,11 @@ use policy::Node;
 use policy::Permissions;
 use policy::Span;
 use policy::Trees;
-use policy::nodes::byte_in;
 use policy::nodes::has_bit;
 use policy::nodes::node_at;
 use policy::nodes::word_in;
 use reading::Path;
+use reading::bytes::byte_in;
 use reading::paths;
 
 // The tree of a kind: its number, or the number of trees where there is none.

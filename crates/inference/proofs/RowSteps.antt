@@ -7,9 +7,10 @@ use mathlib.Core.Option.{some, none}
 use mathlib.Core.Path.{_≡_, refl, sym}
 use native.Mathlib.Omega.{arith}
 use borrow.Author.Tests.{lt-ltb, le-ltb}
-use lib.ListN.{length, take, getD, set, getElem?, length-take, List·getD-eq-default}
+use lib.ListN.{length, take, getD, set, getElem?, length-take}
 use lib.Seq.{set-out, getD-take}
 use Rattle.reading.proofs.Tests.{tests}
+use Rattle.reading.proofs.Tables.{unset, unread}
 use Rattle.reading.specs.Told.{pathOf}
 use Rattle.reading.specs.declared.Path.{Path}
 use Rattle.inference.specs.Rows.{bumped, chargeAt, cellOf, chargeCell, widenedAt, widened, charge}
@@ -36,12 +37,6 @@ module _ (l : List ℕ) (n i : ℕ) where
 
   pub past-scope : length l ≤ i → none ≡ getElem? (take n l) i
   past-scope h = elem-out (take n l) i (omega (arith, length-take n l))
-
-pub unset : (l : List ℕ) (i a : ℕ) → length l ≤ i → l ≡ set l i a
-unset l i a h = sym (set-out l i a h)
-
-pub unread : (l : List ℕ) (i : ℕ) → length l ≤ i → 0 ≡ getD l i 0
-unread l i h = sym (List·getD-eq-default l 0 h)
 
 -- One more.
 pub bump-repeated : (n : ℕ) (b : Bool) → b ≡ true → 65535 ≡ bumped n b

@@ -18,7 +18,7 @@ use Rattle.inference.specs.Lists.{gather}
 use Rattle.inference.specs.Interface.{Disclosure, isEmpty, bit, mapOf, disclosureBytes, listBytes, entryBytes, interfaceBytes}
 use Rattle.inference.specs.Rows.{pathAt, cellOf, cell, isSet, extentAt, disclosuresAt, entryAt, rowEntries, tableEntries}
 use Rattle.interface.specs.Writes.{storeBytes, Stored, groupBytes, entryBytesAt}
-use Rattle.inference.proofs.RowSteps.{unset}
+use Rattle.reading.proofs.Tables.{unset}
 use Rattle.interface.proofs.WriteLaws.{
   partsFrom,
   stored-none,

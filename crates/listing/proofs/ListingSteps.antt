@@ -7,7 +7,7 @@ use borrow.Author.Tests.{eq-eqb, ne-eqb, lt-ltb, le-ltb}
 use borrow.Author.Needs.{needs}
 use lib.ListN.{getD}
 use Rattle.interface.specs.Writes.{Stored}
-use Rattle.inference.proofs.RowSteps.{unset, unread}
+use Rattle.reading.proofs.Tables.{unset, unread}
 use Rattle.interface.proofs.InterfaceSteps.{put-is}
 use Rattle.interface.proofs.WriteLaws.{stored-none, stored-more, Writing, write-first, write-next, write-last}
 use Rattle.listing.specs.Text.{

@@ -3,7 +3,7 @@ ghost use mathlib.Core.Path.{_≡_};
 ghost use Prim.Native.Nat.{_≤_, _<_};
 ghost use lib.ListN.{length};
 ghost use Rattle.naming.specs.Names.{isLetter, lettersAt, same};
-use policy::nodes::byte_in;
+use reading::bytes::byte_in;
 
 // Is a byte a letter, A-Z or a-z?
 pub fn is_letter(b: usize) -> bool

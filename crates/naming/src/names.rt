@@ -8,9 +8,9 @@ ghost use Rattle.naming.specs.Names.{lettersAt, nameAt, namesAt, same, d
 ghost use Rattle.naming.specs.Told.{ends, after, wordsAt, namesAtPlaces};
 use crate::letters::letters_at;
 use crate::letters::same_at;
-use policy::nodes::byte_in;
 use reading::End;
 use reading::Refusal;
+use reading::bytes::byte_in;
 
 // A names file that breaks its rules.
 fn broken(at: usize) -> End

@@ -13,8 +13,8 @@ use crate::names::wide;
 use fit::Missing;
 use inference::rows::path_len;
 use interface::put;
-use policy::nodes::byte_in;
 use reading::Path;
+use reading::bytes::byte_in;
 
 // Stores bytes and answers the next place.
 fn put_text(text: &[u8], out: &mut [u8], at: usize) -> usize

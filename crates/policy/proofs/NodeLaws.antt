@@ -1,14 +1,13 @@
 -- Cells of a table and bytes of a policy: past their end 0 is read and nothing is stored, a row is five cells, and what is read
 -- from a row is within its range.
-use Prim.Native.Nat.{ℕ, _+_, _*_, _%_, _<_, _≤_}
+use Prim.Native.Nat.{ℕ, _+_, _*_, _%_, _<_}
 use mathlib.Core.List.{List}
-use mathlib.Core.Path.{_≡_, sym}
-use lib.ListN.{length, getD, set, List·getD-eq-default}
-use lib.Seq.{set-out}
+use mathlib.Core.Path.{_≡_}
+use lib.ListN.{getD, set}
 use lib.Dec.{lit<}
 use native.Mathlib.Nat.{mod-lt}
 use Rattle.reading.proofs.Tests.{tests}
-use Rattle.inference.proofs.RowSteps.{unread, unset}
+use Rattle.reading.proofs.Tables.{unread, unset}
 use Rattle.policy.specs.Rows.{nodeAt, withNode}
 use Rattle.policy.specs.declared.Node.{Node}
 

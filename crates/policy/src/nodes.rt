@@ -9,6 +9,7 @@ use crate::Node;
 use crate::Permissions;
 use crate::Span;
 use crate::Trees;
+use reading::bytes::byte_in;
 
 fn cell(nodes: &[usize], at: usize) -> usize
     ensures { λ r. ⌜ r ≡ getD (now (nodes .entry)) at 0 ⌝ }
@@ -54,20 +55,6 @@ pub fn store_node(nodes: &mut [usize], row: usize, node: Node)
     put(nodes, base + 2, permissions.list);
     put(nodes, base + 3, permissions.count);
     put(nodes, base + 4, node.depth);
-}
-
-fn wide(b: u8) -> usize
-    ensures { λ r. ⌜ (r ≡ b) × (r < 256) ⌝ }
-{
-    b as usize
-}
-
-// The byte at a place of a policy, 0 past its end.
-pub fn byte_in(c: &[u8], at: usize) -> usize
-    ensures { λ r. ⌜ r ≡ getD (now (c .entry)) at 0 ⌝ }
-    ensures { λ r. ⌜ r < 256 ⌝ }
-{
-    if at < c.len() { wide(c[at]) } else { 0 }
 }
 
 // The two-byte number at a place of a policy, the low byte first.

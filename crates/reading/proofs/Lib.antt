@@ -1,5 +1,6 @@
 -- Laws of the reader's definitions, and the lemmas that its functions' proofs share.
 pub mod Tests
+pub mod Tables
 pub mod Steps
 pub mod PathLaws
 pub mod FormSteps

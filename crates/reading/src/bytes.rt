@@ -1,5 +1,7 @@
-// Single bytes: the byte due at a place (question 2), and its range (question 4).
+// Single bytes: the byte at a place, the byte due there (question 2), and its range (question 4).
 ghost use mathlib.Core.Path.{_≡_};
+ghost use Prim.Native.Nat.{_<_};
+ghost use lib.ListN.{getD};
 ghost use Rattle.reading.specs.Read.{byteAt, below};
 ghost use Rattle.reading.specs.Told.{number, refusalOf};
 use crate::Number;
@@ -7,9 +9,17 @@ use crate::NumberRead;
 use crate::Refusal;
 
 fn wide(b: u8) -> usize
-    ensures { λ r. ⌜ r ≡ b ⌝ }
+    ensures { λ r. ⌜ (r ≡ b) × (r < 256) ⌝ }
 {
     b as usize
+}
+
+// The byte at a place, 0 past the end.
+pub fn byte_in(s: &[u8], at: usize) -> usize
+    ensures { λ r. ⌜ r ≡ getD (now (s .entry)) at 0 ⌝ }
+    ensures { λ r. ⌜ r < 256 ⌝ }
+{
+    if at < s.len() { wide(s[at]) } else { 0 }
 }
 
 // Question 2: the byte due at a place.

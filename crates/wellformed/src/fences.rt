@@ -8,9 +8,9 @@ ghost use Rattle.policy.specs.Rows.{nodeAt, itemsAt, flatOf, flats};
 ghost use Rattle.wellformed.specs.Rows.{headsIn, belowIn, keptIn, allKept, fenceOf, isMarked, allMarked, listedGroups};
 use policy::Permissions;
 use policy::Span;
-use policy::nodes::byte_in;
 use policy::nodes::has_bit;
 use policy::nodes::node_at;
+use reading::bytes::byte_in;
 
 // The groups of a node and of the nodes below it, marked by 1.
 fn marked(nodes: &[usize], row: usize, to: usize) -> [usize; 64]

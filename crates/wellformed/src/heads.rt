@@ -11,10 +11,10 @@ ghost use Rattle.wellformed.specs.Rows.{headsFault, sameAsLast};
 use policy::Node;
 use policy::Permissions;
 use policy::Span;
-use policy::nodes::byte_in;
 use policy::nodes::node_at;
 use policy::nodes::word_in;
 use reading::Path;
+use reading::bytes::byte_in;
 use reading::paths;
 
 // The same item at two places?

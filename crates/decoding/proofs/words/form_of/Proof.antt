@@ -1,0 +1,9 @@
+use Rattle.decoding.proofs.WordSteps.{word-steps}
+use borrow.Author.Needs.{needs}
+use Rattle.decoding.proofs.words.form_of.Statement.{statement}
+use Rattle.decoding.proofs.words.form_of.Tie as tie
+
+pub form-of-spec : {M : Type 1} → statement M
+form-of-spec =
+    tie.close
+    (tie.spec (λ c. search word-steps) (λ c. search word-steps) (λ c. search word-steps) (λ c. search word-steps) (λ c. search word-steps) (λ c. search word-steps) (λ c. search word-steps) (λ c. search word-steps))
