@@ -7,12 +7,12 @@ use mathlib.Core.Option.{Option, some}
 use mathlib.Core.Path.{_≡_, refl, sym, ap, _∙_}
 use native.Mathlib.Omega.{arith}
 use Rattle.reading.specs.Syntax.{Process, nil, par, new, input, output, repl}
+use Rattle.needs.specs.declared.Need.{Need}
 use Rattle.inference.proofs.CountLaws.{join-assoc, nothing-join, join-unlimited, unlimited-join}
 use Rattle.inference.specs.Acts.{Component, Act, typeOf, acts}
 use Rattle.inference.specs.Counts.{Count, fin, unlimited, _⊕_, repeatedly}
 use Rattle.inference.specs.Lists.{any}
 use Rattle.inference.specs.Needs.{needOf, needOn, disclosures, weigh, total, disclosed}
-use Rattle.inference.specs.declared.Need.{Need}
 
 -- Acts that follow one another.
 pub total-append : (w : Act → ℕ) (xs ys : List Act) → total w (xs ++ ys) ≡ total w xs ⊕ total w ys

@@ -1,64 +1,15 @@
--- Laws of what an act needs: the ranges of its kind and its group, and that a disclosed group is the channel's own. Who uses
--- `need` outside this crate cites these laws and does not look into its cases.
-use Prim.Native.Nat.{ℕ, _-_, _/_, _%_, _<_}
-use native.Mathlib.Omega.{arith}
-use mathlib.Core.Bool.{Bool, true, false, cond}
+-- Laws of what an act of a sheet needs: the ranges of its kind and its group, and that a disclosed group is in the path of a
+-- component whose act passes question 10.
+use Prim.Native.Nat.{ℕ}
+use mathlib.Core.Bool.{true}
 use mathlib.Core.Option.{Option, some, none}
 use mathlib.Core.Path.{_≡_, refl, sym, ap, _∙_}
-use lib.Dec.{ltb}
-use borrow.Author.Tests.{ltb-true}
 use Rattle.reading.specs.Forms.{member}
-use Rattle.reading.specs.Types.{shape}
-use Rattle.reading.specs.declared.Shape.{Shape}
-use Rattle.reading.specs.declared.Shape.the-variants.{Plain, Channel}
+use Rattle.needs.specs.declared.Need.the-variants.{Nothing, Disclose}
+use Rattle.needs.proofs.NeedLaws.{NeedRange, need-range, no-disclosure, need-group}
 use Rattle.inference.specs.Acts.{Act}
-use Rattle.inference.specs.Needs.{linkNeed, carriedNeed, channelNeed, need, needOn, needOf}
+use Rattle.inference.specs.Needs.{needOn, needOf}
 use Rattle.inference.specs.Typing.{ofShape, ofChannel, inPath}
-use Rattle.inference.specs.declared.Need.{Need}
-use Rattle.inference.specs.declared.Need.the-variants.{Nothing, Read, Write, Access, Disclose}
-
--- Kinds are below 16 and groups below 64.
-unfoldable pub NeedRange : Need → Type 0
-NeedRange Nothing = Unit {0}
-NeedRange (Read k) = k < 16
-NeedRange (Write k) = k < 16
-NeedRange (Access k) = k < 16
-NeedRange (Disclose k g) = (k < 16) × (g < 64)
-
-unfoldable ShapeRange : Shape → Type 0
-ShapeRange (Plain k) = k < 16
-ShapeRange (Channel g t) = g < 64
-
-shape-range : (t : ℕ) → ShapeRange (shape t)
-unfolding shape ShapeRange
-shape-range t = go (ltb t 16) refl
-  where
-    go : (b : Bool) → ltb t 16 ≡ b → ShapeRange (cond b (Plain t) (Channel ((t - 16) % 64) ((t - 16) / 64)))
-    go true e = ltb-true t 16 e
-    go false e = omega arith
-
-link-range : (sends : Bool) (g : ℕ) (s : Shape) → g < 64 → ShapeRange s → NeedRange (linkNeed sends g s)
-unfolding linkNeed NeedRange ShapeRange
-link-range false g (Plain t) h r = r
-link-range true g (Plain t) h r = (r, h)
-link-range false g (Channel k u) h r = tt
-link-range true g (Channel k u) h r = tt
-
-carried-range : (sends : Bool) (g : ℕ) (s : Shape) → g < 64 → ShapeRange s → NeedRange (carriedNeed sends g s)
-unfolding carriedNeed NeedRange ShapeRange
-carried-range false g (Plain t) h r = r
-carried-range true g (Plain t) h r = r
-carried-range false g (Channel k u) h r = link-range false g (shape u) h (shape-range u)
-carried-range true g (Channel k u) h r = link-range true g (shape u) h (shape-range u)
-
-channel-range : (sends : Bool) (s : Shape) → ShapeRange s → NeedRange (channelNeed sends s)
-unfolding channelNeed NeedRange ShapeRange
-channel-range sends (Plain t) r = tt
-channel-range sends (Channel g t) r = carried-range sends g (shape t) r (shape-range t)
-
-pub need-range : (sends : Bool) (t : ℕ) → NeedRange (need sends t)
-unfolding need
-need-range sends t = channel-range sends (shape t) (shape-range t)
 
 pub act-range : (a : Act) → NeedRange (needOf a)
 unfolding needOf
@@ -67,47 +18,6 @@ act-range a = go (a .channel)
     go : (o : Option ℕ) → NeedRange (needOn (a .sends) o)
     go none = unfold needOn NeedRange in tt
     go (some t) = unfold needOn in need-range (a .sends) t
-
--- A channel of group g.
-pub record OfGroup (g : ℕ) (s : Shape) : Type 0 where
-  pub carried : ℕ
-  pub channel : s ≡ Channel g carried
-
--- no other need discloses
-abbrev discloses : Need → ℕ
-discloses Nothing = 0
-discloses (Read k) = 0
-discloses (Write k) = 0
-discloses (Access k) = 0
-discloses (Disclose k g) = 1
-
-no-disclosure : {P : Type 0} {k g : ℕ} (n : Need) → discloses n ≡ 0 → n ≡ Disclose k g → P
-no-disclosure n z e = let w : discloses n ≡ 1 = ap discloses e in absurd (omega arith)
-
-link-group : (sends : Bool) (g : ℕ) (s : Shape) (k h : ℕ) → linkNeed sends g s ≡ Disclose k h → g ≡ h
-unfolding linkNeed
-link-group true g (Plain t) k h e = cc
-link-group false g (Plain t) k h e = no-disclosure (Access t) refl e
-link-group true g (Channel i u) k h e = no-disclosure Nothing refl e
-link-group false g (Channel i u) k h e = no-disclosure Nothing refl e
-
-carried-group : (sends : Bool) (g : ℕ) (s : Shape) (k h : ℕ) → carriedNeed sends g s ≡ Disclose k h → g ≡ h
-unfolding carriedNeed
-carried-group true g (Plain t) k h e = no-disclosure (Write t) refl e
-carried-group false g (Plain t) k h e = no-disclosure (Read t) refl e
-carried-group true g (Channel i u) k h e = link-group true g (shape u) k h e
-carried-group false g (Channel i u) k h e = link-group false g (shape u) k h e
-
-channel-group : (sends : Bool) (s : Shape) (k h : ℕ) → channelNeed sends s ≡ Disclose k h → OfGroup h s
-unfolding channelNeed
-channel-group sends (Plain t) k h e = no-disclosure Nothing refl e
-channel-group sends (Channel g t) k h e =
-    record { carried = t; channel = ap (λ (i : ℕ). Channel i t) (carried-group sends g (shape t) k h e) }
-
--- A disclosed group is the channel's own.
-pub need-group : (sends : Bool) (t k h : ℕ) → need sends t ≡ Disclose k h → OfGroup h (shape t)
-unfolding need
-need-group sends t k h e = channel-group sends (shape t) k h e
 
 -- An act that passes question 10 discloses into a group of its component's path.
 pub disclosed-in-path : (a : Act) (k h : ℕ) → needOf a ≡ Disclose k h → inPath a ≡ true → member h (a .component .path) ≡ true

@@ -1,5 +1,5 @@
--- What an act needs and the first question that it fails, by the shape of its channel's type: each lemma is one return of the
--- functions of needs, from the shape that was matched and the tests that were made.
+-- What an act needs where its channel's name may be out of scope, and the first question that it fails, by the shape of its
+-- channel's type: each lemma is one return of the functions of acts, from what was matched and the tests that were made.
 use Prim.Native.Nat.{ℕ}
 use mathlib.Core.Bool.{Bool, true, false}
 use mathlib.Core.List.{List}
@@ -11,51 +11,15 @@ use Rattle.reading.specs.Forms.{member}
 use Rattle.reading.specs.Types.{shape}
 use Rattle.reading.specs.declared.Shape.{Shape}
 use Rattle.reading.specs.declared.Shape.the-variants.{Plain, Channel}
-use Rattle.inference.specs.Needs.{need, channelNeed, linkNeed, carriedNeed, needOn}
+use Rattle.needs.specs.Needs.{need}
+use Rattle.needs.specs.declared.Need.{Need}
+use Rattle.needs.specs.declared.Need.the-variants as need-case
+use Rattle.inference.specs.Needs.{needOn}
 use Rattle.inference.specs.Told.{known}
 use Rattle.inference.specs.Typing.{isKnown, ofChannel, ofShape, isType}
 use Rattle.inference.specs.Walks.{fault}
 use Rattle.inference.specs.declared.Known.{Known}
 use Rattle.inference.specs.declared.Known.the-variants as known-case
-use Rattle.inference.specs.declared.Need.{Need}
-use Rattle.inference.specs.declared.Need.the-variants as need-case
-
-module _ (b : Bool) (g : ℕ) (s : Shape) where
-  pub link-sends : (k : ℕ) → s ≡ Plain k → b ≡ true → need-case.Disclose k g ≡ linkNeed b g s
-  unfolding linkNeed
-  link-sends k e h = rw (e, h)
-
-  pub link-receives : (k : ℕ) → s ≡ Plain k → b ≡ false → need-case.Access k ≡ linkNeed b g s
-  unfolding linkNeed
-  link-receives k e h = rw (e, h)
-
-  pub carried-sends : (k : ℕ) → s ≡ Plain k → b ≡ true → need-case.Write k ≡ carriedNeed b g s
-  unfolding carriedNeed
-  carried-sends k e h = rw (e, h)
-
-  pub carried-receives : (k : ℕ) → s ≡ Plain k → b ≡ false → need-case.Read k ≡ carriedNeed b g s
-  unfolding carriedNeed
-  carried-receives k e h = rw (e, h)
-
-pub link-deeper : (b : Bool) (g : ℕ) (s : Shape) (h u : ℕ) → s ≡ Channel h u → need-case.Nothing ≡ linkNeed b g s
-unfolding linkNeed
-link-deeper true g s h u e = rw e
-link-deeper false g s h u e = rw e
-
-pub carried-deeper : {y : Need} (b : Bool) (g : ℕ) (s : Shape) (h u : ℕ) (r : Shape) → s ≡ Channel h u → r ≡ shape u → y ≡ linkNeed b g r
-    → y ≡ carriedNeed b g s
-unfolding carriedNeed
-carried-deeper true g s h u r e f p = rw (e, ← f) p
-carried-deeper false g s h u r e f p = rw (e, ← f) p
-
-module _ (b : Bool) (t : ℕ) (s : Shape) (q : s ≡ shape t) where
-  pub no-channel : (k : ℕ) → s ≡ Plain k → need-case.Nothing ≡ need b t
-  unfolding need channelNeed
-  no-channel k e = rw (← q, e)
-
-  pub on-channel : {y : Need} (g u : ℕ) (r : Shape) → s ≡ Channel g u → r ≡ shape u → y ≡ carriedNeed b g r → y ≡ need b t
-  unfolding need channelNeed
-  on-channel g u r e f p = rw (← q, e, ← f) p
 
 module _ (b : Bool) (k : Known) where
   pub known-need : {y : Need} (t : ℕ) → k ≡ known-case.Type t → y ≡ need b t → y ≡ needOn b (known k)
@@ -98,14 +62,6 @@ module _ (k o : Known) (path : List ℕ) where
 
 pub ruleset need-steps = (
   tests,
-  link-sends,
-  link-receives,
-  link-deeper,
-  carried-sends,
-  carried-receives,
-  carried-deeper,
-  no-channel,
-  on-channel,
   known-need,
   unknown-need,
   fails-eight,

@@ -13,9 +13,9 @@ use Rattle.reading.proofs.Tests.{tests}
 use Rattle.reading.proofs.Tables.{unset, unread}
 use Rattle.reading.specs.Told.{pathOf}
 use Rattle.reading.specs.declared.Path.{Path}
+use Rattle.needs.specs.declared.Need.{Need}
+use Rattle.needs.specs.declared.Need.the-variants as need-case
 use Rattle.inference.specs.Rows.{bumped, chargeAt, cellOf, chargeCell, widenedAt, widened, charge}
-use Rattle.inference.specs.declared.Need.{Need}
-use Rattle.inference.specs.declared.Need.the-variants as need-case
 
 -- What stands at a place of a list, and that nothing stands past its end.
 pub elem-in : (l : List ℕ) (i : ℕ) → i < length l → some (getD l i 0) ≡ getElem? l i

@@ -22,6 +22,7 @@ use Rattle.reading.specs.declared.FormRead.the-variants as form-read
 use Rattle.reading.specs.declared.OwnFields.{OwnFields}
 use Rattle.reading.specs.declared.Place.{Place}
 use Rattle.reading.specs.declared.Refusal.{Refusal}
+use Rattle.needs.specs.declared.Need.{Need}
 use Rattle.inference.proofs.WalkLaws.{worst-append, charged-append, some-type, scope-bound, kept-below, min-cong}
 use Rattle.inference.specs.Acts.{Component, Act, typeOf, acts}
 use Rattle.inference.specs.Needs.{needOn, needOf}
@@ -29,7 +30,6 @@ use Rattle.inference.specs.Rows.{charge}
 use Rattle.inference.specs.Told.{known}
 use Rattle.inference.specs.Walks.{fault, faultOf, worst, charged, binds, Inferred}
 use Rattle.inference.specs.declared.Known.{Known}
-use Rattle.inference.specs.declared.Need.{Need}
 use Rattle.inference.specs.declared.Walk.{Walk}
 
 -- A walk over a tree found that tree's acts.

@@ -1,5 +1,5 @@
--- What the contracts of typing and inference cite: a component's path and number, questions 7 to 10, "What an act needs", and
--- the interface.
+-- What the contracts of typing and inference cite: a component's path and number, questions 7 to 10, what acts need
+-- together, and the interface.
 pub mod Lists
 pub mod Counts
 pub mod Acts

@@ -1,39 +1,15 @@
--- "What an act needs" (document 01), and what a list of acts needs together.
+-- What an act of a sheet needs, by "What an act needs" (document 01; `need` of the crate needs), and what a list of acts needs
+-- together.
 use Prim.Native.Nat.{ℕ}
 use mathlib.Core.List.{List, [], _∷_}
 use mathlib.Core.Bool.{Bool, true, false, cond, _&&_}
 use mathlib.Core.Option.{Option, some, none}
 use lib.Dec.{eqb}
-use Rattle.reading.specs.Types.{shape}
-use Rattle.reading.specs.declared.Shape.{Shape}
-use Rattle.reading.specs.declared.Shape.the-variants.{Plain, Channel}
-use Rattle.inference.specs.declared.Need.{Need}
-use Rattle.inference.specs.declared.Need.the-variants.{Nothing, Read, Write, Access, Disclose}
-use Rattle.inference.specs.Lists.{any}
+use Rattle.needs.specs.Needs.{need}
+use Rattle.needs.specs.declared.Need.{Need}
+use Rattle.needs.specs.declared.Need.the-variants.{Nothing, Read, Write, Access, Disclose}
 use Rattle.inference.specs.Counts.{Count, fin, _⊕_, repeatedly}
 use Rattle.inference.specs.Acts.{Act}
-
--- An act on G[H[T]]: "access of t" and "disclose G, once" if T is plain t; "otherwise nothing".
-unfoldable pub linkNeed : Bool → ℕ → Shape → Need
-linkNeed false g (Plain t) = Access t
-linkNeed true g (Plain t) = Disclose t g
-linkNeed false g (Channel h u) = Nothing
-linkNeed true g (Channel h u) = Nothing
-
--- An act on G[T]: "read of t" and "write of t" if T is plain t.
-unfoldable pub carriedNeed : Bool → ℕ → Shape → Need
-carriedNeed false g (Plain t) = Read t
-carriedNeed true g (Plain t) = Write t
-carriedNeed false g (Channel h u) = linkNeed false g (shape u)
-carriedNeed true g (Channel h u) = linkNeed true g (shape u)
-
-unfoldable pub channelNeed : Bool → Shape → Need
-channelNeed sends (Plain t) = Nothing
-channelNeed sends (Channel g t) = carriedNeed sends g (shape t)
-
--- The permission that a send (true) or a receive (false) on a channel of type t needs.
-unfoldable pub need : Bool → ℕ → Need
-need sends t = channelNeed sends (shape t)
 
 -- An act whose channel is not in scope, or is no channel, needs nothing; such an act fails 7 or 8, and is an error by itself.
 unfoldable pub needOn : Bool → Option ℕ → Need

@@ -5,8 +5,8 @@ use mathlib.Core.List.{List, [], _∷_, map}
 use mathlib.Core.Bool.{Bool, true, false, cond, not, _&&_}
 use lib.ListN.{length, getD, set, take, drop}
 use lib.Dec.{ltb, eqb}
-use Rattle.inference.specs.declared.Need.{Need}
-use Rattle.inference.specs.declared.Need.the-variants.{Nothing, Read, Write, Access, Disclose}
+use Rattle.needs.specs.declared.Need.{Need}
+use Rattle.needs.specs.declared.Need.the-variants.{Nothing, Read, Write, Access, Disclose}
 use Rattle.inference.specs.Lists.{only, gather, rising}
 use Rattle.inference.specs.Counts.{Count, fin, unlimited, isZero}
 use Rattle.inference.specs.Interface.{Disclosure, Entry, holdsAny, Required}

@@ -1,7 +1,7 @@
 // Typing and inference over encoded systems: questions 7 to 10, what each act needs, and the permission interface.
 // One walk over the sheet finds the first question that fails and fills a table: for each component a row of its path and of
 // the counts of what it needs.
-pub mod needs;
+pub mod acts;
 pub mod rows;
 pub mod scope;
 pub mod sheet;
@@ -9,15 +9,6 @@ pub mod systems;
 pub mod walks;
 
 use reading::Path;
-
-// The permission that an act needs, for data of a base type (document 01: kind).
-pub enum Need {
-    Nothing,
-    Read(usize),
-    Write(usize),
-    Access(usize),
-    Disclose { kind: usize, group: usize },
-}
 
 // The type of a name, if the name is in scope.
 pub enum Known {

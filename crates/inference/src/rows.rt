@@ -16,7 +16,7 @@ ghost use Rattle.inference.specs.Rows.{
   widenedAt,
   withPath,
 };
-use crate::Need;
+use needs::Need;
 use reading::Path;
 
 // One more, or unlimited under a repeat.

@@ -11,8 +11,8 @@ use lib.ListN.{length, getD, set, length-set}
 use lib.Seq.{getD-set-same, getD-set-other}
 use lib.Dec.{ltb, eqb}
 use borrow.Author.Tests.{lt-ltb, eq-eqb, ne-eqb, ltb-true, ltb-false}
-use Rattle.inference.specs.declared.Need.{Need}
-use Rattle.inference.specs.declared.Need.the-variants.{Nothing, Read, Write, Access, Disclose}
+use Rattle.needs.specs.declared.Need.{Need}
+use Rattle.needs.specs.declared.Need.the-variants.{Nothing, Read, Write, Access, Disclose}
 use Rattle.inference.specs.Counts.{Count, fin, unlimited, _⊕_, repeatedly, countNumber}
 use Rattle.inference.specs.Acts.{Act}
 use Rattle.inference.specs.Needs.{needOf, weigh, total}

@@ -9,8 +9,9 @@ use native.Mathlib.Omega.{arith}
 use lib.ListN.{length}
 use lib.Dec.{eqb}
 use borrow.Author.Tests.{eq-eqb, ne-eqb}
-use Rattle.inference.specs.declared.Need.{Need}
-use Rattle.inference.specs.declared.Need.the-variants.{Nothing, Read, Write, Access, Disclose}
+use Rattle.needs.specs.declared.Need.{Need}
+use Rattle.needs.specs.declared.Need.the-variants.{Nothing, Read, Write, Access, Disclose}
+use Rattle.needs.proofs.NeedLaws.{NeedRange}
 use Rattle.inference.specs.Lists.{any, only, rising}
 use Rattle.inference.specs.Counts.{Count, fin, unlimited, _⊕_, repeatedly, countNumber, isZero}
 use Rattle.inference.specs.Acts.{Act, Component}
@@ -18,7 +19,7 @@ use Rattle.inference.specs.Needs.{needOf, isRead, isWrite, isAccess, disclosure
 use Rattle.inference.specs.Interface.{disclosuresOf, entryOf, holdsAny}
 use Rattle.inference.specs.Rows.{cell, countOf, isSet, extentAt, disclosuresAt, entryAt, pathAt, stored, rowEntries}
 use Rattle.inference.proofs.CountLaws.{join-comm}
-use Rattle.inference.proofs.NeedLaws.{NeedRange, act-range}
+use Rattle.inference.proofs.NeedLaws.{act-range}
 use Rattle.interface.proofs.CellLaws.{landsIn, lands, lands-off-column, lands-few, Few, few-weigh}
 
 -- which needs land in which column

@@ -22,12 +22,12 @@ use Rattle.reading.proofs.Parts.{never, parts}
 use Rattle.reading.proofs.ReadLaws.{system-local}
 use Rattle.reading.proofs.Local.{place-after}
 use Rattle.reading.proofs.TreeLaws.{SheetParts}
+use Rattle.needs.specs.declared.Need.{Need}
+use Rattle.needs.specs.declared.Need.the-variants.{Nothing, Read as Reading, Write, Access, Disclose}
 use Rattle.inference.specs.Lists.{only, gather, rising}
 use Rattle.inference.specs.Counts.{Count, _⊕_, repeatedly, isZero}
 use Rattle.inference.specs.Acts.{Act, Component as Owner, componentAt, Located, acts, actsOf, locate, located}
 use Rattle.inference.specs.Needs.{needOf, disclosures, weigh, total, disclosed}
-use Rattle.inference.specs.declared.Need.{Need}
-use Rattle.inference.specs.declared.Need.the-variants.{Nothing, Read as Reading, Write, Access, Disclose}
 use Rattle.inference.specs.Interface.{Entry, disclosuresOf, entryOf, holdsAny, entriesOf, interface, entryBytes, interfaceBytes}
 use Rattle.inference.proofs.CountLaws.{nothing-join}
 use Rattle.interface.proofs.TableLaws.{AllStorable, store-none, store-more}

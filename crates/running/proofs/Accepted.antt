@@ -8,16 +8,17 @@ use mathlib.Core.Path.{_≡_, refl, ap}
 use lib.Dec.{eqb}
 use borrow.Author.Tests.{eqb-true, eqb-false, eq-eqb, le-leb}
 use Rattle.reading.specs.Read.{Read, got, refused}
+use Rattle.needs.specs.declared.Need.{Need}
+use Rattle.needs.specs.declared.Need.the-variants.{Nothing, Read as Reads, Write as Writes, Access as Accesses, Disclose as Discloses}
+use Rattle.needs.proofs.NeedLaws.{NeedRange}
 use Rattle.inference.specs.Lists.{every, any, only, gather, rising}
 use Rattle.inference.specs.Counts.{Count, fin, unlimited, _⊕_, atMost, isZero, repeatedly}
 use Rattle.inference.specs.Acts.{Act, Located, located, actsOf, sheetActs}
 use Rattle.inference.specs.Typing.{inScope, onChannel, carriesObject, inPath}
 use Rattle.inference.specs.Needs.{needOf, isRead, isWrite, isAccess, disclosures, weigh, total, disclosed}
-use Rattle.inference.specs.declared.Need.{Need}
-use Rattle.inference.specs.declared.Need.the-variants.{Nothing, Read as Reads, Write as Writes, Access as Accesses, Disclose as Discloses}
 use Rattle.inference.specs.Interface.{Disclosure, Permission, reading, writing, accessing, disclosing, disclosuresOf, entryOf, isEmpty, holdsAny, entriesOf, interface, flagged, permissions, Required, requiredOf, needed}
 use Rattle.inference.proofs.CountLaws.{join-comm, at-most-self, at-most-trans, at-most-joined}
-use Rattle.inference.proofs.NeedLaws.{NeedRange, act-range}
+use Rattle.inference.proofs.NeedLaws.{act-range}
 use Rattle.inference.proofs.RequiredLaws.{needed-acts}
 use Rattle.policy.specs.Syntax.{Tree}
 use Rattle.fit.specs.Grants.{flagGranted, countGranted}

@@ -9,13 +9,13 @@ use mathlib.Core.Path.{_≡_, refl, sym, ap, _∙_}
 use lib.ListN.{length, getElem?, replicate, length-append, length-replicate}
 use Rattle.reading.proofs.TotalLaws.{both-left}
 use Rattle.reading.specs.Syntax.{Process, nil, par, new, input, output, repl, Sheet}
+use Rattle.needs.specs.declared.Need.{Need}
 use Rattle.inference.specs.Lists.{every, any, only}
 use Rattle.inference.specs.Counts.{Count, fin, unlimited, _⊕_, atMost, repeatedly}
 use Rattle.inference.specs.Acts.{Component, Act, sheetActs}
 use Rattle.inference.proofs.RowSteps.{elem-in}
 use Rattle.inference.specs.Typing.{isKnown, inScope, onChannel, carriesObject, inPath}
 use Rattle.inference.specs.Needs.{needOf, isRead, isWrite, isAccess, disclosures, weigh, total, disclosed}
-use Rattle.inference.specs.declared.Need.{Need}
 use Rattle.inference.proofs.CountLaws.{join-comm, nothing-join, at-most-trans, at-most-joined}
 use Rattle.policy.specs.Syntax.{Tree}
 use Rattle.running.specs.State.{State}

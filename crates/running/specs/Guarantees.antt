@@ -7,13 +7,13 @@ use mathlib.Core.Option.{Option, some, none}
 use lib.ListN.{length, getElem?}
 use lib.Dec.{eqb}
 use Rattle.reading.specs.Syntax.{Process, nil, par, new, input, output, repl, Sheet}
+use Rattle.needs.specs.declared.Need.{Need}
+use Rattle.needs.specs.declared.Need.the-variants.{Nothing, Read, Write, Access, Disclose}
 use Rattle.inference.specs.Lists.{every, any, only, gather}
 use Rattle.inference.specs.Counts.{Count, fin, unlimited, _⊕_, atMost}
 use Rattle.inference.specs.Acts.{Component, Located, located, Act, acts, sheetActs}
 use Rattle.inference.specs.Typing.{isKnown, inScope, onChannel, carriesObject, inPath}
 use Rattle.inference.specs.Needs.{needOf, isRead, isWrite, isAccess, disclosures, disclosed}
-use Rattle.inference.specs.declared.Need.{Need}
-use Rattle.inference.specs.declared.Need.the-variants.{Nothing, Read, Write, Access, Disclose}
 use Rattle.policy.specs.Syntax.{Tree}
 use Rattle.fit.specs.Grants.{flagGranted, countGranted}
 use Rattle.running.specs.State.{Thread, State}

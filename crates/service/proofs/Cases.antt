@@ -4,9 +4,8 @@ use mathlib.Core.List.{List, [], _∷_, map}
 use mathlib.Core.Path.{_≡_, refl}
 use mathlib.Core.Bool.{true, false}
 use Rattle.reading.specs.Types.{channel}
-use Rattle.inference.specs.declared.Need.{Need}
-use Rattle.inference.specs.declared.Need.the-variants.{Nothing, Read, Write, Access, Disclose}
-use Rattle.inference.specs.Needs.{need}
+use Rattle.needs.specs.declared.Need.the-variants.{Nothing, Read, Write, Access, Disclose}
+use Rattle.needs.specs.Needs.{need}
 use Rattle.service.specs.Questions.{passed, failed}
 use Rattle.service.specs.Check.{checked}
 use Rattle.service.proofs.Table.{w, w-charter}

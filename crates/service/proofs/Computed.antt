@@ -9,11 +9,12 @@ use Rattle.reading.specs.Types.{channel, shape, groupsThenKindIn, typeAtIn}
 use Rattle.reading.specs.Syntax.{components}
 use Rattle.reading.specs.Forms.{member, limited, newFormIn, inputFormIn, outputForm, freshGroupIn, groupFormIn, componentFormIn, processFormIn, processAtIn, systemFormIn, systemAtIn}
 use Rattle.reading.specs.System.{processFrom, readProcessIn, component, systemFrom, readSystemIn, freeTypesIn, headerIn, toItsEnd, readSheetIn, sheetOfIn}
+use Rattle.needs.proofs.Computed.{need-computed}
 use Rattle.inference.specs.Lists.{every, any, only, gather, rising}
 use Rattle.inference.specs.Counts.{_⊕_, atMost, isZero, repeatedly, countNumber}
 use Rattle.inference.specs.Acts.{componentAt, typeOf, locate, located, acts, actsOf, sheetActs}
 use Rattle.inference.specs.Typing.{isKnown, ofShape, ofChannel, isType, inScope, onChannel, carriesObject, inPath}
-use Rattle.inference.specs.Needs.{linkNeed, carriedNeed, channelNeed, need, needOn, needOf, isRead, isWrite, isAccess, disclosures, weigh, total, disclosed}
+use Rattle.inference.specs.Needs.{needOn, needOf, isRead, isWrite, isAccess, disclosures, weigh, total, disclosed}
 use Rattle.inference.specs.Interface.{disclosuresOf, entryOf, isEmpty, holdsAny, entriesOf, interface, flagged, permissions, requiredOf, countIn, needed, bit, mapOf, disclosureBytes, listBytes, entryBytes, interfaceBytes}
 use Rattle.policy.specs.Syntax.{hasBit, alone, headsOf, heads}
 use Rattle.policy.specs.Reading.{asEleven, must, twoBytes, isCount, itemAt, readList, countedList, readPermissions, children, readNode, readTrees, readPolicy}
@@ -24,7 +25,7 @@ use Rattle.service.specs.Questions.{passed, failed, ask, afterReading, t
 use Rattle.service.specs.Check.{Outcome, fitting, interfaceFor, written, checked}
 
 unfoldable pub computed : Unit {0}
-unfolding groupsIn kindsIn andThen byteAt below channel shape groupsThenKindIn typeAtIn components member limited newFormIn inputFormIn outputForm freshGroupIn groupFormIn componentFormIn processFormIn processAtIn systemFormIn systemAtIn processFrom readProcessIn component systemFrom readSystemIn freeTypesIn headerIn toItsEnd readSheetIn sheetOfIn every any only gather rising _⊕_ atMost isZero repeatedly countNumber componentAt typeOf locate located acts actsOf sheetActs isKnown ofShape ofChannel isType inScope onChannel carriesObject inPath linkNeed carriedNeed channelNeed need needOn needOf isRead isWrite isAccess disclosures weigh total disclosed disclosuresOf entryOf isEmpty holdsAny entriesOf interface flagged permissions requiredOf countIn needed bit mapOf disclosureBytes listBytes entryBytes interfaceBytes hasBit alone headsOf heads asEleven must twoBytes isCount itemAt readList countedList readPermissions children readNode readTrees readPolicy distinct kindsDistinct sameList samePermissions agree metFrom metIn isNew isSame faultOf nodeFault firstFault nodesFault disclosedTo groupsAt keepsWithin allKeep fenced reachedAmong reached treeFor reachedIn reachedFor givenBy flagGranted storedCount listed joined countGranted isTree hasTree pathReached grantsOne covered ask afterReading typed wellFormed satisfied judgedFrom judged fitting interfaceFor written checked
+unfolding groupsIn kindsIn andThen byteAt below channel shape groupsThenKindIn typeAtIn components member limited newFormIn inputFormIn outputForm freshGroupIn groupFormIn componentFormIn processFormIn processAtIn systemFormIn systemAtIn processFrom readProcessIn component systemFrom readSystemIn freeTypesIn headerIn toItsEnd readSheetIn sheetOfIn every any only gather rising _⊕_ atMost isZero repeatedly countNumber componentAt typeOf locate located acts actsOf sheetActs isKnown ofShape ofChannel isType inScope onChannel carriesObject inPath need-computed needOn needOf isRead isWrite isAccess disclosures weigh total disclosed disclosuresOf entryOf isEmpty holdsAny entriesOf interface flagged permissions requiredOf countIn needed bit mapOf disclosureBytes listBytes entryBytes interfaceBytes hasBit alone headsOf heads asEleven must twoBytes isCount itemAt readList countedList readPermissions children readNode readTrees readPolicy distinct kindsDistinct sameList samePermissions agree metFrom metIn isNew isSame faultOf nodeFault firstFault nodesFault disclosedTo groupsAt keepsWithin allKeep fenced reachedAmong reached treeFor reachedIn reachedFor givenBy flagGranted storedCount listed joined countGranted isTree hasTree pathReached grantsOne covered ask afterReading typed wellFormed satisfied judgedFrom judged fitting interfaceFor written checked
 computed = tt
 
 -- What a row wants: the bytes written, or the number of the question that fails.

@@ -1,8 +1,8 @@
 -- Questions 7 to 10 of one act: an unknown name fails question 7, else the typed questions answer.
 use Rattle.inference.proofs.NeedSteps.{need-steps}
 use borrow.Author.Needs.{needs}
-use Rattle.inference.proofs.needs.fault_of.Statement.{statement}
-use Rattle.inference.proofs.needs.fault_of.Tie as tie
+use Rattle.inference.proofs.acts.fault_of.Statement.{statement}
+use Rattle.inference.proofs.acts.fault_of.Tie as tie
 
 pub fault-of-spec : {M : Type 1} → statement M
 fault-of-spec =

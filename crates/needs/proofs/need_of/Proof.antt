@@ -1,8 +1,8 @@
 -- What an act on a type needs: the shape of the type, then that of what it carries.
-use Rattle.inference.proofs.NeedSteps.{need-steps}
+use Rattle.needs.proofs.NeedSteps.{need-steps}
 use borrow.Author.Needs.{needs}
-use Rattle.inference.proofs.needs.need_of.Statement.{statement}
-use Rattle.inference.proofs.needs.need_of.Tie as tie
+use Rattle.needs.proofs.need_of.Statement.{statement}
+use Rattle.needs.proofs.need_of.Tie as tie
 
 pub need-of-spec : {M : Type 1} → statement M
 need-of-spec =

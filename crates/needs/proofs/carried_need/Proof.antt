@@ -1,8 +1,8 @@
 -- What an act on a channel needs, by the shape of what the channel carries.
-use Rattle.inference.proofs.NeedSteps.{need-steps}
+use Rattle.needs.proofs.NeedSteps.{need-steps}
 use borrow.Author.Needs.{needs}
-use Rattle.inference.proofs.needs.carried_need.Statement.{statement}
-use Rattle.inference.proofs.needs.carried_need.Tie as tie
+use Rattle.needs.proofs.carried_need.Statement.{statement}
+use Rattle.needs.proofs.carried_need.Tie as tie
 
 pub carried-need-spec : {M : Type 1} → statement M
 carried-need-spec =

@@ -1,8 +1,8 @@
 -- What an act on a channel of channels needs: each return follows from the shape that was matched and from whether the act sends.
-use Rattle.inference.proofs.NeedSteps.{need-steps}
+use Rattle.needs.proofs.NeedSteps.{need-steps}
 use borrow.Author.Needs.{needs}
-use Rattle.inference.proofs.needs.link_need.Statement.{statement}
-use Rattle.inference.proofs.needs.link_need.Tie as tie
+use Rattle.needs.proofs.link_need.Statement.{statement}
+use Rattle.needs.proofs.link_need.Tie as tie
 
 pub link-need-spec : {M : Type 1} → statement M
 link-need-spec = tie.close (tie.spec (λ c. search needs) (λ c. search needs) (λ c. search need-steps) (λ c. search need-steps) (λ c. search need-steps))

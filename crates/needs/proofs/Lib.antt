@@ -1,0 +1,4 @@
+-- The lemmas that the proofs of the functions share, laws of the definition, and what worked cases compute it with.
+pub mod NeedSteps
+pub mod NeedLaws
+pub mod Computed

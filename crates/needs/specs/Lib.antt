@@ -1,0 +1,2 @@
+-- What the contracts of this crate cite: "What an act needs" (document 01).
+pub mod Needs
