@@ -9,7 +9,7 @@ use borrow.Author.Tests.{ltb-true, ltb-false}
 use lib.Dec.{ltb}
 use lib.ListN.{length, take, drop, set, replicate, length-append, length-take}
 use lib.Seq.{length-take-le, take-take, take-at, drop-at, take-add, set-comm}
-use Rattle.reading.specs.Total.{processTree}
+use Rattle.decoding.specs.Tables.{processIn}
 use Rattle.inference.specs.Lists.{gather}
 use Rattle.inference.specs.Acts.{Component}
 use Rattle.running.specs.State.{Thread, State}
@@ -21,7 +21,6 @@ use Rattle.memory.specs.declared.Thread.{Thread as Place}
 use Rattle.memory.proofs.ThreadLaws.{replaced-length}
 use Rattle.memory.proofs.ChainLaws.{chain-kept, chain-bound, bound-kept, bound-length}
 use Rattle.products.specs.declared.Sizes.{Sizes}
-use Rattle.products.specs.declared.Made.{Made}
 use Rattle.products.specs.Pairs.{Pairs, none}
 use Rattle.products.specs.Held.{Runs, Holds}
 use Rattle.products.specs.Makes.{Ready, Makes, crowd}
@@ -30,7 +29,7 @@ use Rattle.products.proofs.GrowLaws.{shorter, all-kept, crowd-counts}
 use Rattle.continuations.specs.declared.Exchange.{Exchange}
 use Rattle.continuations.specs.declared.Placed.{Placed}
 use Rattle.continuations.specs.Places.{Ranged, remainingAt, roomFor}
-use Rattle.continuations.specs.Exchanges.{boundRemaining, exchanged, bothReplaced, swapped, PutsBoth, Exchanges}
+use Rattle.continuations.specs.Exchanges.{exchanged, bothReplaced, swapped, PutsBoth, Exchanges}
 use Rattle.continuations.proofs.RoomLaws.{few-threads, few-names}
 use Rattle.continuations.proofs.PlaceLaws.{pairs-replaced, leb-cong, quiet-take}
 
@@ -113,16 +112,16 @@ module _ {R : ℕ → Thread → Type 0} (m k : ℕ) (made : List ℕ) (ps qs : 
       rw (take-add m k made, drop-at (take m made) (take k (drop m made)) m long, drop-at ps qs m same) at part
 
 -- The products of both continuations, put in the places of the two threads.
-module _ (s : List ℕ) (x : Exchange) (z : Sizes) (turns : ℕ) (threads threads′ made made₁ made′ types types₁ types′ cells cells₁ cells′ : List ℕ)
-    (known : List Bool) (state : State) (c d : Component) (first second : Made) (r : Placed) where
+module _ (forms : List ℕ) (x : Exchange) (z : Sizes) (turns : ℕ) (threads threads′ made made₁ made′ types types₁ types′ cells cells₁ cells′ : List ℕ)
+    (known : List Bool) (state : State) (c d : Component) (first second : Sizes) (r : Placed) where
   abbrev before : Sizes
   before = record { threads = 0; names = z .names; cells = z .cells }
 
   abbrev cell : ℕ
-  cell = first .sizes .cells
+  cell = first .cells
 
   abbrev begun : Sizes
-  begun = record { threads = first .sizes .threads; names = first .sizes .names; cells = cell + 1 }
+  begun = record { threads = first .threads; names = first .names; cells = cell + 1 }
 
   abbrev place : Place
   place = record { component = x .theirs .component; env = cell; names = x .theirs .names + 1; nest = x .theirs .nest; at = x .theirs .at }
@@ -131,25 +130,25 @@ module _ (s : List ℕ) (x : Exchange) (z : Sizes) (turns : ℕ) (threads thread
   widened = bound cells₁ cell (x .theirs .env) (x .sent)
 
   abbrev mine : List Thread
-  mine = threadsOf c (chain cells (x .mine .names) (x .mine .env)) (length (state .types)) (remainingAt s (x .mine))
+  mine = threadsOf c (chain cells (x .mine .names) (x .mine .env)) (length (state .types)) (remainingAt forms (x .mine))
 
   abbrev theirs : List Thread
   theirs =
       threadsOf d (chain cells (x .theirs .names) (x .theirs .env) ++ (x .sent ∷ []))
-      (length (state .types) + length (news (remainingAt s (x .mine)))) (boundRemaining s (x .theirs))
+      (length (state .types) + length (news (remainingAt forms (x .mine)))) (remainingAt forms (x .theirs))
 
   module _ (few : turns ≤ 1275) (known-room : length known ≡ 1024) (number-mine : c .number ≡ x .mine .component) (number-theirs : d .number ≡ x .theirs .component)
-      (fits-mine : Ranged (x .mine) (z .cells)) (fits-theirs : Ranged (x .theirs) (z .cells)) (binds : x .theirs .names < 64) (small : x .sent < 65536)
+      (fits-mine : Ranged (x .mine) (z .cells)) (fits-theirs : Ranged (x .theirs) (z .cells)) (binds : x .theirs .names + x .theirs .nest < 128) (small : x .sent < 65536)
       (apart : x .sender ≡ x .receiver → ⊥) (sender : x .sender < z .threads) (receiver : x .receiver < z .threads)
       (threads-room : length threads ≡ 128) (made-room : length made ≡ 128) (types-room : length types ≡ 1024) (cells-room : length cells ≡ 2304)
       (same-made : length made₁ ≡ length made) (same-types : length types₁ ≡ length types) (same-cells : length cells₁ ≡ length cells)
-      (holds : Holds s z turns threads types known cells state) where
-    ready-mine : Ready s (x .mine) before made types cells
+      (holds : Holds forms z turns threads types known cells state) where
+    ready-mine : Ready (x .mine) before made types cells
     ready-mine = record {
-      short = holds .short;
       component = fits-mine .component;
-      names = fits-mine .names;
-      nest = fits-mine .nest;
+      scope = fits-mine .scope;
+      deep = fits-mine .deep;
+      place = fits-mine .place;
       env = fits-mine .env;
       few = omega arith;
       given = omega (arith, holds .given);
@@ -166,16 +165,16 @@ module _ (s : List ℕ) (x : Exchange) (z : Sizes) (turns : ℕ) (threads thread
     counted = sym (pairs-length (holds .threads)) ∙ length-take-le (z .threads) threads (omega (arith, holds .few))
 
     -- After the sender's walk.
-    module _ (m : Makes s (x .mine) (processTree (x .mine .nest) s (x .mine .names) (x .mine .at)) before made made₁ types types₁ cells cells₁ first) where
+    module _ (m : Makes forms (x .mine) (processIn (x .mine .nest) forms (x .mine .at)) before made made₁ types types₁ cells cells₁ first) where
       cell-left : cell ≤ 2300
       cell-left = omega (arith, m .grows .slack, m .grows .names, holds .slack)
 
-      ready-theirs : Ready s place begun made₁ types₁ widened
+      ready-theirs : Ready place begun made₁ types₁ widened
       ready-theirs = record {
-        short = holds .short;
         component = fits-theirs .component;
-        names = omega arith;
-        nest = fits-theirs .nest;
+        scope = omega arith;
+        deep = fits-theirs .deep;
+        place = fits-theirs .place;
         env = omega arith;
         few = omega (arith, m .grows .threads);
         given = omega (arith, m .grows .names);
@@ -196,30 +195,30 @@ module _ (s : List ℕ) (x : Exchange) (z : Sizes) (turns : ℕ) (threads thread
           (chain-kept cells₁ cells (z .cells) (x .theirs .names) (x .theirs .env) (m .grows .kept) (fits-theirs .env))
 
       -- After the receiver's.
-      module _ (n : Makes s place (processTree (place .nest) s (place .names) (place .at)) begun made₁ made′ types₁ types′ widened cells′ second) where
-        mine-first : first .sizes .threads ≤ second .sizes .threads
+      module _ (n : Makes forms place (processIn (place .nest) forms (place .at)) begun made₁ made′ types₁ types′ widened cells′ second) where
+        mine-first : first .threads ≤ second .threads
         mine-first = omega (arith, m .grows .threads, n .grows .threads)
 
         all-cells-kept : take (z .cells) cells′ ≡ take (z .cells) cells
         all-cells-kept = shorter (z .cells) (cell + 1) cells′ widened (omega (arith, m .grows .cells)) (n .grows .kept) ∙ cells-kept
 
-        module _ (p : PutsBoth z x (record { mine = first .sizes .threads; sizes = second .sizes }) made′ threads threads′ r) where
-          crowd-mine : length mine ≡ crowd (remainingAt s (x .mine))
-          crowd-mine = crowd-counts c (chain cells (x .mine .names) (x .mine .env)) (length (state .types)) (remainingAt s (x .mine))
+        module _ (p : PutsBoth z x (record { mine = first .threads; sizes = second }) made′ threads threads′ r) where
+          crowd-mine : length mine ≡ crowd (remainingAt forms (x .mine))
+          crowd-mine = crowd-counts c (chain cells (x .mine .names) (x .mine .env)) (length (state .types)) (remainingAt forms (x .mine))
 
-          crowd-theirs : length theirs ≡ crowd (boundRemaining s (x .theirs))
+          crowd-theirs : length theirs ≡ crowd (remainingAt forms (x .theirs))
           crowd-theirs =
               crowd-counts d (chain cells (x .theirs .names) (x .theirs .env) ++ (x .sent ∷ []))
-              (length (state .types) + length (news (remainingAt s (x .mine)))) (boundRemaining s (x .theirs))
+              (length (state .types) + length (news (remainingAt forms (x .mine)))) (remainingAt forms (x .theirs))
 
           abbrev new : List ℕ
-          new = news (remainingAt s (x .mine)) ++ news (boundRemaining s (x .theirs))
+          new = news (remainingAt forms (x .mine)) ++ news (remainingAt forms (x .theirs))
 
           joined : join (set (set (singles (state .threads)) (x .sender) mine) (x .receiver) theirs) ≡ swapped (state .threads) (x .sender) (x .receiver) mine theirs
           joined = join-swapped (state .threads) (x .sender) (x .receiver) mine theirs (omega (arith, counted)) (omega (arith, counted)) apart
 
           all-threads : length (join (set (set (singles (state .threads)) (x .sender) mine) (x .receiver) theirs))
-              ≡ z .threads - 2 + (crowd (remainingAt s (x .mine)) + crowd (boundRemaining s (x .theirs)))
+              ≡ z .threads - 2 + (crowd (remainingAt forms (x .mine)) + crowd (remainingAt forms (x .theirs)))
           all-threads =
               omega (
                 arith,
@@ -230,90 +229,89 @@ module _ (s : List ℕ) (x : Exchange) (z : Sizes) (turns : ℕ) (threads thread
                 counted,
               )
 
-          new-length : length new ≡ length (news (remainingAt s (x .mine))) + length (news (boundRemaining s (x .theirs)))
-          new-length = length-append (news (remainingAt s (x .mine))) (news (boundRemaining s (x .theirs)))
+          new-length : length new ≡ length (news (remainingAt forms (x .mine))) + length (news (remainingAt forms (x .theirs)))
+          new-length = length-append (news (remainingAt forms (x .mine))) (news (remainingAt forms (x .theirs)))
 
-          all-names : length (state .types ++ new) ≡ z .names + (length (news (remainingAt s (x .mine))) + length (news (boundRemaining s (x .theirs))))
+          all-names : length (state .types ++ new) ≡ z .names + (length (news (remainingAt forms (x .mine))) + length (news (remainingAt forms (x .theirs))))
           all-names = omega (arith, length-append (state .types) new, new-length, named)
 
-          threads-grown : second .sizes .threads ≡ min 65 (crowd (remainingAt s (x .mine)) + crowd (boundRemaining s (x .theirs)))
-          unfolding remainingAt boundRemaining
+          threads-grown : second .threads ≡ min 65 (crowd (remainingAt forms (x .mine)) + crowd (remainingAt forms (x .theirs)))
+          unfolding remainingAt
           threads-grown = omega (arith, m .grows .threads, n .grows .threads)
 
-          names-grown : second .sizes .names ≡ min 1025 (z .names + (length (news (remainingAt s (x .mine))) + length (news (boundRemaining s (x .theirs)))))
-          unfolding remainingAt boundRemaining
+          names-grown : second .names ≡ min 1025 (z .names + (length (news (remainingAt forms (x .mine))) + length (news (remainingAt forms (x .theirs)))))
+          unfolding remainingAt
           names-grown = omega (arith, m .grows .names, n .grows .names)
 
-          room-same : r .fits ≡ hasRoom (exchanged s x cells state c d)
+          room-same : r .fits ≡ hasRoom (exchanged forms x cells state c d)
           unfolding hasRoom exchanged after roomFor
           room-same =
               p .fits ∙ ap₂ (λ a b. a && b)
-              (leb-cong (z .threads - 2 + second .sizes .threads) (length (join (set (set (singles (state .threads)) (x .sender) mine) (x .receiver) theirs))) 64
+              (leb-cong (z .threads - 2 + second .threads) (length (join (set (set (singles (state .threads)) (x .sender) mine) (x .receiver) theirs))) 64
               (λ h. omega (arith, threads-grown, all-threads)) (λ h. omega (arith, threads-grown, all-threads)))
-              (leb-cong (second .sizes .names) (length (state .types ++ new)) 1024
+              (leb-cong (second .names) (length (state .types ++ new)) 1024
               (λ h. omega (arith, names-grown, all-names)) (λ h. omega (arith, names-grown, all-names)))
 
           abbrev fitted : Sizes
-          fitted = record { threads = z .threads - 2 + second .sizes .threads; names = second .sizes .names; cells = second .sizes .cells }
+          fitted = record { threads = z .threads - 2 + second .threads; names = second .names; cells = second .cells }
 
           module _ (yes : r .fits ≡ true) where
-            few-made : z .threads - 2 + second .sizes .threads ≤ 64
-            few-made = few-threads (z .threads - 2) (second .sizes) (sym (p .fits) ∙ yes)
+            few-made : z .threads - 2 + second .threads ≤ 64
+            few-made = few-threads (z .threads - 2) (second) (sym (p .fits) ∙ yes)
 
-            few-given : second .sizes .names ≤ 1024
-            few-given = few-names (z .threads - 2) (second .sizes) (sym (p .fits) ∙ yes)
+            few-given : second .names ≤ 1024
+            few-given = few-names (z .threads - 2) (second) (sym (p .fits) ∙ yes)
 
-            few-first : first .sizes .threads ≤ 64
+            few-first : first .threads ≤ 64
             few-first = omega (arith, few-made, mine-first)
 
-            given-first : first .sizes .names ≤ 1024
+            given-first : first .names ≤ 1024
             given-first = omega (arith, few-given, m .grows .names, n .grows .names)
 
-            count-mine : length mine ≡ first .sizes .threads
+            count-mine : length mine ≡ first .threads
             unfolding remainingAt
             count-mine = omega (arith, crowd-mine, m .grows .threads, few-first)
 
-            names-mine : first .sizes .names ≡ length (state .types) + length (news (remainingAt s (x .mine)))
+            names-mine : first .names ≡ length (state .types) + length (news (remainingAt forms (x .mine)))
             unfolding remainingAt
             names-mine = omega (arith, m .grows .names, given-first, named)
 
-            new-names : second .sizes .names ≡ z .names + length new
+            new-names : second .names ≡ z .names + length new
             new-names = omega (arith, names-grown, new-length, few-given)
 
-            made-mine : Pairs (Runs s widened (cell + 1)) (take (first .sizes .threads) made₁) mine
+            made-mine : Pairs (Runs forms widened (cell + 1)) (take (first .threads) made₁) mine
             unfolding remainingAt
             made-mine =
                 let made-threads = m .products few-first given-first c number-mine [] none in
-                let mine-are : Pairs (Runs s cells₁ cell) (take (first .sizes .threads) made₁) mine = rw (← named) at made-threads in
-                all-kept s cells₁ widened cell (cell + 1) (bound-kept cells₁ cell cell (x .theirs .env) (x .sent) (omega arith)) (omega arith) mine-are
+                let mine-are : Pairs (Runs forms cells₁ cell) (take (first .threads) made₁) mine = rw (← named) at made-threads in
+                all-kept forms cells₁ widened cell (cell + 1) (bound-kept cells₁ cell cell (x .theirs .env) (x .sent) (omega arith)) (omega arith) mine-are
 
-            made-both : Pairs (Runs s cells′ (second .sizes .cells)) (take (first .sizes .threads + (second .sizes .threads - first .sizes .threads)) made′) (mine ++ theirs)
-            unfolding boundRemaining
+            made-both : Pairs (Runs forms cells′ (second .cells)) (take (first .threads + (second .threads - first .threads)) made′) (mine ++ theirs)
+            unfolding remainingAt
             made-both =
-                let all : first .sizes .threads + (second .sizes .threads - first .sizes .threads) ≡ second .sizes .threads = omega (arith, mine-first) in
+                let all : first .threads + (second .threads - first .threads) ≡ second .threads = omega (arith, mine-first) in
                 let both = n .products (omega (arith, few-made)) few-given d number-theirs mine made-mine in
-                let both-are : Pairs (Runs s cells′ (second .sizes .cells)) (take (second .sizes .threads) made′) (mine ++ theirs) = rw (names-theirs, names-mine) at both in
+                let both-are : Pairs (Runs forms cells′ (second .cells)) (take (second .threads) made′) (mine ++ theirs) = rw (names-theirs, names-mine) at both in
                 rw all both-are
 
-            threads-held : Pairs (Runs s cells′ (second .sizes .cells)) (take (z .threads - 2 + second .sizes .threads) threads′)
+            threads-held : Pairs (Runs forms cells′ (second .cells)) (take (z .threads - 2 + second .threads) threads′)
                 (swapped (state .threads) (x .sender) (x .receiver) mine theirs)
             threads-held =
-                let stay = all-kept s cells cells′ (z .cells) (second .sizes .cells) all-cells-kept (omega (arith, m .grows .cells, n .grows .cells)) (holds .threads) in
+                let stay = all-kept forms cells cells′ (z .cells) (second .cells) all-cells-kept (omega (arith, m .grows .cells, n .grows .cells)) (holds .threads) in
                 rw (p .placed yes) (pairs-swapped (x .sender) (x .receiver) stay
-                (pairs-first (first .sizes .threads) (second .sizes .threads - first .sizes .threads) made′ mine theirs made-both count-mine)
-                (pairs-second (first .sizes .threads) (second .sizes .threads - first .sizes .threads) made′ mine theirs made-both count-mine))
+                (pairs-first (first .threads) (second .threads - first .threads) made′ mine theirs made-both count-mine)
+                (pairs-second (first .threads) (second .threads - first .threads) made′ mine theirs made-both count-mine))
 
-            types-held : take (second .sizes .names) types′ ≡ state .types ++ new
-            unfolding remainingAt boundRemaining
+            types-held : take (second .names) types′ ≡ state .types ++ new
+            unfolding remainingAt
             types-held =
                 n .given few-given
-                ∙ ap (λ l. l ++ news (boundRemaining s (x .theirs))) (m .given given-first ∙ ap (λ l. l ++ news (remainingAt s (x .mine))) (holds .types))
-                ∙ append-assoc (state .types) (news (remainingAt s (x .mine))) (news (boundRemaining s (x .theirs)))
+                ∙ ap (λ l. l ++ news (remainingAt forms (x .theirs))) (m .given given-first ∙ ap (λ l. l ++ news (remainingAt forms (x .mine))) (holds .types))
+                ∙ append-assoc (state .types) (news (remainingAt forms (x .mine))) (news (remainingAt forms (x .theirs)))
 
-            holds-fitted : Holds s fitted (turns + 1) threads′ types′ known cells′ (exchanged s x cells state c d)
+            holds-fitted : Holds forms fitted (turns + 1) threads′ types′ known cells′ (exchanged forms x cells state c d)
             unfolding exchanged after
             holds-fitted = record {
-              short = holds .short;
               few = few-made;
               given = few-given;
               slack = omega (arith, m .grows .slack, n .grows .slack, holds .slack);
@@ -326,19 +324,18 @@ module _ (s : List ℕ) (x : Exchange) (z : Sizes) (turns : ℕ) (threads thread
               quiet = λ i h. holds .quiet i (omega (arith, new-names));
             }
 
-          holds-kept : r .fits ≡ false → Holds s z turns threads′ types′ known cells′ state
+          holds-kept : r .fits ≡ false → Holds forms z turns threads′ types′ known cells′ state
           holds-kept full = record {
-            short = holds .short;
             few = holds .few;
             given = holds .given;
             slack = holds .slack;
-            threads = rw (p .kept full .1) (all-kept s cells cells′ (z .cells) (z .cells) all-cells-kept (omega arith) (holds .threads));
-            types = shorter (z .names) (first .sizes .names) types′ types₁ (omega (arith, m .grows .names, holds .given)) (n .before) ∙ m .before ∙ holds .types;
+            threads = rw (p .kept full .1) (all-kept forms cells cells′ (z .cells) (z .cells) all-cells-kept (omega arith) (holds .threads));
+            types = shorter (z .names) (first .names) types′ types₁ (omega (arith, m .grows .names, holds .given)) (n .before) ∙ m .before ∙ holds .types;
             known = holds .known;
             quiet = holds .quiet;
           }
 
-          exchanges : Exchanges s x z turns threads′ types′ known cells cells′ state c d r
+          exchanges : Exchanges forms x z turns threads′ types′ known cells cells′ state c d r
           exchanges = record {
             fits = room-same;
             taken = λ yes. rw (p .sizes yes) (holds-fitted yes);
@@ -346,12 +343,12 @@ module _ (s : List ℕ) (x : Exchange) (z : Sizes) (turns : ℕ) (threads thread
           }
 
     -- One walk after the other, and what they made put in its places.
-    pub communicates : (Ready s (x .mine) before made types cells
-        → Makes s (x .mine) (processTree (x .mine .nest) s (x .mine .names) (x .mine .at)) before made made₁ types types₁ cells cells₁ first)
-        → (cell ≤ 2300 → Ready s place begun made₁ types₁ widened
-        → Makes s place (processTree (place .nest) s (place .names) (place .at)) begun made₁ made′ types₁ types′ widened cells′ second)
-        → (first .sizes .threads ≤ second .sizes .threads → PutsBoth z x (record { mine = first .sizes .threads; sizes = second .sizes }) made′ threads threads′ r)
-        → Exchanges s x z turns threads′ types′ known cells cells′ state c d r
+    pub communicates : (Ready (x .mine) before made types cells
+        → Makes forms (x .mine) (processIn (x .mine .nest) forms (x .mine .at)) before made made₁ types types₁ cells cells₁ first)
+        → (cell ≤ 2300 → Ready place begun made₁ types₁ widened
+        → Makes forms place (processIn (place .nest) forms (place .at)) begun made₁ made′ types₁ types′ widened cells′ second)
+        → (first .threads ≤ second .threads → PutsBoth z x (record { mine = first .threads; sizes = second }) made′ threads threads′ r)
+        → Exchanges forms x z turns threads′ types′ known cells cells′ state c d r
     communicates walk-mine walk-theirs put =
         let m = walk-mine ready-mine in
         let n = walk-theirs (cell-left m) (ready-theirs m) in

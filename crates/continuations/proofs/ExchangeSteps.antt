@@ -7,14 +7,13 @@ use native.Mathlib.Omega.{arith}
 use borrow.Author.Needs.{needs}
 use borrow.Author.Tests.{lt-ltb, le-ltb, not-true, not-false}
 use lib.ListN.{length, take, drop}
-use Rattle.reading.specs.Total.{processTree}
+use Rattle.decoding.specs.Tables.{processIn}
 use Rattle.inference.specs.Acts.{Component}
 use Rattle.running.specs.State.{State}
 use Rattle.memory.specs.Threads.{replaced}
 use Rattle.memory.specs.Chains.{bound}
 use Rattle.memory.specs.declared.Thread.{Thread as Place}
 use Rattle.products.specs.declared.Sizes.{Sizes}
-use Rattle.products.specs.declared.Made.{Made}
 use Rattle.products.specs.Held.{Holds}
 use Rattle.products.specs.Makes.{Ready, Makes}
 use Rattle.continuations.specs.declared.BothMade.{BothMade}
@@ -27,21 +26,21 @@ use Rattle.continuations.proofs.ExchangeLaws.{communicates}
 use Rattle.continuations.proofs.WidenSteps.{under-more, cells-more}
 
 -- What each walk makes.
-pub walk-theirs : (s : List ℕ) (t inner : Place) (sent : ℕ) (z begun : Sizes) (made made′ types types′ cells cells₁ cells′ : List ℕ) (r : Made)
+pub walk-theirs : (forms : List ℕ) (t inner : Place) (sent : ℕ) (z begun : Sizes) (made made′ types types′ cells cells₁ cells′ : List ℕ) (r : Sizes)
     → inner ≡ underCell t (z .cells) → begun ≡ withCell z → cells₁ ≡ bound cells (z .cells) (t .env) sent
-    → (Ready s inner begun made types cells₁ → Makes s inner (processTree (inner .nest) s (inner .names) (inner .at)) begun made made′ types types′ cells₁ cells′ r)
-    → Walks s (underCell t (z .cells)) (withCell z) made made′ types types′ (bound cells (z .cells) (t .env) sent) cells′ r
+    → (Ready inner begun made types cells₁ → Makes forms inner (processIn (inner .nest) forms (inner .at)) begun made made′ types types′ cells₁ cells′ r)
+    → Walks forms (underCell t (z .cells)) (withCell z) made made′ types types′ (bound cells (z .cells) (t .env) sent) cells′ r
 unfolding Walks
-walk-theirs s t inner sent z begun made made′ types types′ cells cells₁ cells′ r e f g m = rw (e, f, g) at m
+walk-theirs forms t inner sent z begun made made′ types types′ cells cells₁ cells′ r e f g m = rw (e, f, g) at m
 
-pub both-made : (s : List ℕ) (x : Exchange) (z : Sizes) (made made₁ made′ types types₁ types′ cells cells₁ cells′ : List ℕ) (first second : Made)
+pub both-made : (forms : List ℕ) (x : Exchange) (z : Sizes) (made made₁ made′ types types₁ types′ cells cells₁ cells′ : List ℕ) (first second : Sizes)
     → length made₁ ≡ length made → length types₁ ≡ length types → length cells₁ ≡ length cells
-    → (Ready s (x .mine) z made types cells → Makes s (x .mine) (processTree (x .mine .nest) s (x .mine .names) (x .mine .at)) z made made₁ types types₁ cells cells₁ first)
-    → Walks s (underCell (x .theirs) (first .sizes .cells)) (withCell (first .sizes)) made₁ made′ types₁ types′
-    (bound cells₁ (first .sizes .cells) (x .theirs .env) (x .sent)) cells′ second
-    → MakesBoth s x z made made′ types types′ cells cells′ (record { mine = first .sizes .threads; sizes = second .sizes })
+    → (Ready (x .mine) z made types cells → Makes forms (x .mine) (processIn (x .mine .nest) forms (x .mine .at)) z made made₁ types types₁ cells cells₁ first)
+    → Walks forms (underCell (x .theirs) (first .cells)) (withCell (first)) made₁ made′ types₁ types′
+    (bound cells₁ (first .cells) (x .theirs .env) (x .sent)) cells′ second
+    → MakesBoth forms x z made made′ types types′ cells cells′ (record { mine = first .threads; sizes = second })
 unfolding Walks
-both-made s x z made made₁ made′ types types₁ types′ cells cells₁ cells′ first second a b c m n = record {
+both-made forms x z made made₁ made′ types types₁ types′ cells cells₁ cells′ first second a b c m n = record {
   first = first;
   second = second;
   made₁ = made₁;
@@ -132,30 +131,30 @@ room-true kept z q e h = sym e ∙ not-false q h
 pub ruleset put-both-steps = (needs, put-two-taken, put-same, put-short, put-refused, put-done)
 
 -- What both continuations make, put in its places, is the communication.
-module _ (s : List ℕ) (x : Exchange) (z : Sizes) (threads threads′ made made′ types types′ cells cells′ : List ℕ) (b : BothMade) (r : Placed) where
+module _ (forms : List ℕ) (x : Exchange) (z : Sizes) (threads threads′ made made′ types types′ cells cells′ : List ℕ) (b : BothMade) (r : Placed) where
   abbrev before : Sizes
   before = record { threads = 0; names = z .names; cells = z .cells }
 
   met : x .sender < z .threads → x .receiver < z .threads → length threads ≡ 128 → length made ≡ 128 → length types ≡ 1024 → length cells ≡ 2304
-      → MakesBoth s x before made made′ types types′ cells cells′ b
+      → MakesBoth forms x before made made′ types types′ cells cells′ b
       → ((x .sender ≡ x .receiver → ⊥) → b .mine ≤ b .sizes .threads → PutsBoth z x b made′ threads threads′ r)
       → (state : State) (c d : Component) (turns : ℕ) (known : List Bool) → turns ≤ 1275 → length known ≡ 1024 → c .number ≡ x .mine .component → d .number ≡ x .theirs .component
-      → Ranged (x .mine) (z .cells) → Ranged (x .theirs) (z .cells) → x .theirs .names < 64 → x .sent < 65536 → (x .sender ≡ x .receiver → ⊥)
-      → Holds s z turns threads types known cells state → Exchanges s x z turns threads′ types′ known cells cells′ state c d r
+      → Ranged (x .mine) (z .cells) → Ranged (x .theirs) (z .cells) → x .theirs .names + x .theirs .nest < 128 → x .sent < 65536 → (x .sender ≡ x .receiver → ⊥)
+      → Holds forms z turns threads types known cells state → Exchanges forms x z turns threads′ types′ known cells cells′ state c d r
   unfolding Walks
   met si ri tr mr yr cr mk p state c d turns known few kr cn dn ft fu binds small apart holds =
       let walk = mk .theirs in
       let put = rw (mk .result) at p in
-      communicates s x z turns threads threads′ made (mk .made₁) made′ types (mk .types₁) types′ cells (mk .cells₁) cells′ known state c d (mk .first) (mk .second) r
+      communicates forms x z turns threads threads′ made (mk .made₁) made′ types (mk .types₁) types′ cells (mk .cells₁) cells′ known state c d (mk .first) (mk .second) r
       few kr cn dn ft fu binds small apart si ri tr mr yr cr (mk .same-made) (mk .same-types) (mk .same-cells) holds
       (mk .mine)
-      (λ left. rw (← under-more (x .theirs) (mk .first .sizes .cells) (omega arith), ← cells-more (mk .first .sizes) (omega (arith, left))) at walk)
+      (λ left. rw (← under-more (x .theirs) (mk .first .cells) (omega arith), ← cells-more (mk .first) (omega (arith, left))) at walk)
       (put apart)
 
   pub exchange-step : (z₀ : Sizes) → x .sender < z .threads → x .receiver < z .threads
       → Tables z threads made types cells
-      → z₀ ≡ before → MakesBoth s x z₀ made made′ types types′ cells cells′ b
+      → z₀ ≡ before → MakesBoth forms x z₀ made made′ types types′ cells cells′ b
       → ((x .sender ≡ x .receiver → ⊥) → b .mine ≤ b .sizes .threads → PutsBoth z x b made′ threads threads′ r)
-      → Exchanging s x z threads types cells threads′ types′ cells′ r
+      → Exchanging forms x z threads types cells threads′ types′ cells′ r
   exchange-step z₀ si ri tables e mk p =
       met si ri (tables .thread-room) (tables .made-room) (tables .type-room) (tables .cell-room) (rw e at mk) p

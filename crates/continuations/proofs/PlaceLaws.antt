@@ -9,7 +9,7 @@ use borrow.Author.Tests.{leb-true, leb-false}
 use lib.Dec.{leb}
 use lib.ListN.{length, getD, take, replicate, length-append}
 use lib.Seq.{length-take-le}
-use Rattle.reading.specs.Total.{processTree}
+use Rattle.decoding.specs.Tables.{processIn}
 use Rattle.inference.specs.Acts.{Component}
 use Rattle.running.specs.State.{Thread, State}
 use Rattle.running.specs.Products.{news, threadsOf}
@@ -19,7 +19,6 @@ use Rattle.memory.specs.Chains.{chain}
 use Rattle.memory.specs.declared.Thread.{Thread as Place}
 use Rattle.memory.proofs.ThreadLaws.{replaced-length}
 use Rattle.products.specs.declared.Sizes.{Sizes}
-use Rattle.products.specs.declared.Made.{Made}
 use Rattle.products.specs.Pairs.{Pairs, none}
 use Rattle.products.specs.Held.{Runs, Holds}
 use Rattle.products.specs.Makes.{Ready, Makes, crowd}
@@ -59,24 +58,24 @@ quiet-take (x ∷ known) (suc n) j h q =
     ap (λ k. take k (x ∷ known)) (suc-add n j) ∙ ap (λ l. x ∷ l) (quiet-take known n j (omega arith) (λ i k. q (suc i) (omega arith)))
 
 -- The products of a process, put in the place of threads.
-module _ (s : List ℕ) (process : Place) (at from : ℕ) (z : Sizes) (turns : ℕ) (threads threads′ made made′ types types′ cells cells′ : List ℕ)
-    (known : List Bool) (state : State) (c : Component) (products : Made) (r : Placed) where
+module _ (forms : List ℕ) (process : Place) (at from : ℕ) (z : Sizes) (turns : ℕ) (threads threads′ made made′ types types′ cells cells′ : List ℕ)
+    (known : List Bool) (state : State) (c : Component) (products : Sizes) (r : Placed) where
   abbrev before : Sizes
   before = record { threads = 0; names = z .names; cells = z .cells }
 
   abbrev mine : List Thread
-  mine = threadsOf c (chain cells (process .names) (process .env)) (length (state .types)) (remainingAt s process)
+  mine = threadsOf c (chain cells (process .names) (process .env)) (length (state .types)) (remainingAt forms process)
 
   module _ (few : turns ≤ 1276) (known-room : length known ≡ 1024) (number : c .number ≡ process .component) (fits : Ranged process (z .cells))
       (made-room : length made ≡ 128) (types-room : length types ≡ 1024) (cells-room : length cells ≡ 2304)
       (ordered : at ≤ from) (inside : from ≤ z .threads) (threads-room : length threads ≡ 128)
-      (holds : Holds s z turns threads types known cells state) where
-    pub process-ready : Ready s process before made types cells
+      (holds : Holds forms z turns threads types known cells state) where
+    pub process-ready : Ready process before made types cells
     process-ready = record {
-      short = holds .short;
       component = fits .component;
-      names = fits .names;
-      nest = fits .nest;
+      scope = fits .scope;
+      deep = fits .deep;
+      place = fits .place;
       env = fits .env;
       few = omega arith;
       given = omega (arith, holds .given);
@@ -92,75 +91,73 @@ module _ (s : List ℕ) (process : Place) (at from : ℕ) (z : Sizes) (turns : �
     pub counted : length (state .threads) ≡ z .threads
     counted = sym (pairs-length (holds .threads)) ∙ length-take-le (z .threads) threads (omega (arith, holds .few))
 
-    module _ (m : Makes s process (processTree (process .nest) s (process .names) (process .at)) before made made′ types types′ cells cells′ products)
-        (p : Puts z at from (products .sizes) made′ threads threads′ r) where
-      all-threads : length (replaced (state .threads) at from mine) ≡ at + (z .threads - from) + crowd (remainingAt s process)
+    module _ (m : Makes forms process (processIn (process .nest) forms (process .at)) before made made′ types types′ cells cells′ products)
+        (p : Puts z at from (products) made′ threads threads′ r) where
+      all-threads : length (replaced (state .threads) at from mine) ≡ at + (z .threads - from) + crowd (remainingAt forms process)
       all-threads =
           omega (
             arith,
             replaced-length (state .threads) at from mine (omega (arith, counted)) (omega (arith, counted)),
-            crowd-counts c (chain cells (process .names) (process .env)) (length (state .types)) (remainingAt s process),
+            crowd-counts c (chain cells (process .names) (process .env)) (length (state .types)) (remainingAt forms process),
             counted,
           )
 
-      all-names : length (state .types ++ news (remainingAt s process)) ≡ z .names + length (news (remainingAt s process))
-      all-names = omega (arith, length-append (state .types) (news (remainingAt s process)), named)
+      all-names : length (state .types ++ news (remainingAt forms process)) ≡ z .names + length (news (remainingAt forms process))
+      all-names = omega (arith, length-append (state .types) (news (remainingAt forms process)), named)
 
-      room-same : r .fits ≡ hasRoom (put s process at from cells state c)
+      room-same : r .fits ≡ hasRoom (put forms process at from cells state c)
       unfolding hasRoom put changed remainingAt roomFor
       room-same =
           p .fits ∙ ap₂ (λ a b. a && b)
-          (leb-cong (at + (z .threads - from) + products .sizes .threads) (length (replaced (state .threads) at from mine)) 64
+          (leb-cong (at + (z .threads - from) + products .threads) (length (replaced (state .threads) at from mine)) 64
           (λ h. omega (arith, m .grows .threads, all-threads)) (λ h. omega (arith, m .grows .threads, all-threads)))
-          (leb-cong (products .sizes .names) (length (state .types ++ news (remainingAt s process))) 1024
+          (leb-cong (products .names) (length (state .types ++ news (remainingAt forms process))) 1024
           (λ h. omega (arith, m .grows .names, all-names)) (λ h. omega (arith, m .grows .names, all-names)))
 
       abbrev fitted : Sizes
-      fitted = record { threads = at + (z .threads - from) + products .sizes .threads; names = products .sizes .names; cells = products .sizes .cells }
+      fitted = record { threads = at + (z .threads - from) + products .threads; names = products .names; cells = products .cells }
 
       module _ (yes : r .fits ≡ true) where
-        few-made : at + (z .threads - from) + products .sizes .threads ≤ 64
-        few-made = few-threads (at + (z .threads - from)) (products .sizes) (sym (p .fits) ∙ yes)
+        few-made : at + (z .threads - from) + products .threads ≤ 64
+        few-made = few-threads (at + (z .threads - from)) (products) (sym (p .fits) ∙ yes)
 
-        few-given : products .sizes .names ≤ 1024
-        few-given = few-names (at + (z .threads - from)) (products .sizes) (sym (p .fits) ∙ yes)
+        few-given : products .names ≤ 1024
+        few-given = few-names (at + (z .threads - from)) (products) (sym (p .fits) ∙ yes)
 
-        new-names : products .sizes .names ≡ z .names + length (news (remainingAt s process))
+        new-names : products .names ≡ z .names + length (news (remainingAt forms process))
         unfolding remainingAt
         new-names = omega (arith, m .grows .names, few-given)
 
-        holds-fitted : Holds s fitted turns threads′ types′ known cells′ (put s process at from cells state c)
+        holds-fitted : Holds forms fitted turns threads′ types′ known cells′ (put forms process at from cells state c)
         unfolding put changed remainingAt
         holds-fitted = record {
-          short = holds .short;
           few = few-made;
           given = few-given;
           slack = omega (arith, m .grows .slack, holds .slack);
           threads =
               let made-threads = m .products (omega (arith, few-made)) few-given c number [] none in
-              let mine-are : Pairs (Runs s cells′ (products .sizes .cells)) (take (products .sizes .threads) made′) mine = rw (← named) at made-threads in
-              rw (p .placed yes) (pairs-replaced at from (all-kept s cells cells′ (z .cells) (products .sizes .cells) (m .grows .kept) (m .grows .cells) (holds .threads)) mine-are);
-          types = m .given few-given ∙ ap (λ l. l ++ news (remainingAt s process)) (holds .types);
+              let mine-are : Pairs (Runs forms cells′ (products .cells)) (take (products .threads) made′) mine = rw (← named) at made-threads in
+              rw (p .placed yes) (pairs-replaced at from (all-kept forms cells cells′ (z .cells) (products .cells) (m .grows .kept) (m .grows .cells) (holds .threads)) mine-are);
+          types = m .given few-given ∙ ap (λ l. l ++ news (remainingAt forms process)) (holds .types);
           known =
               ap (λ k. take k known) new-names
-              ∙ quiet-take known (z .names) (length (news (remainingAt s process))) (omega (arith, few-given, new-names)) (holds .quiet)
-              ∙ ap (λ l. l ++ replicate (length (news (remainingAt s process))) false) (holds .known);
+              ∙ quiet-take known (z .names) (length (news (remainingAt forms process))) (omega (arith, few-given, new-names)) (holds .quiet)
+              ∙ ap (λ l. l ++ replicate (length (news (remainingAt forms process))) false) (holds .known);
           quiet = λ i h. holds .quiet i (omega (arith, new-names));
         }
 
-      holds-kept : r .fits ≡ false → Holds s z turns threads′ types′ known cells′ state
+      holds-kept : r .fits ≡ false → Holds forms z turns threads′ types′ known cells′ state
       holds-kept full = record {
-        short = holds .short;
         few = holds .few;
         given = holds .given;
         slack = holds .slack;
-        threads = rw (p .kept full .1) (all-kept s cells cells′ (z .cells) (z .cells) (m .grows .kept) (omega arith) (holds .threads));
+        threads = rw (p .kept full .1) (all-kept forms cells cells′ (z .cells) (z .cells) (m .grows .kept) (omega arith) (holds .threads));
         types = m .before ∙ holds .types;
         known = holds .known;
         quiet = holds .quiet;
       }
 
-      pub replaces : Replaces s process at from z turns threads′ types′ known cells cells′ state c r
+      pub replaces : Replaces forms process at from z turns threads′ types′ known cells cells′ state c r
       replaces = record {
         fits = room-same;
         taken = λ yes. rw (p .sizes yes) (holds-fitted yes);

@@ -7,11 +7,10 @@ use native.Mathlib.Omega.{arith}
 use borrow.Author.Needs.{needs}
 use borrow.Author.Tests.{not-true, not-false}
 use lib.ListN.{take, drop}
-use Rattle.reading.specs.Total.{processTree}
+use Rattle.decoding.specs.Tables.{processIn}
 use Rattle.memory.specs.Threads.{replaced}
 use Rattle.memory.specs.declared.Thread.{Thread as Place}
 use Rattle.products.specs.declared.Sizes.{Sizes}
-use Rattle.products.specs.declared.Made.{Made}
 use Rattle.products.specs.Makes.{Ready, Makes}
 use Rattle.continuations.specs.declared.Placed.{Placed}
 use Rattle.continuations.specs.Places.{Tables, roomFor, Puts, Replacing}
@@ -42,15 +41,15 @@ module _ (z : Sizes) (at from : ℕ) (after : Sizes) (made threads : List ℕ) (
 
 pub ruleset put-steps = (needs, put-refused, put-taken)
 
-pub replace-step : (s : List ℕ) (process : Place) (at from : ℕ) (z z₀ : Sizes) (threads threads′ made made′ types types′ cells cells′ : List ℕ) (products : Made) (r : Placed)
+pub replace-step : (forms : List ℕ) (process : Place) (at from : ℕ) (z z₀ : Sizes) (threads threads′ made made′ types types′ cells cells′ : List ℕ) (products : Sizes) (r : Placed)
     → at ≤ from → from ≤ z .threads → Tables z threads made types cells
     → z₀ ≡ record { threads = 0; names = z .names; cells = z .cells }
-    → (Ready s process z₀ made types cells → Makes s process (processTree (process .nest) s (process .names) (process .at)) z₀ made made′ types types′ cells cells′ products)
-    → Puts z at from (products .sizes) made′ threads threads′ r
-    → Replacing s process at from z threads types cells threads′ types′ cells′ r
-replace-step s process at from z z₀ threads threads′ made made′ types types′ cells cells′ products r o i tables e mk p state c turns known few kr number fits holds =
-    let make : Ready s process (record { threads = 0; names = z .names; cells = z .cells }) made types cells
-    → Makes s process (processTree (process .nest) s (process .names) (process .at)) (record { threads = 0; names = z .names; cells = z .cells }) made made′ types types′ cells cells′ products
+    → (Ready process z₀ made types cells → Makes forms process (processIn (process .nest) forms (process .at)) z₀ made made′ types types′ cells cells′ products)
+    → Puts z at from (products) made′ threads threads′ r
+    → Replacing forms process at from z threads types cells threads′ types′ cells′ r
+replace-step forms process at from z z₀ threads threads′ made made′ types types′ cells cells′ products r o i tables e mk p state c turns known few kr number fits holds =
+    let make : Ready process (record { threads = 0; names = z .names; cells = z .cells }) made types cells
+    → Makes forms process (processIn (process .nest) forms (process .at)) (record { threads = 0; names = z .names; cells = z .cells }) made made′ types types′ cells cells′ products
     = rw e at mk in
-    let ready = process-ready s process at from z turns threads threads′ made made′ types types′ cells cells′ known state c products r few kr number fits (tables .made-room) (tables .type-room) (tables .cell-room) o i (tables .thread-room) holds in
-    replaces s process at from z turns threads threads′ made made′ types types′ cells cells′ known state c products r few kr number fits (tables .made-room) (tables .type-room) (tables .cell-room) o i (tables .thread-room) holds (make ready) p
+    let ready = process-ready forms process at from z turns threads threads′ made made′ types types′ cells cells′ known state c products r few kr number fits (tables .made-room) (tables .type-room) (tables .cell-room) o i (tables .thread-room) holds in
+    replaces forms process at from z turns threads threads′ made made′ types types′ cells cells′ known state c products r few kr number fits (tables .made-room) (tables .type-room) (tables .cell-room) o i (tables .thread-room) holds (make ready) p

@@ -6,7 +6,7 @@ use mathlib.Core.Bool.{Bool, true, false, cond, _&&_}
 use lib.Dec.{leb, ltb}
 use lib.ListN.{length, take, replicate}
 use Rattle.reading.specs.Syntax.{Process}
-use Rattle.reading.specs.Total.{processTree}
+use Rattle.decoding.specs.Tables.{processIn}
 use Rattle.inference.specs.Acts.{Component}
 use Rattle.running.specs.State.{Thread, State}
 use Rattle.running.specs.Products.{news, threadsOf}
@@ -26,16 +26,17 @@ pub record Tables (z : Sizes) (threads made types cells : List ℕ) : Type 0 whe
   pub type-room : length types ≡ 1024
   pub cell-room : length cells ≡ 2304
 
--- A process to be taken apart: its component, names and nesting in their ranges, its run names among the cells in use.
+-- A process to be taken apart: its component, names, nesting and place in their ranges, its run names among the cells in use.
 pub record Ranged (t : Place) (top : ℕ) : Type 0 where
   pub component : t .component < 256
-  pub names : t .names < 128
-  pub nest : t .nest < 128
+  pub scope : t .names + t .nest ≤ 128
+  pub deep : t .nest ≤ 64
+  pub place : t .at < 8192
   pub env : t .env < top
 
 -- The process at a place.
 unfoldable pub remainingAt : List ℕ → Place → Process
-remainingAt s t = processTree (t .nest) s (t .names) (t .at) .tree
+remainingAt forms t = processIn (t .nest) forms (t .at)
 
 -- A process under one name more, in a cell; and the sizes with one cell more.
 unfoldable pub underCell : Place → ℕ → Place
@@ -67,19 +68,19 @@ pub record Puts (z : Sizes) (at from : ℕ) (after : Sizes) (made threads thread
 
 -- The state with a process's products in place of the threads from `at` up to `from`; `cells` are those before.
 unfoldable pub put : List ℕ → Place → ℕ → ℕ → List ℕ → State → Component → State
-put s process at from cells state c =
+put forms process at from cells state c =
     changed state (replaced (state .threads) at from
-    (threadsOf c (chain cells (process .names) (process .env)) (length (state .types)) (remainingAt s process))) (news (remainingAt s process))
+    (threadsOf c (chain cells (process .names) (process .env)) (length (state .types)) (remainingAt forms process))) (news (remainingAt forms process))
 
-pub record Replaces (s : List ℕ) (process : Place) (at from : ℕ) (z : Sizes) (turns : ℕ) (threads′ types′ : List ℕ) (known : List Bool)
+pub record Replaces (forms : List ℕ) (process : Place) (at from : ℕ) (z : Sizes) (turns : ℕ) (threads′ types′ : List ℕ) (known : List Bool)
     (cells cells′ : List ℕ) (state : State) (c : Component) (r : Placed) : Type 0 where
-  pub fits : r .fits ≡ hasRoom (put s process at from cells state c)
-  pub taken : r .fits ≡ true → Holds s (r .sizes) turns threads′ types′ known cells′ (put s process at from cells state c)
-  pub kept : r .fits ≡ false → (r .sizes ≡ z) × Holds s z turns threads′ types′ known cells′ state
+  pub fits : r .fits ≡ hasRoom (put forms process at from cells state c)
+  pub taken : r .fits ≡ true → Holds forms (r .sizes) turns threads′ types′ known cells′ (put forms process at from cells state c)
+  pub kept : r .fits ≡ false → (r .sizes ≡ z) × Holds forms z turns threads′ types′ known cells′ state
 
 -- The same for every state that memory holds before, at most 1,276 turns into a run, whichever names are known.
 abbrev pub Replacing : List ℕ → Place → ℕ → ℕ → Sizes → List ℕ → List ℕ → List ℕ → List ℕ → List ℕ → List ℕ → Placed → Type 0
-Replacing s process at from z threads types cells threads′ types′ cells′ r =
+Replacing forms process at from z threads types cells threads′ types′ cells′ r =
     (state : State) (c : Component) (turns : ℕ) (known : List Bool) → turns ≤ 1276 → length known ≡ 1024 → c .number ≡ process .component
-    → Ranged process (z .cells) → Holds s z turns threads types known cells state
-    → Replaces s process at from z turns threads′ types′ known cells cells′ state c r
+    → Ranged process (z .cells) → Holds forms z turns threads types known cells state
+    → Replaces forms process at from z turns threads′ types′ known cells cells′ state c r

@@ -17,21 +17,20 @@ use crate::widening::with_cell;
 use memory::Thread;
 use memory::chains::bind;
 use memory::threads::splice;
-use products::Made;
 use products::Sizes;
 use products::processes::make_process;
 
 // What the receiver's continuation makes, under the name disclosed, which takes the next cell.
 fn make_theirs(
-    s: &[u8],
+    forms: &[usize],
     t: Thread,
     sent: usize,
     sizes: Sizes,
     made: &mut [usize],
     types: &mut [usize],
     cells: &mut [usize],
-) -> Made
-    ensures { λ r. ⌜ Walks (now (s .entry)) (underCell t (sizes .cells)) (withCell sizes) (now (made .entry)) (now (made .exit))
+) -> Sizes
+    ensures { λ r. ⌜ Walks (now (forms .entry)) (underCell t (sizes .cells)) (withCell sizes) (now (made .entry)) (now (made .exit))
         (now (types .entry)) (now (types .exit))
         (bound (now (cells .entry)) (sizes .cells) (t .env) sent) (now (cells .exit)) r ⌝ }
 {
@@ -39,27 +38,25 @@ fn make_theirs(
     let inner = under_cell(t, cell);
     let begun = with_cell(sizes);
     bind(cells, cell, t.env, sent);
-    make_process(s, inner, begun, made, types, cells)
+    make_process(forms, inner, begun, made, types, cells)
 }
 
 // What both continuations make, the sender's first.
 fn make_both(
-    s: &[u8],
+    forms: &[usize],
     x: Exchange,
     sizes: Sizes,
     made: &mut [usize],
     types: &mut [usize],
     cells: &mut [usize],
 ) -> BothMade
-    ensures { λ r. ⌜ MakesBoth (now (s .entry)) x sizes (now (made .entry)) (now (made .exit))
+    ensures { λ r. ⌜ MakesBoth (now (forms .entry)) x sizes (now (made .entry)) (now (made .exit))
         (now (types .entry)) (now (types .exit)) (now (cells .entry)) (now (cells .exit)) r ⌝ }
 {
     let sender = x.mine;
     let receiver = x.theirs;
-    let first = make_process(s, sender, sizes, made, types, cells);
-    let so_far = first.sizes;
-    let second = make_theirs(s, receiver, x.sent, so_far, made, types, cells);
-    let all = second.sizes;
+    let so_far = make_process(forms, sender, sizes, made, types, cells);
+    let all = make_theirs(forms, receiver, x.sent, so_far, made, types, cells);
     BothMade {
         mine: so_far.threads,
         sizes: all,
@@ -164,7 +161,7 @@ fn put_both(
 
 // Replaces a sender and a receiver by what their continuations make.
 pub fn exchange(
-    s: &[u8],
+    forms: &[usize],
     x: Exchange,
     sizes: Sizes,
     threads: &mut [usize],
@@ -174,10 +171,10 @@ pub fn exchange(
 ) -> Placed
     requires { ⌜ (x .sender < sizes .threads) × (x .receiver < sizes .threads)
         × Tables sizes (now threads) (now made) (now types) (now cells) ⌝ }
-    ensures { λ r. ⌜ Exchanging (now (s .entry)) x sizes (now (threads .entry)) (now (types .entry)) (now (cells .entry))
+    ensures { λ r. ⌜ Exchanging (now (forms .entry)) x sizes (now (threads .entry)) (now (types .entry)) (now (cells .entry))
         (now (threads .exit)) (now (types .exit)) (now (cells .exit)) r ⌝ }
 {
     let before = none_made(sizes);
-    let products = make_both(s, x, before, made, types, cells);
+    let products = make_both(forms, x, before, made, types, cells);
     put_both(threads, sizes, x, made, products)
 }

@@ -66,7 +66,7 @@ fn put(
 
 // Replaces the threads from `at` up to `from` by what a process makes, where there is room.
 pub fn replace(
-    s: &[u8],
+    forms: &[usize],
     process: Thread,
     at: usize,
     from: usize,
@@ -77,11 +77,10 @@ pub fn replace(
     cells: &mut [usize],
 ) -> Placed
     requires { ⌜ (at ≤ from) × (from ≤ sizes .threads) × Tables sizes (now threads) (now made) (now types) (now cells) ⌝ }
-    ensures { λ r. ⌜ Replacing (now (s .entry)) process at from sizes
+    ensures { λ r. ⌜ Replacing (now (forms .entry)) process at from sizes
         (now (threads .entry)) (now (types .entry)) (now (cells .entry))
         (now (threads .exit)) (now (types .exit)) (now (cells .exit)) r ⌝ }
 {
-    let products = make_process(s, process, none_made(sizes), made, types, cells);
-    let after = products.sizes;
+    let after = make_process(forms, process, none_made(sizes), made, types, cells);
     put(threads, sizes, at, from, made, after)
 }

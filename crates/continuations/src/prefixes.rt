@@ -7,14 +7,12 @@ ghost use Rattle.memory.specs.Chains.{chain};
 ghost use Rattle.continuations.specs.Prefixes.{continuationOf, PrefixFound};
 use crate::Action;
 use crate::Prefix;
+use decoding::words::item_at;
 use memory::Thread;
 use memory::chains::name_at;
 use memory::threads::unpack;
 use reading::Act;
-use reading::Dialect;
 use reading::Form;
-use reading::FormRead;
-use reading::forms::process_at;
 
 // The thread at an index, which must be one.
 pub fn thread_at(threads: &[usize], i: usize) -> Thread
@@ -55,15 +53,15 @@ fn sends(act: Act, next: usize, t: Thread, cells: &[usize]) -> Prefix
 }
 
 // The prefix of a thread, with run names for its own.
-pub fn prefix_of(s: &[u8], t: Thread, cells: &[usize]) -> Prefix
-    ensures { λ r. ⌜ PrefixFound (now (s .entry)) (now (cells .entry)) t r ⌝ }
+pub fn prefix_of(forms: &[usize], t: Thread, cells: &[usize]) -> Prefix
+    ensures { λ r. ⌜ PrefixFound (now (forms .entry)) (now (cells .entry)) t r ⌝ }
 {
-    let read = process_at(Dialect::Current, s, t.at, t.nest, t.names);
-    let FormRead::Found(place) = read else {
+    if t.nest == 0 {
         return Prefix::Nothing;
-    };
-    let next = place.next;
-    let form = place.form;
+    }
+    let item = item_at(forms, t.at);
+    let next = item.next;
+    let form = item.form;
     match form {
         Form::Nil => Prefix::Nothing,
         Form::Par => Prefix::Nothing,
@@ -92,6 +90,6 @@ pub fn continuation(t: Thread, next: usize) -> Thread
         env: t.env,
         names: t.names,
         nest: less(t.nest),
-        at: next,
+        at: next % 8192,
     }
 }

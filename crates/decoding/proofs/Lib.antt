@@ -4,3 +4,4 @@ pub mod WordLaws
 pub mod NoteLaws
 pub mod FormFacts
 pub mod NoteSteps
+pub mod TableLaws

@@ -81,7 +81,7 @@ under-any inner outer c read at next word before after r lt later h n b end e =
 process-in : (s : List ℕ) (at nest names : ℕ) {p : Process} {k : ℕ} → readProcess nest s names at ≡ got p k → at < length s
 process-in s at nest names e = let b = process-begins current nest s names at e in process-here s at nest names (b .stands)
 
-system-in : (s : List ℕ) (at nest names : ℕ) (path : List ℕ) (preceding : ℕ) {p : System} {k : ℕ} → readSystem nest s names path preceding at ≡ got p k
+pub system-in : (s : List ℕ) (at nest names : ℕ) (path : List ℕ) (preceding : ℕ) {p : System} {k : ℕ} → readSystem nest s names path preceding at ≡ got p k
     → at < length s
 system-in s at nest names path preceding e =
     let b = system-begins current nest s names path preceding at e in system-here s at nest names path preceding (b .stands)

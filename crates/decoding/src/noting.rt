@@ -34,7 +34,11 @@ fn byte_after(s: &[u8], at: usize, places: usize) -> usize
     ensures { λ r. ⌜ r ≡ getD (now (s .entry)) (at + places) 0 ⌝ }
     ensures { λ r. ⌜ r < 256 ⌝ }
 {
-    if at < s.len() { byte_in(s, at + places) } else { 0 }
+    if at < s.len() {
+        byte_in(s, at + places)
+    } else {
+        0
+    }
 }
 
 // The process at a place; the place after it.

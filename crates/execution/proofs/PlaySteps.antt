@@ -35,70 +35,96 @@ use Rattle.products.specs.Held.{Holds}
 use Rattle.products.specs.Starts.{Blank, Starts}
 use Rattle.products.specs.declared.Sizes.{Sizes}
 use Rattle.execution.specs.Told.{Played}
-use Rattle.execution.specs.Begins.{Reads, begun, startOf, listed, movesOf, ranOver, scripted, playedScript, playedFrom, Comes, Lent}
-use Rattle.execution.specs.Runs.{Going}
+use Rattle.execution.specs.Begins.{Reads, begun, startOf, listed, movesOf, ranOver, scripted, playedScript, playedFrom, Comes, Standing, Lent}
+use Rattle.execution.specs.Runs.{Going, Ongoing}
+use Rattle.execution.specs.declared.Point.{Point}
 
 -- Question 21.
 moves-are : (script : List ℕ) {ms : List Move} {e : ℕ} → readScript script ≡ got ms e → movesOf script ≡ ms
 unfolding movesOf listed
 moves-are script h = rw h
 
-module _ (begin : State) (script log : List ℕ) where
-  pub script-fails : (r : NumberRead) (q w : Refusal) → r ≡ number-read.Refused q → w ≡ refusalOf r → number r ≡ countedMoves (readScript script)
-      → Comes (playedScript begin script log) log (answer-case.Refused (w .question))
-  unfolding playedScript scripted logged outcomeOf afterReading
-  script-fails r q w e o h =
-      let f : readScript script ≡ refused (q .question) (q .at) = script-refused script (ap number (sym e) ∙ h) in
-      let k : w .question ≡ q .question = ap (λ (x : Refusal). x .question) (o ∙ ap refusalOf e) in
-      record { answer = rw (f, k); lent = rw f }
+module _ (script log : List ℕ) where
+  module _ (begin : State) where
+    refused-so : (r : NumberRead) (q w : Refusal) → r ≡ number-read.Refused q → w ≡ refusalOf r → number r ≡ countedMoves (readScript script)
+        → Comes (playedScript begin script log) log (answer-case.Refused (w .question))
+    unfolding playedScript scripted logged outcomeOf afterReading
+    refused-so r q w e o h =
+        let f : readScript script ≡ refused (q .question) (q .at) = script-refused script (ap number (sym e) ∙ h) in
+        let k : w .question ≡ q .question = ap (λ (x : Refusal). x .question) (o ∙ ap refusalOf e) in
+        record { answer = rw (f, k); lent = rw f }
 
   module _ (r : NumberRead) (n : Number) (e : r ≡ number-read.Found n) (h : number r ≡ countedMoves (readScript script)) where
     counted : Counted script (n .value) (n .next)
     counted = script-counted script (ap number (sym e) ∙ h)
 
     -- Question 22.
-    pub log-short : length log / 8 < n .value → Comes (playedScript begin script log) log (answer-case.Refused 22)
+    short-so : (begin : State) → length log / 8 < n .value → Comes (playedScript begin script log) log (answer-case.Refused 22)
     unfolding playedScript scripted logged outcomeOf afterReading ask
-    log-short k =
+    short-so begin k =
         let c = counted in
         let t : leb (8 * length (c .moves)) (length log) ≡ false = lt-leb (8 * length (c .moves)) (length log) (omega (arith, c .count)) in
         record { answer = rw (c .is, t); lent = rw (c .is, t) }
 
     -- The run.
-    pub log-written : (log′ : List ℕ) → n .value ≤ length log / 8 → log′ ≡ ranOver (runLog begin (movesOf script)) log
+    written-so : (begin : State) (log′ : List ℕ) → n .value ≤ length log / 8 → log′ ≡ ranOver (runLog begin (movesOf script)) log
         → Comes (playedScript begin script log) log′ (answer-case.Accepted (n .value))
     unfolding playedScript scripted logged outcomeOf afterReading ask ranOver
-    log-written log′ k w =
+    written-so begin log′ k w =
         let c = counted in
         let t : leb (8 * length (c .moves)) (length log) ≡ true = le-leb (8 * length (c .moves)) (length log) (omega (arith, c .count)) in
         record { answer = rw (c .is, t) (ap passed (sym (c .count))); lent = rw (c .is, t) (rw (moves-are script (c .is)) at w) }
 
-pub run-begins : (s script log threads types : List ℕ) (known : List Bool) (cells : List ℕ) (z : Sizes) (r : NumberRead) (n : Number)
-    → Holds s z 1 threads types known cells (startOf s) → r ≡ number-read.Found n → number r ≡ countedMoves (readScript script)
-    → n .value ≤ length log / 8
-    → Going s script (runLog (startOf s) (movesOf script)) (n .value) (record { at = 0; done = 0; sizes = z }) log threads types known cells
-run-begins s script log threads types known cells z r n holds e h k =
-    let c = counted (startOf s) script log r n e h in
-    let same = moves-are script (c .is) in
-    let read = script-moves script (c .is) in
-    record {
-      state = startOf s;
-      rest = movesOf script;
-      end = n .next;
-      holds = holds;
-      reads = rw same read;
-      whole = refl;
-      all = omega (arith, ap length same, c .count);
-      most = omega (arith, c .count, script-few script read);
-      room = omega arith;
-    }
+-- The same for every state that memory holds.
+module _ (forms script log threads types : List ℕ) (known : List Bool) (cells : List ℕ) (z : Sizes) (r : NumberRead) where
+  abbrev Played-so : List ℕ → Answer → Type 0
+  Played-so log′ a = (state : State) → Holds forms z 1 threads types known cells state → Comes (playedScript state script log) log′ a
+
+  abbrev first-point : Point
+  first-point = record { at = 0; done = 0; sizes = z }
+
+  pub script-fails : (q w : Refusal) → r ≡ number-read.Refused q → w ≡ refusalOf r → number r ≡ countedMoves (readScript script)
+      → Played-so log (answer-case.Refused (w .question))
+  script-fails q w e o h state holds = refused-so script log state r q w e o h
+
+  module _ (n : Number) (e : r ≡ number-read.Found n) (h : number r ≡ countedMoves (readScript script)) where
+    pub log-short : length log / 8 < n .value → Played-so log (answer-case.Refused 22)
+    log-short k state holds = short-so script log r n e h state k
+
+    module _ (k : n .value ≤ length log / 8) where
+      begins-so : (state : State) → Holds forms z 1 threads types known cells state
+          → Going forms script (runLog state (movesOf script)) (n .value) first-point log threads types known cells
+      begins-so state holds =
+          let c = counted script log r n e h in
+          let same = moves-are script (c .is) in
+          let read = script-moves script (c .is) in
+          record {
+            state = state;
+            rest = movesOf script;
+            end = n .next;
+            holds = holds;
+            reads = rw same read;
+            whole = refl;
+            all = omega (arith, ap length same, c .count);
+            most = omega (arith, c .count, script-few script read);
+            room = omega arith;
+          }
+
+      pub run-begins : Standing forms z threads types known cells → Ongoing forms script (n .value) first-point log threads types known cells
+      run-begins held = record { run = runLog (held .state) (movesOf script); going = begins-so (held .state) (held .holds) }
+
+      pub log-written : (log′ : List ℕ)
+          → ((run : List ℕ) → Going forms script run (n .value) first-point log threads types known cells → log′ ≡ ranOver run log)
+          → Played-so log′ (answer-case.Accepted (n .value))
+      log-written log′ w state holds =
+          written-so script log r n e h state log′ k (w (runLog state (movesOf script)) (begins-so state holds))
 
 pub ruleset script-steps = (needs, script-fails, log-short, log-written, run-begins)
 
 -- Question 20.
-module _ (s script log : List ℕ) (reads : Reads s) (threads types : List ℕ) (known : List Bool) (cells : List ℕ) (z : Sizes)
-    (starts : (sheet : Sheet) (end : ℕ) → length s ≤ 4096 → readSheet s ≡ got sheet end → Starts s sheet threads types known cells z) where
-  here : Starts s (reads .tree) threads types known cells z
+module _ (s script log : List ℕ) (reads : Reads s) (forms threads types : List ℕ) (known : List Bool) (cells : List ℕ) (z : Sizes)
+    (starts : (sheet : Sheet) (end : ℕ) → length s ≤ 4096 → readSheet s ≡ got sheet end → Starts forms sheet threads types known cells z) where
+  here : Starts forms (reads .tree) threads types known cells z
   here = starts (reads .tree) (reads .end) (reads .short) (reads .reads)
 
   begins : startOf s ≡ start (reads .tree)
@@ -123,10 +149,14 @@ module _ (s script log : List ℕ) (reads : Reads s) (threads types : List ℕ) 
       let t = lt-leb (length (start (reads .tree) .types)) 1024 (omega (arith, here .named)) in
       no-room (rw begins (both (leb (length (start (reads .tree) .threads)) 64) (leb (length (start (reads .tree) .types)) 1024) t))
 
-  pub start-holds : z .threads ≤ 64 → z .names ≤ 1024 → Holds s z 1 threads types known cells (startOf s)
+  start-holds : z .threads ≤ 64 → z .names ≤ 1024 → Holds forms z 1 threads types known cells (startOf s)
   start-holds h k = rw begins (here .holds h k)
 
-  pub plays-on : z .threads ≤ 64 → z .names ≤ 1024 → (log′ : List ℕ) (r : Answer) → Comes (playedScript (startOf s) script log) log′ r
+  pub start-stands : z .threads ≤ 64 → z .names ≤ 1024 → Standing forms z threads types known cells
+  start-stands h k = record { state = startOf s; holds = start-holds h k }
+
+  pub plays-on : z .threads ≤ 64 → z .names ≤ 1024 → (log′ : List ℕ) (r : Answer)
+      → ((state : State) → Holds forms z 1 threads types known cells state → Comes (playedScript state script log) log′ r)
       → Comes (playedFrom (startOf s) script log) log′ r
   unfolding playedFrom playedScript ask hasRoom
   plays-on h k log′ r c =
@@ -136,12 +166,12 @@ module _ (s script log : List ℕ) (reads : Reads s) (threads types : List ℕ) 
         le-leb (length (start (reads .tree) .threads)) 64 (omega (arith, here .crowded)),
         le-leb (length (start (reads .tree) .types)) 1024 (omega (arith, here .named)),
       ) in
-      rw t c
+      rw t (c (startOf s) (start-holds h k))
 
-pub tables-from : (threads made types : List ℕ) (known : List Bool) (cells threads′ made′ types′ : List ℕ) (known′ : List Bool) (cells′ : List ℕ)
-    → Blank threads types known cells → length made ≡ 128 → length threads′ ≡ length threads → length made′ ≡ length made
+pub tables-from : (forms threads made types : List ℕ) (known : List Bool) (cells threads′ made′ types′ : List ℕ) (known′ : List Bool) (cells′ : List ℕ)
+    → Blank forms threads types known cells → length made ≡ 128 → length threads′ ≡ length threads → length made′ ≡ length made
     → length types′ ≡ length types → length known′ ≡ length known → length cells′ ≡ length cells → Lent threads′ made′ types′ known′ cells′
-tables-from threads made types known cells threads′ made′ types′ known′ cells′ b m th ma ty k ce = record {
+tables-from forms threads made types known cells threads′ made′ types′ known′ cells′ b m th ma ty k ce = record {
   thread-room = th ∙ b .thread-room;
   made-room = ma ∙ m;
   type-room = ty ∙ b .type-room;
@@ -149,7 +179,7 @@ tables-from threads made types known cells threads′ made′ types′ known′ 
   known-room = k ∙ b .known-room;
 }
 
-pub ruleset start-steps = (needs, crowded, overnamed, start-holds, plays-on, tables-from)
+pub ruleset start-steps = (needs, crowded, overnamed, start-stands, plays-on, tables-from)
 
 -- New tables.
 all-false : (n i : ℕ) → getD (replicate n false) i false ≡ false
@@ -157,8 +187,9 @@ all-false zero i = refl
 all-false (suc n) zero = refl
 all-false (suc n) (suc i) = all-false n i
 
-pub new-tables : Blank (replicate 128 0) (replicate 1024 0) (replicate 1024 false) (replicate 2304 0)
+pub new-tables : Blank (replicate 4096 0) (replicate 128 0) (replicate 1024 0) (replicate 1024 false) (replicate 2304 0)
 new-tables = record {
+  form-room = length-replicate {A = ℕ} 4096 0;
   thread-room = length-replicate {A = ℕ} 128 0;
   type-room = length-replicate {A = ℕ} 1024 0;
   known-room = length-replicate {A = Bool} 1024 false;

@@ -1,4 +1,4 @@
--- A run, move by move, over plain values: the next move can be read, its step and its record keep what the run's log is, and after
+-- A run, move by move, over plain values: the next move can be read, its step and its record keep what the run@forms log is, and after
 -- the last move the log is whole.
 use Prim.Native.Nat.{ℕ, _+_, _-_, _*_, _<_, _≤_}
 use mathlib.Core.Bool.{Bool}
@@ -23,7 +23,7 @@ use Rattle.script.proofs.ScriptLaws.{More, more-moves, no-more}
 use Rattle.transitions.specs.Steps.{Stepped}
 use Rattle.transitions.specs.declared.Moved.{Moved}
 use Rattle.execution.specs.Begins.{Lent, ranOver}
-use Rattle.execution.specs.Runs.{Going, Turned}
+use Rattle.execution.specs.Runs.{Going, Ongoing, Turned}
 use Rattle.execution.specs.declared.Point.{Point}
 use Rattle.execution.proofs.LogLaws.{eight-bytes, logged-more, log-length, past-kept}
 
@@ -35,11 +35,11 @@ run-cut state m ms done bytes e = rw (append-assoc done bytes (runLog (stateAfte
 
 -- The step that a move of a run makes.
 abbrev Steps : List ℕ → List ℕ → List ℕ → List Bool → List ℕ → Point → MovePlace → List ℕ → List ℕ → List Bool → List ℕ → Moved → Type 0
-Steps s threads types known cells p f threads′ types′ known′ cells′ r =
-    Stepped s (p .sizes) threads types known cells threads′ types′ known′ cells′ (λ state. step state (moveOf (f .step))) r
+Steps forms threads types known cells p f threads′ types′ known′ cells′ r =
+    Stepped forms (p .sizes) threads types known cells threads′ types′ known′ cells′ (λ state. step state (moveOf (f .step))) r
 
-module _ (s script run : List ℕ) (count : ℕ) (p : Point) (log threads types : List ℕ) (known : List Bool) (cells : List ℕ)
-    (g : Going s script run count p log threads types known cells) where
+module _ (forms script run : List ℕ) (count : ℕ) (p : Point) (log threads types : List ℕ) (known : List Bool) (cells : List ℕ)
+    (g : Going forms script run count p log threads types known cells) where
   pub record-room : p .done < count → p .done * 8 + 8 ≤ length log
   record-room h = omega (arith, g .room)
 
@@ -55,7 +55,7 @@ module _ (s script run : List ℕ) (count : ℕ) (p : Point) (log threads types 
       go (no f) = more-moves (1024 - p .done) script (p .at) (g .reads) f
 
   module _ (h : p .done < count) (r : MoveRead) (e : moveRead r ≡ moveAt script (p .at)) where
-    pub never-refused : (q : Refusal) → r ≡ move-read.Refused q → Turned s script run count p log log threads types known cells p
+    pub never-refused : (q : Refusal) → r ≡ move-read.Refused q → Turned forms script run count p log log threads types known cells p
     never-refused q f = never (ap moveRead (sym f) ∙ e ∙ next-there h .next .first)
 
     module _ (f : MovePlace) (found : r ≡ move-read.Found f) where
@@ -78,9 +78,9 @@ module _ (s script run : List ℕ) (count : ℕ) (p : Point) (log threads types 
           }
 
       pub next-turned : (threads′ types′ : List ℕ) (known′ : List Bool) (cells′ : List ℕ) (moved : Moved) (log′ : List ℕ)
-          → Steps s threads types known cells p f threads′ types′ known′ cells′ moved
+          → Steps forms threads types known cells p f threads′ types′ known′ cells′ moved
           → log′ ≡ take (p .done * 8) log ++ (bytesOf (moved .line) ++ drop (p .done * 8 + 8) log)
-          → Turned s script run count p log log′ threads′ types′ known′ cells′ (record { at = f .next; done = p .done + 1; sizes = moved .sizes })
+          → Turned forms script run count p log log′ threads′ types′ known′ cells′ (record { at = f .next; done = p .done + 1; sizes = moved .sizes })
       next-turned threads′ types′ known′ cells′ moved log′ steps wrote =
           let n = reached in
           let a = steps (g .state) (p .done + 1) (omega (arith, g .most)) (g .holds) in
@@ -106,24 +106,45 @@ module _ (s script run : List ℕ) (count : ℕ) (p : Point) (log threads types 
             kept = past-kept log bytes (p .done * 8) eight room log′ wrote (count * 8) (omega arith);
           }
 
-pub ruleset turn-steps = (needs, record-room, few-threads, never-refused, next-turned)
+-- The same for every run that goes on so.
+module _ (forms script : List ℕ) (count : ℕ) (p : Point) (log threads types : List ℕ) (known : List Bool) (cells : List ℕ) (h : p .done < count)
+    (r : MoveRead) (e : moveRead r ≡ moveAt script (p .at)) where
+  pub none-refused : (q : Refusal) → r ≡ move-read.Refused q → (run : List ℕ) → Going forms script run count p log threads types known cells
+      → Turned forms script run count p log log threads types known cells p
+  none-refused q f run g = never-refused forms script run count p log threads types known cells g h r e q f
 
--- The loop: the run goes on, and nothing is written past the records of all moves; the tables keep their lengths.
-pub record Running (s script run : List ℕ) (count : ℕ) (log₀ : List ℕ) (p : Point) (log threads made types : List ℕ) (known : List Bool) (cells : List ℕ) : Type 0 where
-  pub going : Going s script run count p log threads types known cells
+  pub all-turned : (f : MovePlace) → r ≡ move-read.Found f → (threads′ types′ : List ℕ) (known′ : List Bool) (cells′ : List ℕ) (moved : Moved) (log′ : List ℕ)
+      → Steps forms threads types known cells p f threads′ types′ known′ cells′ moved
+      → log′ ≡ take (p .done * 8) log ++ (bytesOf (moved .line) ++ drop (p .done * 8 + 8) log)
+      → (run : List ℕ) → Going forms script run count p log threads types known cells
+      → Turned forms script run count p log log′ threads′ types′ known′ cells′ (record { at = f .next; done = p .done + 1; sizes = moved .sizes })
+  all-turned f found threads′ types′ known′ cells′ moved log′ steps wrote run g =
+      next-turned forms script run count p log threads types known cells g h r e f found threads′ types′ known′ cells′ moved log′ steps wrote
+
+pub ruleset turn-steps = (needs, none-refused)
+
+-- The loop: each run that went on at its beginning still goes on, and nothing is written past the records of all moves; the tables
+-- keep their lengths.
+pub record Running (forms script : List ℕ) (count : ℕ) (log₀ threads₀ types₀ : List ℕ) (known₀ : List Bool) (cells₀ : List ℕ) (p₀ : Point)
+    (log threads made types : List ℕ) (known : List Bool) (cells : List ℕ) (p : Point) : Type 0 where
+  pub ongoing : Ongoing forms script count p log threads types known cells
   pub tables : Lent threads made types known cells
   pub long : length log ≡ length log₀
   pub past : drop (count * 8) log ≡ drop (count * 8) log₀
+  pub every : (run : List ℕ) → Going forms script run count p₀ log₀ threads₀ types₀ known₀ cells₀ → Going forms script run count p log threads types known cells
 
-module _ (s script run : List ℕ) (count : ℕ) (log₀ : List ℕ) (p : Point) (log threads made types : List ℕ) (known : List Bool) (cells : List ℕ) where
-  pub run-next : Running s script run count log₀ p log threads made types known cells
-      → (r : Point) (log′ threads′ made′ types′ : List ℕ) (known′ : List Bool) (cells′ : List ℕ)
-      → Turned s script run count p log log′ threads′ types′ known′ cells′ r
+module _ (forms script : List ℕ) (count : ℕ) (log₀ threads₀ types₀ : List ℕ) (known₀ : List Bool) (cells₀ : List ℕ) (p₀ : Point)
+    (log threads made types : List ℕ) (known : List Bool) (cells : List ℕ) (p : Point) where
+  abbrev Now : Type 0
+  Now = Running forms script count log₀ threads₀ types₀ known₀ cells₀ p₀ log threads made types known cells p
+
+  pub run-next : Now → (r : Point) (log′ threads′ made′ types′ : List ℕ) (known′ : List Bool) (cells′ : List ℕ)
+      → ((run : List ℕ) → Going forms script run count p log threads types known cells → Turned forms script run count p log log′ threads′ types′ known′ cells′ r)
       → length log′ ≡ length log → length threads′ ≡ length threads → length made′ ≡ length made → length types′ ≡ length types
       → length known′ ≡ length known → length cells′ ≡ length cells
-      → Running s script run count log₀ r log′ threads′ made′ types′ known′ cells′
+      → Running forms script count log₀ threads₀ types₀ known₀ cells₀ p₀ log′ threads′ made′ types′ known′ cells′ r
   run-next a r log′ threads′ made′ types′ known′ cells′ t l th m ty k ce = record {
-    going = t .going;
+    ongoing = record { run = a .ongoing .run; going = t (a .ongoing .run) (a .ongoing .going) .going };
     tables = record {
       thread-room = th ∙ a .tables .thread-room;
       made-room = m ∙ a .tables .made-room;
@@ -132,26 +153,36 @@ module _ (s script run : List ℕ) (count : ℕ) (log₀ : List ℕ) (p : Point)
       known-room = k ∙ a .tables .known-room;
     };
     long = l ∙ a .long;
-    past = t .kept ∙ a .past;
+    past = t (a .ongoing .run) (a .ongoing .going) .kept ∙ a .past;
+    every = λ run g. t run (a .every run g) .going;
   }
-
-  pub run-first : Going s script run count p log threads types known cells → Lent threads made types known cells
-      → Running s script run count log p log threads made types known cells
-  run-first g t = record { going = g; tables = t; long = refl; past = refl }
 
   -- After the last move.
   no-rest : (ms : List Move) → length ms ≡ 0 → ms ≡ []
   no-rest [] h = refl
   no-rest (m ∷ ms) h = absurd (omega (arith, h))
 
-  pub run-last : Running s script run count log₀ p log threads made types known cells → count ≤ p .done → log ≡ ranOver run log₀
+  pub run-last : Now → count ≤ p .done → (run : List ℕ) → Going forms script run count p₀ log₀ threads₀ types₀ known₀ cells₀ → log ≡ ranOver run log₀
   unfolding ranOver runLog
-  run-last a h =
-      let g = a .going in
+  run-last a h run begun =
+      let g = a .every run begun in
       let e : g .rest ≡ [] = no-rest (g .rest) (omega (arith, g .all)) in
       let d : p .done ≡ count = omega (arith, g .all) in
       let w : take (count * 8) log ≡ run = rw (e, d, append-nil) at (g .whole) in
       let n : length run ≡ count * 8 = ap length (sym w) ∙ length-take-le (count * 8) log (g .room) in
       rw n (sym (take-append-drop (count * 8) log) ∙ ap (λ (l : List ℕ). l ++ drop (count * 8) log) w ∙ ap (λ (l : List ℕ). run ++ l) (a .past))
+
+-- Fewer moves are left.
+pub run-falls : (forms script : List ℕ) (count : ℕ) (p r : Point) (log log′ threads threads′ types types′ : List ℕ) (known known′ : List Bool) (cells cells′ : List ℕ)
+    → Ongoing forms script count p log threads types known cells
+    → ((run : List ℕ) → Going forms script run count p log threads types known cells → Turned forms script run count p log log′ threads′ types′ known′ cells′ r)
+    → p .done < count → count - r .done < count - p .done
+run-falls forms script count p r log log′ threads threads′ types types′ known known′ cells cells′ o t h =
+    omega (arith, t (o .run) (o .going) .done)
+
+pub run-first : (forms script : List ℕ) (count : ℕ) (log threads made types : List ℕ) (known : List Bool) (cells : List ℕ) (p : Point)
+    → Ongoing forms script count p log threads types known cells → Lent threads made types known cells
+    → Running forms script count log threads types known cells p log threads made types known cells p
+run-first forms script count log threads made types known cells p g t = record { ongoing = g; tables = t; long = refl; past = refl; every = λ run h. h }
 
 pub ruleset run-steps = (needs, run-next, run-first, run-last)

@@ -16,6 +16,8 @@ use Rattle.running.specs.Products.{start}
 use Rattle.running.specs.Moves.{Move, hasRoom}
 use Rattle.running.specs.Script.{readScript}
 use Rattle.running.specs.Play.{Opened, logged, outcomeOf}
+use Rattle.products.specs.declared.Sizes.{Sizes}
+use Rattle.products.specs.Held.{Holds}
 
 -- A sheet that passes questions 1 to 6.
 pub record Reads (s : List ℕ) : Type 0 where
@@ -58,6 +60,11 @@ playedFrom begin script log = outcomeOf log (logged log (ask 20 (hasRoom begin) 
 pub record Comes (outcome : Outcome) (log′ : List ℕ) (r : Answer) : Type 0 where
   pub answer : told r ≡ outcome .answer
   pub lent : log′ ≡ outcome .lent
+
+-- Memory holds some state before the first move.
+pub record Standing (forms : List ℕ) (z : Sizes) (threads types : List ℕ) (known : List Bool) (cells : List ℕ) : Type 0 where
+  pub state : State
+  pub holds : Holds forms z 1 threads types known cells state
 
 -- The tables of a run have their lengths.
 pub record Lent (threads made types : List ℕ) (known : List Bool) (cells : List ℕ) : Type 0 where

@@ -1,9 +1,10 @@
 // Questions 20 to 22 of a sheet that passes questions 1 to 18, and its run.
 ghost use mathlib.Core.Path.{_≡_};
 ghost use lib.ListN.{length};
+ghost use Rattle.running.specs.State.{State};
 ghost use Rattle.products.specs.Held.{Holds};
 ghost use Rattle.products.specs.Starts.{Blank};
-ghost use Rattle.execution.specs.Begins.{Reads, startOf, playedScript, playedFrom, Comes, Lent};
+ghost use Rattle.execution.specs.Begins.{Reads, startOf, playedScript, playedFrom, Comes, Standing, Lent};
 use crate::Point;
 use crate::runs::run;
 use products::Sizes;
@@ -15,7 +16,7 @@ use service::Answer;
 
 // Questions 21 and 22, and the run, from the start in the tables on.
 fn play_script(
-    s: &[u8],
+    forms: &[usize],
     script: &[u8],
     sizes: Sizes,
     log: &mut [u8],
@@ -25,9 +26,11 @@ fn play_script(
     known: &mut [bool],
     cells: &mut [usize],
 ) -> Answer
-    requires { ⌜ Holds (now s) sizes 1 (now threads) (now types) (now known) (now cells) (startOf (now s))
+    requires { ⌜ Standing (now forms) sizes (now threads) (now types) (now known) (now cells)
         × Lent (now threads) (now made) (now types) (now known) (now cells) ⌝ }
-    ensures { λ r. ⌜ Comes (playedScript (startOf (now (s .entry))) (now (script .entry)) (now (log .entry))) (now (log .exit)) r ⌝ }
+    ensures { λ r. ⌜ ((state : State)
+        → Holds (now (forms .entry)) sizes 1 (now (threads .entry)) (now (types .entry)) (now (known .entry)) (now (cells .entry)) state
+        → Comes (playedScript state (now (script .entry)) (now (log .entry))) (now (log .exit)) r) ⌝ }
 {
     let counted = count_moves(script);
     let NumberRead::Found(moves) = counted else {
@@ -43,7 +46,7 @@ fn play_script(
         sizes,
     };
     run(
-        s,
+        forms,
         script,
         count,
         begin,
@@ -62,23 +65,34 @@ fn play_with(
     s: &[u8],
     script: &[u8],
     log: &mut [u8],
+    forms: &mut [usize],
     threads: &mut [usize],
     made: &mut [usize],
     types: &mut [usize],
     known: &mut [bool],
     cells: &mut [usize],
 ) -> Answer
-    requires { ⌜ Reads (now s) × Blank (now threads) (now types) (now known) (now cells) × (length (now made) ≡ 128) ⌝ }
+    requires { ⌜ Reads (now s) × Blank (now forms) (now threads) (now types) (now known) (now cells) × (length (now made) ≡ 128) ⌝ }
     ensures { λ r. ⌜ Comes (playedFrom (startOf (now (s .entry))) (now (script .entry)) (now (log .entry))) (now (log .exit)) r ⌝ }
 {
-    let sizes = start(s, threads, types, known, cells);
+    let sizes = start(s, forms, threads, types, known, cells);
     if 64 < sizes.threads {
         return Answer::Refused(20);
     }
     if 1024 < sizes.names {
         return Answer::Refused(20);
     }
-    play_script(s, script, sizes, log, threads, made, types, known, cells)
+    play_script(
+        forms,
+        script,
+        sizes,
+        log,
+        threads,
+        made,
+        types,
+        known,
+        cells,
+    )
 }
 
 // Questions 20 to 22, and the run.
@@ -86,6 +100,7 @@ pub fn play_accepted(s: &[u8], script: &[u8], log: &mut [u8]) -> Answer
     requires { ⌜ Reads (now s) ⌝ }
     ensures { λ r. ⌜ Comes (playedFrom (startOf (now (s .entry))) (now (script .entry)) (now (log .entry))) (now (log .exit)) r ⌝ }
 {
+    let mut forms = [0usize; 4096];
     let mut threads = [0usize; 128];
     let mut made = [0usize; 128];
     let mut types = [0usize; 1024];
@@ -95,6 +110,7 @@ pub fn play_accepted(s: &[u8], script: &[u8], log: &mut [u8]) -> Answer
         s,
         script,
         log,
+        &mut forms,
         &mut threads,
         &mut made,
         &mut types,

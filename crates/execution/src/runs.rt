@@ -1,9 +1,9 @@
 // A run under a script: a move a turn, and its record of eight bytes.
 ghost use mathlib.Core.Path.{_≡_};
-ghost use Prim.Native.Nat.{_<_};
-ghost use Rattle.running.specs.Moves.{runLog};
-ghost use Rattle.execution.specs.Begins.{startOf, movesOf, ranOver, Lent};
-ghost use Rattle.execution.specs.Runs.{Going, Turned};
+ghost use mathlib.Core.List.{List};
+ghost use Prim.Native.Nat.{ℕ, _<_};
+ghost use Rattle.execution.specs.Begins.{ranOver, Lent};
+ghost use Rattle.execution.specs.Runs.{Going, Ongoing, Turned};
 use crate::Point;
 use script::MoveRead;
 use script::moves::move_at;
@@ -12,7 +12,7 @@ use transitions::moves::step;
 
 // Makes the next of `count` moves and writes its record.
 fn turn(
-    s: &[u8],
+    forms: &[usize],
     script: &[u8],
     count: usize,
     p: Point,
@@ -23,12 +23,13 @@ fn turn(
     known: &mut [bool],
     cells: &mut [usize],
 ) -> Point
-    requires { ⌜ Going (now s) (now script) (runLog (startOf (now s)) (movesOf (now script))) count p (now log)
-        (now threads) (now types) (now known) (now cells)
+    requires { ⌜ Ongoing (now forms) (now script) count p (now log) (now threads) (now types) (now known) (now cells)
         × Lent (now threads) (now made) (now types) (now known) (now cells) × (p .done < count) ⌝ }
-    ensures { λ r. ⌜ Turned (now (s .entry)) (now (script .entry))
-        (runLog (startOf (now (s .entry))) (movesOf (now (script .entry)))) count p
-        (now (log .entry)) (now (log .exit)) (now (threads .exit)) (now (types .exit)) (now (known .exit)) (now (cells .exit)) r ⌝ }
+    ensures { λ r. ⌜ ((run : List ℕ)
+        → Going (now (forms .entry)) (now (script .entry)) run count p (now (log .entry))
+        (now (threads .entry)) (now (types .entry)) (now (known .entry)) (now (cells .entry))
+        → Turned (now (forms .entry)) (now (script .entry)) run count p
+        (now (log .entry)) (now (log .exit)) (now (threads .exit)) (now (types .exit)) (now (known .exit)) (now (cells .exit)) r) ⌝ }
 {
     let at = p.done * 8;
     let done = p.done + 1;
@@ -38,7 +39,7 @@ fn turn(
     };
     let next = found.next;
     let m = found.step;
-    let moved = step(s, m, p.sizes, threads, made, types, known, cells);
+    let moved = step(forms, m, p.sizes, threads, made, types, known, cells);
     let sizes = moved.sizes;
     write_record(log, at, moved.line);
     Point {
@@ -50,7 +51,7 @@ fn turn(
 
 // Makes the moves left of `count` moves.
 pub fn run(
-    s: &[u8],
+    forms: &[usize],
     script: &[u8],
     count: usize,
     begin: Point,
@@ -61,13 +62,26 @@ pub fn run(
     known: &mut [bool],
     cells: &mut [usize],
 )
-    requires { ⌜ Going (now s) (now script) (runLog (startOf (now s)) (movesOf (now script))) count begin (now log)
-        (now threads) (now types) (now known) (now cells)
+    requires { ⌜ Ongoing (now forms) (now script) count begin (now log) (now threads) (now types) (now known) (now cells)
         × Lent (now threads) (now made) (now types) (now known) (now cells) ⌝ }
-    ensures { λ _. ⌜ now (log .exit) ≡ ranOver (runLog (startOf (now (s .entry))) (movesOf (now (script .entry)))) (now (log .entry)) ⌝ }
+    ensures { λ _. ⌜ ((run : List ℕ)
+        → Going (now (forms .entry)) (now (script .entry)) run count begin (now (log .entry))
+        (now (threads .entry)) (now (types .entry)) (now (known .entry)) (now (cells .entry))
+        → now (log .exit) ≡ ranOver run (now (log .entry))) ⌝ }
 {
     let mut p = begin;
     while p.done < count {
-        p = turn(s, script, count, p, log, threads, made, types, known, cells);
+        p = turn(
+            forms,
+            script,
+            count,
+            p,
+            log,
+            threads,
+            made,
+            types,
+            known,
+            cells,
+        );
     }
 }

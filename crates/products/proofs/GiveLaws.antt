@@ -16,7 +16,7 @@ use Rattle.products.specs.declared.Sizes.{Sizes}
 use Rattle.products.specs.Makes.{Ready, Grows, Gives, sizesGiven, typesGiven, cellsGiven}
 
 -- Nothing is made.
-pub grows-none : {s : List ℕ} {t : Place} {z : Sizes} {made types cells : List ℕ} → Ready s t z made types cells → Grows z 0 0 cells cells z
+pub grows-none : {t : Place} {z : Sizes} {made types cells : List ℕ} → Ready t z made types cells → Grows z 0 0 cells cells z
 grows-none r = record {
   threads = omega (arith, r .few);
   names = omega (arith, r .given);
@@ -26,13 +26,13 @@ grows-none r = record {
 }
 
 -- One level deeper, at another place.
-pub ready-deeper : {s : List ℕ} {t : Place} {z : Sizes} {made types cells : List ℕ} (at : ℕ) → Ready s t z made types cells
-    → Ready s (record { component = t .component; env = t .env; names = t .names; nest = t .nest - 1; at = at }) z made types cells
-ready-deeper at h = record {
-  short = h .short;
+pub ready-deeper : {t : Place} {z : Sizes} {made types cells : List ℕ} (at : ℕ) → at < 8192 → Ready t z made types cells
+    → Ready (record { component = t .component; env = t .env; names = t .names; nest = t .nest - 1; at = at }) z made types cells
+ready-deeper at p h = record {
   component = h .component;
-  names = h .names;
-  nest = omega (arith, h .nest);
+  scope = omega (arith, h .scope);
+  deep = omega (arith, h .deep);
+  place = p;
   env = h .env;
   few = h .few;
   given = h .given;
@@ -43,15 +43,15 @@ ready-deeper at h = record {
 }
 
 -- After another walk, at the place after it.
-module _ (s : List ℕ) (t : Place) (z z′ : Sizes) (made made′ types types′ cells cells′ : List ℕ)
+module _ (t : Place) (z z′ : Sizes) (made made′ types types′ cells cells′ : List ℕ)
     (same-made : length made′ ≡ length made) (same-types : length types′ ≡ length types) (same-cells : length cells′ ≡ length cells) where
-  pub ready-after : (component at : ℕ) {more new : ℕ} → component < 256 → Grows z more new cells cells′ z′ → Ready s t z made types cells
-      → Ready s (record { component = component; env = t .env; names = t .names; nest = t .nest; at = at }) z′ made′ types′ cells′
-  ready-after component at p g h = record {
-    short = h .short;
+  pub ready-after : (component at : ℕ) {more new : ℕ} → component < 256 → at < 8192 → Grows z more new cells cells′ z′ → Ready t z made types cells
+      → Ready (record { component = component; env = t .env; names = t .names; nest = t .nest; at = at }) z′ made′ types′ cells′
+  ready-after component at p q g h = record {
     component = p;
-    names = h .names;
-    nest = h .nest;
+    scope = h .scope;
+    deep = h .deep;
+    place = q;
     env = omega (arith, h .env, g .cells);
     few = omega (arith, g .threads);
     given = omega (arith, g .names);
@@ -73,17 +73,17 @@ given-small z z₁ u env types types₁ cells cells₁ h k g =
     (rw (name, cell) at (g .sizes), rw (name, cell) at (g .typed), rw (name, cell) at (g .bound-to))
 
 -- One name given, and what the walk under it begins with; `env` is its cell. The name counts only where it fits.
-pub record Given (s : List ℕ) (t : Place) (u : ℕ) (z z₁ : Sizes) (env : ℕ) (made types types₁ cells cells₁ : List ℕ) : Type 0 where
+pub record Given (t : Place) (u : ℕ) (z z₁ : Sizes) (env : ℕ) (made types types₁ cells cells₁ : List ℕ) : Type 0 where
   pub one : Grows z 0 1 cells cells₁ z₁
   pub threads : z₁ .threads ≡ z .threads
-  pub ready : Ready s (record { component = t .component; env = env; names = t .names + 1; nest = t .nest; at = t .at }) z₁ made types₁ cells₁
+  pub ready : Ready (record { component = t .component; env = env; names = t .names + 1; nest = t .nest; at = t .at }) z₁ made types₁ cells₁
   pub before : take (z .names) types₁ ≡ take (z .names) types
   pub number : z₁ .names ≤ 1024 → z₁ .names ≡ z .names + 1
   pub typed : z₁ .names ≤ 1024 → take (z₁ .names) types₁ ≡ take (z .names) types ++ (u ∷ [])
   pub widened : z₁ .names ≤ 1024 → chain cells₁ (t .names + 1) env ≡ chain cells (t .names) (t .env) ++ (z .names ∷ [])
 
-module _ (s : List ℕ) (t : Place) (u : ℕ) (z z₁ : Sizes) (env : ℕ) (made types types₁ cells cells₁ : List ℕ)
-    (lt : t .names < 64) (ready : Ready s t z made types cells) (ie : env ≡ z₁ .cells - 1) where
+module _ (t : Place) (u : ℕ) (z z₁ : Sizes) (env : ℕ) (made types types₁ cells cells₁ : List ℕ)
+    (lt : t .names + t .nest < 128) (ready : Ready t z made types cells) (ie : env ≡ z₁ .cells - 1) where
   -- Where there is a number left.
   module _ (small : z .names < 1024) (iz : z₁ ≡ record { threads = z .threads; names = z .names + 1; cells = z .cells + 1 })
       (it : types₁ ≡ set types (z .names) u) (ic : cells₁ ≡ bound cells (z .cells) (t .env) (z .names)) where
@@ -110,12 +110,12 @@ module _ (s : List ℕ) (t : Place) (u : ℕ) (z z₁ : Sizes) (env : ℕ) (made
         rw (ic, env-is) (chain-bound cells (t .names) (z .cells) (t .env) (z .names) (ready .env)
         (omega (arith, ready .slack, ready .cells-room)) (omega (arith, ready .slack)) (omega arith))
 
-    ready-given : Ready s (record { component = t .component; env = env; names = t .names + 1; nest = t .nest; at = t .at }) z₁ made types₁ cells₁
+    ready-given : Ready (record { component = t .component; env = env; names = t .names + 1; nest = t .nest; at = t .at }) z₁ made types₁ cells₁
     ready-given = rw (iz, it, ic, env-is) (record {
-      short = ready .short;
       component = ready .component;
-      names = omega arith;
-      nest = ready .nest;
+      scope = omega arith;
+      deep = ready .deep;
+      place = ready .place;
       env = omega arith;
       few = ready .few;
       given = omega arith;
@@ -125,7 +125,7 @@ module _ (s : List ℕ) (t : Place) (u : ℕ) (z z₁ : Sizes) (env : ℕ) (made
       cells-room = rw (bound-length cells (z .cells) (t .env) (z .names)) (ready .cells-room);
     })
 
-    given-next : Given s t u z z₁ env made types types₁ cells cells₁
+    given-next : Given t u z z₁ env made types types₁ cells cells₁
     given-next = record {
       one = one-more;
       threads = ap (λ x. x .threads) iz;
@@ -154,12 +154,12 @@ module _ (s : List ℕ) (t : Place) (u : ℕ) (z z₁ : Sizes) (env : ℕ) (made
       kept = refl;
     })
 
-    ready-full : Ready s (record { component = t .component; env = env; names = t .names + 1; nest = t .nest; at = t .at }) z₁ made types₁ cells₁
+    ready-full : Ready (record { component = t .component; env = env; names = t .names + 1; nest = t .nest; at = t .at }) z₁ made types₁ cells₁
     ready-full = rw (iz, it, ic, env-last) (record {
-      short = ready .short;
       component = ready .component;
-      names = omega arith;
-      nest = ready .nest;
+      scope = omega arith;
+      deep = ready .deep;
+      place = ready .place;
       env = omega (arith, ready .env);
       few = ready .few;
       given = omega arith;
@@ -169,7 +169,7 @@ module _ (s : List ℕ) (t : Place) (u : ℕ) (z z₁ : Sizes) (env : ℕ) (made
       cells-room = ready .cells-room;
     })
 
-    given-none : Given s t u z z₁ env made types types₁ cells cells₁
+    given-none : Given t u z z₁ env made types types₁ cells cells₁
     given-none = record {
       one = one-too-many;
       threads = ap (λ x. x .threads) iz;
@@ -180,11 +180,11 @@ module _ (s : List ℕ) (t : Place) (u : ℕ) (z z₁ : Sizes) (env : ℕ) (made
       widened = λ few. absurd (omega (arith, too-large));
     }
 
-  pub name-given : Gives z u (t .env) types types₁ cells cells₁ z₁ → Given s t u z z₁ env made types types₁ cells cells₁
+  pub name-given : Gives z u (t .env) types types₁ cells cells₁ z₁ → Given t u z z₁ env made types types₁ cells cells₁
   unfolding sizesGiven typesGiven cellsGiven
   name-given g = go (ltb (z .names) 1024) refl
     where
-      go : (b : Bool) → ltb (z .names) 1024 ≡ b → Given s t u z z₁ env made types types₁ cells cells₁
+      go : (b : Bool) → ltb (z .names) 1024 ≡ b → Given t u z z₁ env made types types₁ cells cells₁
       go true h =
           let small : z .names < 1024 = ltb-true (z .names) 1024 h in
           let k = given-small z z₁ u (t .env) types types₁ cells cells₁ small (omega (arith, ready .slack)) g in

@@ -5,12 +5,11 @@ use mathlib.Core.List.{List}
 use lib.ListN.{set}
 use borrow.Author.Needs.{needs}
 use borrow.Author.Tests.{lt-ltb, le-ltb}
-use Rattle.reading.specs.Total.{processTree}
 use Rattle.memory.specs.Threads.{packed}
 use Rattle.memory.specs.Chains.{bound}
 use Rattle.memory.specs.declared.Thread.{Thread as Place}
 use Rattle.products.specs.declared.Sizes.{Sizes}
-use Rattle.products.specs.Makes.{Gives, Pushes, ThreadMade, sizesGiven, typesGiven, cellsGiven, sizesPushed, threadsPushed}
+use Rattle.products.specs.Makes.{Gives, Pushes, sizesGiven, typesGiven, cellsGiven, sizesPushed, threadsPushed}
 
 module _ (z r : Sizes) (t env : ℕ) (types cells : List ℕ) (full : r ≡ record { threads = z .threads; names = 1025; cells = z .cells }) where
   pub no-name : 1024 ≤ z .names → Gives z t env types types cells cells r
@@ -48,8 +47,4 @@ module _ (z : Sizes) (t : Place) (made : List ℕ) where
     last = rw (lt-ltb (z .threads) 64 h) (f ∙ ap (set made (z .threads)) e);
   }
 
-pub thread-made : (s : List ℕ) (z z′ : Sizes) (t : Place) (made made′ : List ℕ) (next : ℕ) → next ≡ processTree (t .nest) s (t .names) (t .at) .next
-    → Pushes z t made made′ z′ → ThreadMade s z t made made′ (record { next = next; sizes = z′ })
-thread-made s z z′ t made made′ next e p = record { place = e; pushed = p }
-
-pub ruleset giving-steps = (needs, no-name, no-cell, one-given, no-room, one-pushed, thread-made)
+pub ruleset giving-steps = (needs, no-name, no-cell, one-given, no-room, one-pushed)

@@ -36,16 +36,18 @@ pub grows-cong : {z z′ : Sizes} {a b a′ b′ : ℕ} {cells cells′ : List �
 grows-cong e f g = rw (← e, ← f) g
 
 -- Threads in memory while cells are added.
-module _ (s cells cells′ : List ℕ) (top top′ : ℕ) (kept : take top cells′ ≡ take top cells) (grows : top ≤ top′) where
-  runs-kept : (w : ℕ) (t : Thread) → Runs s cells top w t → Runs s cells′ top′ w t
+module _ (forms cells cells′ : List ℕ) (top top′ : ℕ) (kept : take top cells′ ≡ take top cells) (grows : top ≤ top′) where
+  runs-kept : (w : ℕ) (t : Thread) → Runs forms cells top w t → Runs forms cells′ top′ w t
   runs-kept w t r = record {
     env = omega (arith, r .env);
     component = r .component;
     names = r .names ∙ chain-kept cells cells′ top (unpacked w .names) (unpacked w .env) (sym kept) (r .env);
     process = r .process;
+    scope = r .scope;
+    deep = r .deep;
   }
 
-  pub all-kept : {ws : List ℕ} {ts : List Thread} → Pairs (Runs s cells top) ws ts → Pairs (Runs s cells′ top′) ws ts
+  pub all-kept : {ws : List ℕ} {ts : List Thread} → Pairs (Runs forms cells top) ws ts → Pairs (Runs forms cells′ top′) ws ts
   all-kept p = pairs-map runs-kept p
 
 -- The threads made are as many as counted.

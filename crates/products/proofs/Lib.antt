@@ -2,7 +2,6 @@
 pub mod PairLaws
 pub mod GrowLaws
 pub mod GiveLaws
-pub mod SkipSteps
 pub mod GivingSteps
 pub mod MakeSteps
 pub mod SystemSteps

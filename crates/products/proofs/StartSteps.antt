@@ -10,19 +10,20 @@ use borrow.Author.Needs.{needs}
 use lib.ListN.{length, getD, take, set, replicate, length-append, length-set}
 use lib.Seq.{take-suc-set}
 use Rattle.reading.proofs.Parts.{parts, never, below-found}
-use Rattle.reading.proofs.TotalLaws.{system-total}
-use Rattle.reading.proofs.TreeLaws.{free-count}
+use Rattle.reading.proofs.TreeLaws.{free-count, components-few}
 use Rattle.reading.specs.declared.Dialect.the-variants.{Current as current}
 use Rattle.reading.specs.Read.{got, refused, andThen, below}
-use Rattle.reading.specs.Syntax.{Sheet}
-use Rattle.reading.specs.System.{freeTypesIn, freeTypes, headerIn, readSheet}
+use Rattle.reading.specs.Syntax.{Sheet, components}
+use Rattle.reading.specs.System.{freeTypesIn, freeTypes, headerIn, readSystem, readSheet}
 use Rattle.reading.specs.Told.{number}
-use Rattle.reading.specs.Total.{systemTree}
 use Rattle.reading.specs.Types.{typeAt}
 use Rattle.reading.specs.declared.Number.{Number}
 use Rattle.reading.specs.declared.NumberRead.{NumberRead}
 use Rattle.reading.specs.declared.NumberRead.the-variants as number-read
 use Rattle.reading.specs.declared.Refusal.{Refusal}
+use Rattle.decoding.specs.Notes.{SystemNoted}
+use Rattle.decoding.specs.Tables.{systemIn}
+use Rattle.decoding.proofs.NoteSteps.{system-in}
 use Rattle.inference.specs.Lists.{rising}
 use Rattle.inference.proofs.SheetSteps.{SheetParts, sheet-parts}
 use Rattle.running.specs.Products.{start, systemNews}
@@ -248,18 +249,18 @@ free-counted s sheet h =
     let number : length (sheet .free) ≡ p .value = free-count current (p .value) s (p .place) (p .rest) in
     (rw (p .first) (sym number), omega (arith, below-found 33 s 0 (p .first)))
 
--- What the walk over the system makes of the sheet.
-module _ (s threads threads′ types types₁ types′ cells cells₁ cells′ path : List ℕ) (g : Made) (m : MadeSystem) where
+-- What the walk over the system makes of the sheet, from the forms that were noted.
+module _ (s forms₀ forms threads threads′ types types₁ types′ cells cells₁ cells′ : List ℕ) (g : Made) (noted : ℕ) (m : MadeSystem) where
   abbrev place : Place
   place = record { component = 0; env = g .sizes .names; names = g .sizes .names; nest = 64; at = g .next }
 
-  pub sheet-made : path ≡ [] → GivenFree s types types₁ cells cells₁ g
-      → (0 ≤ 32 → Ready s place (g .sizes) threads types₁ cells₁
-      → MakesSystem s place (systemTree 64 s (g .sizes .names) path 0 (g .next)) (g .sizes) threads threads′ types₁ types′ cells₁ cells′ m)
-      → 64 ≤ length threads → Room types cells → (sheet : Sheet) (end : ℕ) → length s ≤ 4096 → readSheet s ≡ got sheet end
-      → MadeSheet s sheet threads′ types′ cells′ (m .sizes)
+  pub sheet-made : GivenFree s types types₁ cells cells₁ g → SystemNoted s (g .next) 64 forms₀ forms noted
+      → (0 + components (systemIn 64 forms (g .next)) ≤ 32 → Ready place (g .sizes) threads types₁ cells₁
+      → MakesSystem forms place (systemIn 64 forms (g .next)) (g .sizes) threads threads′ types₁ types′ cells₁ cells′ m)
+      → length forms₀ ≡ 4096 → 64 ≤ length threads → Room types cells → (sheet : Sheet) (end : ℕ) → length s ≤ 4096 → readSheet s ≡ got sheet end
+      → MadeSheet forms sheet threads′ types′ cells′ (m .sizes)
   unfolding start
-  sheet-made e f makes long room sheet end short read =
+  sheet-made f notes makes wide long room sheet end short read =
       let p = sheet-parts s sheet end read in
       let free = sheet .free in
       let count = length (sheet .free) in
@@ -269,11 +270,12 @@ module _ (s threads threads′ types types₁ types′ cells cells₁ cells′ p
       let threads-are : g .sizes .threads ≡ 0 = ap (λ x. x .threads) (n .sizes) in
       let names-are : g .sizes .names ≡ count = ap (λ x. x .names) (n .sizes) in
       let cells-are : g .sizes .cells ≡ count + 1 = ap (λ x. x .cells) (n .sizes) in
-      let ready : Ready s place (g .sizes) threads types₁ cells₁ = record {
-        short = short;
+      let body : readSystem 64 s count [] 0 (g .next) ≡ got (sheet .system) (p .end) = rw (b .0) (p .body) in
+      let ready : Ready place (g .sizes) threads types₁ cells₁ = record {
         component = omega arith;
-        names = omega (arith, names-are);
-        nest = omega arith;
+        scope = omega (arith, names-are);
+        deep = omega arith;
+        place = omega (arith, short, system-in s (g .next) 64 count [] 0 body);
         env = omega (arith, names-are, cells-are);
         few = omega (arith, threads-are);
         given = omega (arith, names-are);
@@ -282,9 +284,10 @@ module _ (s threads threads′ types types₁ types′ cells cells₁ cells′ p
         types-room = n .room .type-room;
         cells-room = n .room .cell-room;
       } in
-      let tree : systemTree 64 s (g .sizes .names) path 0 (g .next) ≡ record { tree = sheet .system; next = p .end }
-      = rw (e, names-are, b .0) (system-total 64 s count [] 0 (p .at) (sheet .system) (p .end) (p .body)) in
-      let w = rw tree at (makes (omega arith) ready) in
+      let n-forms = notes (record { short = short; long = omega (arith, short, wide) }) count [] 0 (sheet .system) (p .end) body in
+      let tree : systemIn 64 forms (g .next) ≡ sheet .system = n-forms .decoded forms (λ i h k. refl) in
+      let few-components : components (sheet .system) ≤ 32 = (let f = components-few current 64 s count [] 0 (g .next) (omega arith) body in omega arith) in
+      let w = rw tree at (makes (rw tree (omega (arith, few-components))) ready) in
       let scope : chain cells₁ (g .sizes .names) (g .sizes .names) ≡ rising 0 count = rw names-are (n .chained) in
       let types-are : take (g .sizes .names) types₁ ≡ free = rw names-are (n .typed) in
       record {
@@ -298,14 +301,15 @@ module _ (s threads threads′ types types₁ types′ cells cells₁ cells′ p
       }
 
 -- The whole start.
-pub started : (s threads threads′ types types′ : List ℕ) (known known′ : List Bool) (cells cells′ : List ℕ) (c : Number) (z : Sizes)
-    → Blank threads types known cells → c ≡ freeCount s → known′ ≡ firstKnown (c .value) known
-    → (64 ≤ length threads → Room types cells → (sheet : Sheet) (end : ℕ) → length s ≤ 4096 → readSheet s ≡ got sheet end → MadeSheet s sheet threads′ types′ cells′ z)
-    → (sheet : Sheet) (end : ℕ) → length s ≤ 4096 → readSheet s ≡ got sheet end → Starts s sheet threads′ types′ known′ cells′ z
+pub started : (s forms₀ forms threads threads′ types types′ : List ℕ) (known known′ : List Bool) (cells cells′ : List ℕ) (c : Number) (z : Sizes)
+    → Blank forms₀ threads types known cells → c ≡ freeCount s → known′ ≡ firstKnown (c .value) known
+    → (length forms₀ ≡ 4096 → 64 ≤ length threads → Room types cells → (sheet : Sheet) (end : ℕ) → length s ≤ 4096 → readSheet s ≡ got sheet end
+    → MadeSheet forms sheet threads′ types′ cells′ z)
+    → (sheet : Sheet) (end : ℕ) → length s ≤ 4096 → readSheet s ≡ got sheet end → Starts forms sheet threads′ types′ known′ cells′ z
 unfolding start
-started s threads threads′ types types′ known known′ cells cells′ c z blank e f makes sheet end short read =
+started s forms₀ forms threads threads′ types types′ known known′ cells cells′ c z blank e f makes sheet end short read =
     let count = free-counted s sheet (sheet-parts s sheet end read) in
-    let m = makes (omega (arith, blank .thread-room)) (record { type-room = blank .type-room; cell-room = blank .cell-room }) sheet end short read in
+    let m = makes (blank .form-room) (omega (arith, blank .thread-room)) (record { type-room = blank .type-room; cell-room = blank .cell-room }) sheet end short read in
     let known-are : known′ ≡ firstKnown (length (sheet .free)) known = rw (e, count .0) at f in
     record {
       crowded = m .crowded;
@@ -315,7 +319,6 @@ started s threads threads′ types types′ known known′ cells cells′ c z bl
           = omega (arith, m .named, length-append (sheet .free) (systemNews (sheet .system))) in
           let others : z .names - length (sheet .free) ≡ length (systemNews (sheet .system)) = omega arith in
           record {
-            short = short;
             few = fit;
             given = fits;
             slack = m .slack;

@@ -1,269 +1,246 @@
 -- What a system makes, return by return: what the parts of a form make is what the form makes.
 use Prim.Native.Nat.{ℕ, _+_, _-_, _*_, _<_, _≤_}
-use mathlib.Core.Bool.{true}
 use mathlib.Core.Path.{_≡_, refl, sym, ap, _∙_}
 use mathlib.Core.List.{List, [], _∷_, _++_, append-assoc, append-nil}
 use native.Mathlib.Omega.{arith}
 use borrow.Author.Needs.{needs}
-use lib.Dec.{ltb}
 use lib.ListN.{length, take, length-append}
-use Rattle.reading.specs.Read.{got}
-use Rattle.reading.specs.Forms.{systemAt}
 use Rattle.reading.specs.Syntax.{Process, System, nilₛ, parₛ, groupₛ, newₛ, compₛ, components}
-use Rattle.reading.specs.Told.{form}
-use Rattle.reading.specs.Total.{Grown, under, beside, systemGrown, processTree, systemTree}
 use Rattle.reading.specs.declared.Act.{Act as Fields}
-use Rattle.reading.specs.declared.Form.{Form}
 use Rattle.reading.specs.declared.Form.the-variants.{Nil, Par, Group, New, Component as Head, Input, Output, Replicate}
-use Rattle.reading.specs.declared.FormRead.{FormRead}
-use Rattle.reading.specs.declared.FormRead.the-variants as form-read
 use Rattle.reading.specs.declared.OwnFields.{OwnFields}
-use Rattle.reading.specs.declared.Place.{Place as Found}
-use Rattle.reading.specs.declared.Refusal.{Refusal}
-use Rattle.reading.proofs.TotalLaws.{system-nest, system-names, group-room, component-number, system-step, system-stop}
+use Rattle.decoding.specs.declared.Item.{Item}
+use Rattle.decoding.specs.Words.{itemAt}
+use Rattle.decoding.specs.Tables.{processIn, systemOf, systemIn}
+use Rattle.decoding.proofs.TableLaws.{system-formed, next-near, second-near}
 use Rattle.inference.specs.Acts.{componentAt}
 use Rattle.running.specs.Products.{systemNews, systemThreads}
 use Rattle.memory.specs.Chains.{chain}
 use Rattle.memory.specs.declared.Thread.{Thread as Place}
 use Rattle.memory.proofs.ChainLaws.{chain-kept}
 use Rattle.products.specs.declared.Sizes.{Sizes}
-use Rattle.products.specs.declared.Made.{Made}
 use Rattle.products.specs.declared.MadeSystem.{MadeSystem}
 use Rattle.products.specs.Makes.{Ready, Makes, MakesSystem, Gives, systemCrowd}
 use Rattle.products.proofs.GrowLaws.{grows-then, grows-cong, all-kept}
 use Rattle.products.proofs.GiveLaws.{grows-none, ready-deeper, ready-after, name-given}
+use Rattle.products.proofs.MakeSteps.{nest-left, falls}
 
 -- Nothing is made.
-nothing : (s : List ℕ) (t : Place) (tree : Grown System) (at : ℕ) (z : Sizes) (made types cells : List ℕ) → tree ≡ record { tree = nilₛ; next = at }
-    → t .component ≤ 32 → Ready s t z made types cells
-    → MakesSystem s t tree z made made types types cells cells (record { next = at; components = t .component; sizes = z })
+nothing : (forms : List ℕ) (t : Place) (p : System) (z : Sizes) (made types cells : List ℕ) → p ≡ nilₛ → Ready t z made types cells
+    → MakesSystem forms t p z made made types types cells cells (record { components = t .component; sizes = z })
 unfolding components systemCrowd systemNews systemThreads
-nothing s t tree at z made types cells e few-components r = rw e (record {
-  place = refl;
+nothing forms t p z made types cells e r = rw e (record {
   number = omega arith;
-  few-components = few-components;
   grows = grows-none r;
   given = λ few. sym (append-nil (take (z .names) types));
   products = λ few given path ts p. rw (append-nil ts) p;
 })
 
--- The form at a place.
-module _ (s : List ℕ) (at n names : ℕ) (path : List ℕ) (components : ℕ) where
-  pub found : (q : FormRead) (p : Found) → form q ≡ systemAt s at n names path components → q ≡ form-read.Found p
-      → systemAt s at n names path components ≡ got (p .form) (p .next)
-  found q p e h = sym (rw h at e)
+pub no-nest : (forms : List ℕ) (t : Place) (z : Sizes) (made types cells : List ℕ) → t .nest ≡ 0
+    → t .component + components (systemIn (t .nest) forms (t .at)) ≤ 32 → Ready t z made types cells
+    → MakesSystem forms t (systemIn (t .nest) forms (t .at)) z made made types types cells cells (record { components = t .component; sizes = z })
+unfolding systemIn
+no-nest forms t z made types cells e few = nothing forms t (systemIn (t .nest) forms (t .at)) z made types cells (rw e refl)
 
-  module _ (f : Form) (next : ℕ) (e : systemAt s at n names path components ≡ got f next) where
-    pub nest-left : 1 ≤ n
-    nest-left = system-nest s at n names path components e
-
-    pub falls : (m : ℕ) → n * 3 ≡ m → (n - 1) * 3 + 2 < m
-    falls m h = omega (arith, nest-left)
-
-    pub falls-group : (m : ℕ) → n * 3 ≡ m → (n - 1) * 3 + 1 < m
-    falls-group m h = omega (arith, nest-left)
-
-    pub new-fits : (u : ℕ) → f ≡ New u → names < 64
-    new-fits u h = system-names s at n names path components (rw h at e)
-
-    pub head-fits : (own : OwnFields) → f ≡ Head own → components < 32
-    head-fits own h = component-number s at n names path components (rw h at e)
-
-pub no-form : (s : List ℕ) (t : Place) (path : List ℕ) (z : Sizes) (made types cells : List ℕ) (r : FormRead) (q : Refusal)
-    → form r ≡ systemAt s (t .at) (t .nest) (t .names) path (t .component) → r ≡ form-read.Refused q → t .component ≤ 32 → Ready s t z made types cells
-    → MakesSystem s t (systemTree (t .nest) s (t .names) path (t .component) (t .at)) z made made types types cells cells
-    (record { next = t .at; components = t .component; sizes = z })
-no-form s t path z made types cells r q e h =
-    nothing s t (systemTree (t .nest) s (t .names) path (t .component) (t .at)) (t .at) z made types cells
-    (system-stop (t .nest) s (t .names) path (t .component) (t .at) (q .question) (q .at) (sym (rw h at e)))
+-- How far down the walk is.
+pub falls-group : (n m : ℕ) → 0 < n → n * 3 ≡ m → (n - 1) * 3 + 1 < m
+falls-group n m h e = omega arith
 
 -- The arms of the match on a form.
-module _ (s : List ℕ) (t : Place) (path : List ℕ) (f : Form) (next : ℕ) (e : systemAt s (t .at) (t .nest) (t .names) path (t .component) ≡ got f next)
+module _ (forms : List ℕ) (t : Place) (item : Item) (e : item ≡ itemAt forms (t .at)) (left : 0 < t .nest)
     (z : Sizes) (made made′ types types′ cells cells′ : List ℕ) where
-  abbrev tree : Grown System
-  tree = systemTree (t .nest) s (t .names) path (t .component) (t .at)
+  abbrev whole : System
+  whole = systemIn (t .nest) forms (t .at)
 
   abbrev inner : Place
-  inner = record { component = t .component; env = t .env; names = t .names; nest = t .nest - 1; at = next }
+  inner = record { component = t .component; env = t .env; names = t .names; nest = t .nest - 1; at = item .next }
 
-  grown : tree
-      ≡ systemGrown (λ ns p j m. systemTree (t .nest - 1) s ns p j m) (λ m. processTree (t .nest - 1) s (t .names) m) (t .at) (t .names) path (t .component) f next
-  grown = system-step (t .nest) s (t .names) path (t .component) (t .at) f next e
+  abbrev part : ℕ → System
+  part m = systemIn (t .nest - 1) forms m
 
-  pub form-nil : f ≡ Nil → t .component ≤ 32 → Ready s t z made types cells
-      → MakesSystem s t tree z made made types types cells cells (record { next = next; components = t .component; sizes = z })
-  unfolding systemGrown
-  form-nil h = nothing s t tree next z made types cells (rw h at grown)
+  formed : whole ≡ systemOf (λ m. part m) (λ m. processIn (t .nest - 1) forms m) (item .form) (item .next) (item .second)
+  formed = rw e (system-formed (t .nest) forms (t .at) left)
 
-  pub form-input : (a : Fields) → f ≡ Input a → t .component ≤ 32 → Ready s t z made types cells
-      → MakesSystem s t tree z made made types types cells cells (record { next = t .at; components = t .component; sizes = z })
-  unfolding systemGrown
-  form-input a h = nothing s t tree (t .at) z made types cells (rw h at grown)
+  vanished : whole ≡ nilₛ → t .component + components whole ≤ 32 → Ready t z made types cells
+      → MakesSystem forms t whole z made made types types cells cells (record { components = t .component; sizes = z })
+  vanished h few = nothing forms t whole z made types cells h
 
-  pub form-output : (a : Fields) → f ≡ Output a → t .component ≤ 32 → Ready s t z made types cells
-      → MakesSystem s t tree z made made types types cells cells (record { next = t .at; components = t .component; sizes = z })
-  unfolding systemGrown
-  form-output a h = nothing s t tree (t .at) z made types cells (rw h at grown)
+  pub form-nil : item .form ≡ Nil → t .component + components whole ≤ 32 → Ready t z made types cells
+      → MakesSystem forms t whole z made made types types cells cells (record { components = t .component; sizes = z })
+  unfolding systemOf
+  form-nil h = vanished (rw h at formed)
 
-  pub form-repl : f ≡ Replicate → t .component ≤ 32 → Ready s t z made types cells
-      → MakesSystem s t tree z made made types types cells cells (record { next = t .at; components = t .component; sizes = z })
-  unfolding systemGrown
-  form-repl h = nothing s t tree (t .at) z made types cells (rw h at grown)
+  pub form-input : (a : Fields) → item .form ≡ Input a → t .component + components whole ≤ 32 → Ready t z made types cells
+      → MakesSystem forms t whole z made made types types cells cells (record { components = t .component; sizes = z })
+  unfolding systemOf
+  form-input a h = vanished (rw h at formed)
+
+  pub form-output : (a : Fields) → item .form ≡ Output a → t .component + components whole ≤ 32 → Ready t z made types cells
+      → MakesSystem forms t whole z made made types types cells cells (record { components = t .component; sizes = z })
+  unfolding systemOf
+  form-output a h = vanished (rw h at formed)
+
+  pub form-repl : item .form ≡ Replicate → t .component + components whole ≤ 32 → Ready t z made types cells
+      → MakesSystem forms t whole z made made types types cells cells (record { components = t .component; sizes = z })
+  unfolding systemOf
+  form-repl h = vanished (rw h at formed)
 
   module _ (r : MadeSystem) where
-    within : (u : Grown System) → tree ≡ u → (Ready s inner z made types cells → MakesSystem s inner u z made made′ types types′ cells cells′ r)
-        → Ready s t z made types cells → MakesSystem s t tree z made made′ types types′ cells cells′ r
-    within u h m ready =
-        let k = m (ready-deeper next ready) in
-        rw h (record { place = k .place; number = k .number; few-components = k .few-components; grows = k .grows; given = k .given; products = k .products })
+    -- What its parts make, where there are as many components.
+    within : (p : System) → whole ≡ p
+        → (t .component + components p ≤ 32 → Ready inner z made types cells → MakesSystem forms inner p z made made′ types types′ cells cells′ r)
+        → t .component + components whole ≤ 32 → Ready t z made types cells → MakesSystem forms t whole z made made′ types types′ cells cells′ r
+    within p h m few ready =
+        let k = m (rw h at few) (ready-deeper (item .next) (rw e (next-near forms (t .at))) ready) in
+        rw h (record { number = k .number; grows = k .grows; given = k .given; products = k .products })
 
-    pub form-par : f ≡ Par
-        → (t .component ≤ 32 → Ready s inner z made types cells
-        → MakesSystem s inner (beside parₛ (systemTree (t .nest - 1) s (t .names) path (t .component) next)
-        (λ l m. systemTree (t .nest - 1) s (t .names) path (t .component + components l) m)) z made made′ types types′ cells cells′ r)
-        → t .component ≤ 32 → Ready s t z made types cells → MakesSystem s t tree z made made′ types types′ cells cells′ r
-    unfolding systemGrown
-    form-par h m few = within _ (rw h at grown) (m few)
+    pub form-par : item .form ≡ Par
+        → (item .second < 8192 → t .component + components (parₛ (part (item .next)) (part (item .second))) ≤ 32 → Ready inner z made types cells
+        → MakesSystem forms inner (parₛ (part (item .next)) (part (item .second))) z made made′ types types′ cells cells′ r)
+        → t .component + components whole ≤ 32 → Ready t z made types cells → MakesSystem forms t whole z made made′ types types′ cells cells′ r
+    unfolding systemOf
+    form-par h m = within _ (rw h at formed) (m (rw e (second-near forms (t .at))))
 
-    pub form-new : (u : ℕ) → f ≡ New u
-        → (t .component ≤ 32 → Ready s inner z made types cells
-        → MakesSystem s inner (under (newₛ u) (systemTree (t .nest - 1) s (t .names + 1) path (t .component) next)) z made made′ types types′ cells cells′ r)
-        → t .component ≤ 32 → Ready s t z made types cells → MakesSystem s t tree z made made′ types types′ cells cells′ r
-    unfolding systemGrown
-    form-new u h m few = within _ (rw h at grown) (m few)
+    pub form-new : (u : ℕ) → item .form ≡ New u
+        → (t .names + (t .nest - 1) < 128 → t .component + components (part (item .next)) ≤ 32 → Ready inner z made types cells
+        → MakesSystem forms inner (newₛ u (part (item .next))) z made made′ types types′ cells cells′ r)
+        → t .component + components whole ≤ 32 → Ready t z made types cells → MakesSystem forms t whole z made made′ types types′ cells cells′ r
+    unfolding systemOf components
+    form-new u h m few ready = within _ (rw h at formed) (m (omega (arith, ready .scope))) few ready
 
-    pub form-head : (own : OwnFields) → f ≡ Head own
-        → ((o : OwnFields) → Ready s inner z made types cells
-        → MakesSystem s inner (under (compₛ o) (processTree (t .nest - 1) s (t .names) next)) z made made′ types types′ cells cells′ r)
-        → t .component ≤ 32 → Ready s t z made types cells → MakesSystem s t tree z made made′ types types′ cells cells′ r
-    unfolding systemGrown
-    form-head own h m few = within _ (rw h at grown) (m own)
+    pub form-head : (own : OwnFields) → item .form ≡ Head own
+        → (t .component < 32 → (o : OwnFields) → Ready inner z made types cells
+        → MakesSystem forms inner (compₛ o (processIn (t .nest - 1) forms (item .next))) z made made′ types types′ cells cells′ r)
+        → t .component + components whole ≤ 32 → Ready t z made types cells → MakesSystem forms t whole z made made′ types types′ cells cells′ r
+    unfolding systemOf components
+    form-head own h m = within _ (rw h at formed) (λ few. m (omega arith) own)
 
-    under-group : (g : ℕ) (u : Grown System) → MakesSystem s inner u z made made′ types types′ cells cells′ r
-        → MakesSystem s inner (under (groupₛ g) u) z made made′ types types′ cells cells′ r
-    unfolding under components systemCrowd systemNews systemThreads
-    under-group g u m = record {
-      place = m .place;
+    under-group : (g : ℕ) (p : System) → MakesSystem forms inner p z made made′ types types′ cells cells′ r
+        → MakesSystem forms inner (groupₛ g p) z made made′ types types′ cells cells′ r
+    unfolding components systemCrowd systemNews systemThreads
+    under-group g p m = record {
       number = m .number;
-      few-components = m .few-components;
       grows = m .grows;
       given = m .given;
-      products = λ few given path ts p. m .products few given (path ++ (g ∷ [])) ts p;
+      products = λ few given path ts ps. m .products few given (path ++ (g ∷ [])) ts ps;
     }
 
-    pub form-group : (g : ℕ) (deeper : List ℕ) → f ≡ Group g → (ltb (length path) 8 ≡ true → deeper ≡ path ++ (g ∷ []))
-        → (t .component ≤ 32 → Ready s inner z made types cells
-        → MakesSystem s inner (systemTree (t .nest - 1) s (t .names) deeper (t .component) next) z made made′ types types′ cells cells′ r)
-        → t .component ≤ 32 → Ready s t z made types cells → MakesSystem s t tree z made made′ types types′ cells cells′ r
-    unfolding systemGrown
-    form-group g deeper h d m few =
-        let room : ltb (length path) 8 ≡ true = group-room s (t .at) (t .nest) (t .names) path (t .component) (rw h at e) in
-        within _ (rw h at grown) (λ ready. under-group g _ (rw (d room) at (m few ready)))
+    pub form-group : (g : ℕ) → item .form ≡ Group g
+        → (t .component + components (part (item .next)) ≤ 32 → Ready inner z made types cells
+        → MakesSystem forms inner (part (item .next)) z made made′ types types′ cells cells′ r)
+        → t .component + components whole ≤ 32 → Ready t z made types cells → MakesSystem forms t whole z made made′ types types′ cells cells′ r
+    unfolding systemOf components
+    form-group g h m = within _ (rw h at formed) (λ few ready. under-group g _ (m few ready))
 
 -- A component: its process.
-module _ (s : List ℕ) (t : Place) (tree : Grown Process) (z : Sizes) (made made′ types types′ cells cells′ : List ℕ) (r : Made) where
-  pub component-made : t .component < 32 → (Ready s t z made types cells → Makes s t tree z made made′ types types′ cells cells′ r)
-      → (own : OwnFields) → Ready s t z made types cells
-      → MakesSystem s t (under (compₛ own) tree) z made made′ types types′ cells cells′ (record { next = r .next; components = t .component + 1; sizes = r .sizes })
-  unfolding under components systemCrowd systemNews systemThreads componentAt
-  component-made h makes own ready =
+module _ (forms : List ℕ) (t : Place) (p : Process) (z z₁ : Sizes) (made made′ types types′ cells cells′ : List ℕ) where
+  pub component-made : (Ready t z made types cells → Makes forms t p z made made′ types types′ cells cells′ z₁)
+      → t .component < 32 → (own : OwnFields) → Ready t z made types cells
+      → MakesSystem forms t (compₛ own p) z made made′ types types′ cells cells′ (record { components = t .component + 1; sizes = z₁ })
+  unfolding components systemCrowd systemNews systemThreads componentAt
+  component-made makes few own ready =
       let m = makes ready in
       record {
-        place = m .place;
         number = refl;
-        few-components = omega arith;
         grows = m .grows;
         given = m .given;
-        products = λ few given path ts p. m .products few given (componentAt (t .component) path own) refl ts p;
+        products = λ few given path ts ps. m .products few given (componentAt (t .component) path own) refl ts ps;
       }
 
--- One system after another.
-module _ (s : List ℕ) (t : Place) (path : List ℕ) (z : Sizes) (made made₁ made′ types types₁ types′ cells cells₁ cells′ : List ℕ) (l r : MadeSystem)
-    (same-made : length made₁ ≡ length made) (same-types : length types₁ ≡ length types) (same-cells : length cells₁ ≡ length cells) where
-  abbrev first : Grown System
-  first = systemTree (t .nest) s (t .names) path (t .component) (t .at)
+-- Components and names that are too many for that.
+pub no-number : (forms : List ℕ) (t : Place) (p : Process) (z : Sizes) (made types cells : List ℕ) (r : MadeSystem) → 32 ≤ t .component → t .component < 32
+    → (own : OwnFields) → Ready t z made types cells → MakesSystem forms t (compₛ own p) z made made types types cells cells r
+no-number forms t p z made types cells r h few = absurd (omega arith)
 
-  abbrev second : Grown System
-  second = systemTree (t .nest) s (t .names) path (l .components) (l .next)
+pub no-scope : (forms : List ℕ) (t : Place) (u : ℕ) (p : System) (z : Sizes) (made types cells : List ℕ) (r : MadeSystem) → 128 ≤ t .names
+    → t .names + t .nest < 128 → t .component + components p ≤ 32 → Ready t z made types cells
+    → MakesSystem forms t (newₛ u p) z made made types types cells cells r
+no-scope forms t u p z made types cells r h lt = absurd (omega arith)
+
+-- One system after another.
+module _ (forms : List ℕ) (t : Place) (second : ℕ) (z : Sizes) (made made₁ made′ types types₁ types′ cells cells₁ cells′ : List ℕ) (l r : MadeSystem)
+    (same-made : length made₁ ≡ length made) (same-types : length types₁ ≡ length types) (same-cells : length cells₁ ≡ length cells) where
+  abbrev one : System
+  one = systemIn (t .nest) forms (t .at)
+
+  abbrev other : System
+  other = systemIn (t .nest) forms second
 
   abbrev rest : Place
-  rest = record { component = l .components; env = t .env; names = t .names; nest = t .nest; at = l .next }
+  rest = record { component = l .components; env = t .env; names = t .names; nest = t .nest; at = second }
 
-  pub after-left : (t .component ≤ 32 → Ready s t z made types cells → MakesSystem s t first z made made₁ types types₁ cells cells₁ l)
-      → (l .components ≤ 32 → Ready s rest (l .sizes) made₁ types₁ cells₁ → MakesSystem s rest second (l .sizes) made₁ made′ types₁ types′ cells₁ cells′ r)
-      → t .component ≤ 32 → Ready s t z made types cells
-      → MakesSystem s t (beside parₛ first (λ p m. systemTree (t .nest) s (t .names) path (t .component + components p) m))
-      z made made′ types types′ cells cells′ r
-  unfolding beside under components systemCrowd systemNews systemThreads
-  after-left mine theirs few-components ready =
-      let m = mine few-components ready in
-      let n = theirs (m .few-components) (ready-after s t z (l .sizes) made made₁ types types₁ cells cells₁ same-made same-types same-cells
-      (l .components) (l .next) (omega (arith, m .few-components)) (m .grows) ready) in
-      rw (← m .place, ← m .number) (record {
-        place = n .place;
+  pub after-left : (t .component + components one ≤ 32 → Ready t z made types cells → MakesSystem forms t one z made made₁ types types₁ cells cells₁ l)
+      → (l .components + components other ≤ 32 → Ready rest (l .sizes) made₁ types₁ cells₁
+      → MakesSystem forms rest other (l .sizes) made₁ made′ types₁ types′ cells₁ cells′ r)
+      → second < 8192 → t .component + components (parₛ one other) ≤ 32 → Ready t z made types cells
+      → MakesSystem forms t (parₛ one other) z made made′ types types′ cells cells′ r
+  unfolding components systemCrowd systemNews systemThreads
+  after-left mine theirs near few-components ready =
+      let m = mine (omega arith) ready in
+      let n = theirs (omega (arith, m .number)) (ready-after t z (l .sizes) made made₁ types types₁ cells cells₁ same-made same-types same-cells
+      (l .components) second (omega (arith, m .number)) near (m .grows) ready) in
+      record {
         number = omega (arith, n .number, m .number);
-        few-components = n .few-components;
-        grows = rw (length-append (systemNews (first .tree)) (systemNews (second .tree))) (grows-then (m .grows) (n .grows));
+        grows = rw (length-append (systemNews one) (systemNews other)) (grows-then (m .grows) (n .grows));
         given = λ fits.
             n .given fits
-            ∙ ap (λ x. x ++ systemNews (second .tree)) (m .given (omega (arith, n .grows .names, m .grows .names)))
-            ∙ append-assoc (take (z .names) types) (systemNews (first .tree)) (systemNews (second .tree));
+            ∙ ap (λ x. x ++ systemNews other) (m .given (omega (arith, n .grows .names, m .grows .names)))
+            ∙ append-assoc (take (z .names) types) (systemNews one) (systemNews other);
         products = λ few given p ts h.
             let fits : l .sizes .names ≤ 1024 = omega (arith, n .grows .names, m .grows .names) in
             let few₁ : l .sizes .threads ≤ 64 = omega (arith, n .grows .threads, m .grows .threads) in
-            let count : l .sizes .names ≡ z .names + length (systemNews (first .tree)) = omega (arith, m .grows .names) in
+            let count : l .sizes .names ≡ z .names + length (systemNews one) = omega (arith, m .grows .names) in
             let env : chain cells₁ (t .names) (t .env) ≡ chain cells (t .names) (t .env)
             = chain-kept cells₁ cells (z .cells) (t .names) (t .env) (m .grows .kept) (ready .env) in
             let q = n .products few given p _ (m .products few₁ fits p ts h) in
             let scope = chain cells (t .names) (t .env) in
-            let next = z .names + length (systemNews (first .tree)) in
-            let on : systemThreads (l .components) p scope next (second .tree) ≡ systemThreads (t .component + components (first .tree)) p scope next (second .tree)
-            = ap (λ k. systemThreads k p scope next (second .tree)) (m .number) in
+            let next = z .names + length (systemNews one) in
+            let on : systemThreads (l .components) p scope next other ≡ systemThreads (t .component + components one) p scope next other
+            = ap (λ k. systemThreads k p scope next other) (m .number) in
             rw (
               env,
               count,
               on,
-              append-assoc ts (systemThreads (t .component) p scope (z .names) (first .tree))
-                  (systemThreads (t .component + components (first .tree)) p scope next (second .tree)),
+              append-assoc ts (systemThreads (t .component) p scope (z .names) one)
+                  (systemThreads (t .component + components one) p scope next other),
             ) at q;
-      })
+      }
 
 -- Under a new name.
-module _ (s : List ℕ) (t : Place) (u : ℕ) (tree : Grown System) (z z₁ : Sizes) (env : ℕ) (made made′ types types₁ types′ cells cells₁ cells′ : List ℕ)
+module _ (forms : List ℕ) (t : Place) (u : ℕ) (p : System) (z z₁ : Sizes) (env : ℕ) (made made′ types types₁ types′ cells cells₁ cells′ : List ℕ)
     (r : MadeSystem) where
   abbrev bound-place : Place
   bound-place = record { component = t .component; env = env; names = t .names + 1; nest = t .nest; at = t .at }
 
-  pub under-new : Gives z u (t .env) types types₁ cells cells₁ z₁ → env ≡ z₁ .cells - 1 → t .names < 64
-      → (t .component ≤ 32 → Ready s bound-place z₁ made types₁ cells₁ → MakesSystem s bound-place tree z₁ made made′ types₁ types′ cells₁ cells′ r)
-      → t .component ≤ 32 → Ready s t z made types cells → MakesSystem s t (under (newₛ u) tree) z made made′ types types′ cells cells′ r
-  unfolding under components systemCrowd systemNews systemThreads
-  under-new gives ee lt makes few-components ready =
-      let g = name-given s t u z z₁ env made types types₁ cells cells₁ lt ready ee gives in
+  pub under-new : Gives z u (t .env) types types₁ cells cells₁ z₁ → env ≡ z₁ .cells - 1
+      → (t .component + components p ≤ 32 → Ready bound-place z₁ made types₁ cells₁
+      → MakesSystem forms bound-place p z₁ made made′ types₁ types′ cells₁ cells′ r)
+      → t .names + t .nest < 128 → t .component + components p ≤ 32 → Ready t z made types cells
+      → MakesSystem forms t (newₛ u p) z made made′ types types′ cells cells′ r
+  unfolding components systemCrowd systemNews systemThreads
+  under-new gives ee makes lt few-components ready =
+      let g = name-given t u z z₁ env made types types₁ cells cells₁ lt ready ee gives in
       let m = makes few-components (g .ready) in
       record {
-        place = m .place;
         number = m .number;
-        few-components = m .few-components;
         grows = grows-cong (omega arith) (omega arith) (grows-then (g .one) (m .grows));
         given = λ fits. m .given fits
-            ∙ rw (g .typed (omega (arith, m .grows .names))) (append-assoc (take (z .names) types) (u ∷ []) (systemNews (tree .tree)));
-        products = λ few given path ts p.
+            ∙ rw (g .typed (omega (arith, m .grows .names))) (append-assoc (take (z .names) types) (u ∷ []) (systemNews p));
+        products = λ few given path ts ps.
             let fits : z₁ .names ≤ 1024 = omega (arith, m .grows .names) in
             let q = m .products few given path ts
-            (rw (g .threads) (all-kept s cells cells₁ (z .cells) (z₁ .cells) (g .one .kept) (g .one .cells) p)) in
+            (rw (g .threads) (all-kept forms cells cells₁ (z .cells) (z₁ .cells) (g .one .kept) (g .one .cells) ps)) in
             rw (g .widened fits, g .number fits) at q;
       }
 
 pub ruleset system-steps = (
   needs,
-  found,
+  no-nest,
   nest-left,
   falls,
   falls-group,
-  new-fits,
-  head-fits,
-  no-form,
+  no-number,
+  no-scope,
   form-nil,
   form-input,
   form-output,

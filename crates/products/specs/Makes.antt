@@ -6,7 +6,6 @@ use mathlib.Core.Bool.{cond}
 use lib.ListN.{length, take, set}
 use lib.Dec.{ltb}
 use Rattle.reading.specs.Syntax.{Process, nil, par, new, input, output, repl, System, nilₛ, parₛ, groupₛ, newₛ, compₛ, components}
-use Rattle.reading.specs.Total.{Grown, processTree}
 use Rattle.inference.specs.Acts.{Component}
 use Rattle.running.specs.State.{Thread}
 use Rattle.running.specs.Products.{news, threadsOf, systemNews, systemThreads}
@@ -14,7 +13,6 @@ use Rattle.memory.specs.Threads.{packed}
 use Rattle.memory.specs.Chains.{bound, chain}
 use Rattle.memory.specs.declared.Thread.{Thread as Place}
 use Rattle.products.specs.declared.Sizes.{Sizes}
-use Rattle.products.specs.declared.Made.{Made}
 use Rattle.products.specs.declared.MadeSystem.{MadeSystem}
 use Rattle.products.specs.Pairs.{Pairs}
 use Rattle.products.specs.Held.{Runs}
@@ -69,17 +67,12 @@ pub record Pushes (z : Sizes) (t : Place) (made made′ : List ℕ) (r : Sizes) 
   pub sizes : r ≡ sizesPushed z
   pub last : made′ ≡ threadsPushed z t made
 
--- A thread made of the process at its place, and the place after that process.
-pub record ThreadMade (s : List ℕ) (z : Sizes) (t : Place) (made made′ : List ℕ) (r : Made) : Type 0 where
-  pub place : r .next ≡ processTree (t .nest) s (t .names) (t .at) .next
-  pub pushed : Pushes z t made made′ (r .sizes)
-
 -- What a walk begins with: a place with a component, and tables that are long enough.
-pub record Ready (s : List ℕ) (t : Place) (z : Sizes) (made types cells : List ℕ) : Type 0 where
-  pub short : length s ≤ 4096
+pub record Ready (t : Place) (z : Sizes) (made types cells : List ℕ) : Type 0 where
   pub component : t .component < 256
-  pub names : t .names < 128
-  pub nest : t .nest < 128
+  pub scope : t .names + t .nest ≤ 128
+  pub deep : t .nest ≤ 64
+  pub place : t .at < 8192
   pub env : t .env < z .cells
   pub few : z .threads ≤ 65
   pub given : z .names ≤ 1025
@@ -98,26 +91,23 @@ pub record Grows (z : Sizes) (more new : ℕ) (before after : List ℕ) (z′ : 
 
 -- The products of a process at a place: threads after those made so far, new names after those given so far. They count only
 -- where all fit.
-pub record Makes (s : List ℕ) (t : Place) (tree : Grown Process) (z : Sizes) (made made′ types types′ cells cells′ : List ℕ)
-    (r : Made) : Type 0 where
-  pub place : r .next ≡ tree .next
-  pub grows : Grows z (crowd (tree .tree)) (length (news (tree .tree))) cells cells′ (r .sizes)
+pub record Makes (forms : List ℕ) (t : Place) (p : Process) (z : Sizes) (made made′ types types′ cells cells′ : List ℕ)
+    (r : Sizes) : Type 0 where
+  pub grows : Grows z (crowd p) (length (news p)) cells cells′ r
   pub before : take (z .names) types′ ≡ take (z .names) types
-  pub given : r .sizes .names ≤ 1024 → take (r .sizes .names) types′ ≡ take (z .names) types ++ news (tree .tree)
-  pub products : r .sizes .threads ≤ 64 → r .sizes .names ≤ 1024 → (c : Component) → c .number ≡ t .component → (ts : List Thread)
-      → Pairs (Runs s cells (z .cells)) (take (z .threads) made) ts
-      → Pairs (Runs s cells′ (r .sizes .cells)) (take (r .sizes .threads) made′)
-      (ts ++ threadsOf c (chain cells (t .names) (t .env)) (z .names) (tree .tree))
+  pub given : r .names ≤ 1024 → take (r .names) types′ ≡ take (z .names) types ++ news p
+  pub products : r .threads ≤ 64 → r .names ≤ 1024 → (c : Component) → c .number ≡ t .component → (ts : List Thread)
+      → Pairs (Runs forms cells (z .cells)) (take (z .threads) made) ts
+      → Pairs (Runs forms cells′ (r .cells)) (take (r .threads) made′)
+      (ts ++ threadsOf c (chain cells (t .names) (t .env)) (z .names) p)
 
 -- The same of a system.
-pub record MakesSystem (s : List ℕ) (t : Place) (tree : Grown System) (z : Sizes) (made made′ types types′ cells cells′ : List ℕ)
+pub record MakesSystem (forms : List ℕ) (t : Place) (p : System) (z : Sizes) (made made′ types types′ cells cells′ : List ℕ)
     (r : MadeSystem) : Type 0 where
-  pub place : r .next ≡ tree .next
-  pub number : r .components ≡ t .component + components (tree .tree)
-  pub few-components : r .components ≤ 32
-  pub grows : Grows z (systemCrowd (tree .tree)) (length (systemNews (tree .tree))) cells cells′ (r .sizes)
-  pub given : r .sizes .names ≤ 1024 → take (r .sizes .names) types′ ≡ take (z .names) types ++ systemNews (tree .tree)
+  pub number : r .components ≡ t .component + components p
+  pub grows : Grows z (systemCrowd p) (length (systemNews p)) cells cells′ (r .sizes)
+  pub given : r .sizes .names ≤ 1024 → take (r .sizes .names) types′ ≡ take (z .names) types ++ systemNews p
   pub products : r .sizes .threads ≤ 64 → r .sizes .names ≤ 1024 → (path : List ℕ) → (ts : List Thread)
-      → Pairs (Runs s cells (z .cells)) (take (z .threads) made) ts
-      → Pairs (Runs s cells′ (r .sizes .cells)) (take (r .sizes .threads) made′)
-      (ts ++ systemThreads (t .component) path (chain cells (t .names) (t .env)) (z .names) (tree .tree))
+      → Pairs (Runs forms cells (z .cells)) (take (z .threads) made) ts
+      → Pairs (Runs forms cells′ (r .sizes .cells)) (take (r .sizes .threads) made′)
+      (ts ++ systemThreads (t .component) path (chain cells (t .names) (t .env)) (z .names) p)

@@ -10,7 +10,8 @@ use Rattle.products.specs.declared.Sizes.{Sizes}
 use Rattle.products.specs.Held.{Holds}
 
 -- Tables before a run: no name is known to the environment.
-pub record Blank (threads types : List ℕ) (known : List Bool) (cells : List ℕ) : Type 0 where
+pub record Blank (forms threads types : List ℕ) (known : List Bool) (cells : List ℕ) : Type 0 where
+  pub form-room : length forms ≡ 4096
   pub thread-room : length threads ≡ 128
   pub type-room : length types ≡ 1024
   pub known-room : length known ≡ 1024
@@ -18,7 +19,7 @@ pub record Blank (threads types : List ℕ) (known : List Bool) (cells : List �
   pub unknown : (i : ℕ) → getD known i false ≡ false
 
 -- What a start leaves: how many threads and names there are, and the state where all fit.
-pub record Starts (s : List ℕ) (sheet : Sheet) (threads types : List ℕ) (known : List Bool) (cells : List ℕ) (z : Sizes) : Type 0 where
+pub record Starts (forms : List ℕ) (sheet : Sheet) (threads types : List ℕ) (known : List Bool) (cells : List ℕ) (z : Sizes) : Type 0 where
   pub crowded : z .threads ≡ min 65 (length (start sheet .threads))
   pub named : z .names ≡ min 1025 (length (start sheet .types))
-  pub holds : z .threads ≤ 64 → z .names ≤ 1024 → Holds s z 1 threads types known cells (start sheet)
+  pub holds : z .threads ≤ 64 → z .names ≤ 1024 → Holds forms z 1 threads types known cells (start sheet)

@@ -1,10 +1,8 @@
 // One name given, one thread made.
 ghost use mathlib.Core.Path.{_≡_};
 ghost use Prim.Native.Nat.{_-_};
-ghost use Rattle.products.specs.Makes.{Gives, Pushes, ThreadMade};
-use crate::Made;
+ghost use Rattle.products.specs.Makes.{Gives, Pushes};
 use crate::Sizes;
-use crate::skip::skip;
 use memory::Thread;
 use memory::chains::bind;
 use memory::names::store;
@@ -51,7 +49,7 @@ pub fn last_cell(sizes: Sizes) -> usize
 }
 
 // A thread stands after those made so far.
-fn push(sizes: Sizes, t: Thread, made: &mut [usize]) -> Sizes
+pub fn push(sizes: Sizes, t: Thread, made: &mut [usize]) -> Sizes
     ensures { λ r. ⌜ Pushes sizes t (now (made .entry)) (now (made .exit)) r ⌝ }
 {
     let n = sizes.threads;
@@ -67,17 +65,5 @@ fn push(sizes: Sizes, t: Thread, made: &mut [usize]) -> Sizes
         threads: n + 1,
         names: sizes.names,
         cells: sizes.cells,
-    }
-}
-
-// A thread whose prefix is a receive, send or replication; its process is passed over.
-pub fn make_thread(s: &[u8], t: Thread, sizes: Sizes, made: &mut [usize]) -> Made
-    ensures { λ r. ⌜ ThreadMade (now (s .entry)) sizes t (now (made .entry)) (now (made .exit)) r ⌝ }
-{
-    let next = skip(s, t.at, t.nest, t.names);
-    let pushed = push(sizes, t, made);
-    Made {
-        next,
-        sizes: pushed,
     }
 }

@@ -1,11 +1,10 @@
 // What a process or a system makes at once (document 01, "Running"): threads and new names, into lent memory; and the start
 // of a run.
 //
-// The tables lent are `made`, for the threads; `types`, the type of each name given so far; `known`, which names are known to
-// the environment; and `cells`, the run names of the binders passed.
+// The tables lent are `forms`, the sheet's forms decoded; `made`, for the threads; `types`, the type of each name given so far;
+// `known`, which names are known to the environment; and `cells`, the run names of the binders passed.
 pub mod giving;
 pub mod processes;
-pub mod skip;
 pub mod start;
 pub mod systems;
 
@@ -16,15 +15,14 @@ pub struct Sizes {
     pub cells: usize,
 }
 
-// What was made of a process: the place after it, and the sizes afterwards.
+// What was made of types that were read: the place after them, and the sizes afterwards.
 pub struct Made {
     pub next: usize,
     pub sizes: Sizes,
 }
 
-// The same of a system, with the number of components so far.
+// What was made of a system: the number of components so far, and the sizes afterwards.
 pub struct MadeSystem {
-    pub next: usize,
     pub components: usize,
     pub sizes: Sizes,
 }

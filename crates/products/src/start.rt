@@ -11,13 +11,13 @@ use crate::Made;
 use crate::Sizes;
 use crate::giving::give;
 use crate::systems::make_system;
+use decoding::noting::note_system;
 use memory::Thread;
 use memory::names::know;
 use reading::Dialect;
 use reading::Number;
 use reading::NumberRead;
 use reading::bytes::byte_below;
-use reading::paths;
 use reading::types::type_at;
 
 // How many free names there are, and the place of their types.
@@ -76,13 +76,18 @@ fn give_free(s: &[u8], types: &mut [usize], cells: &mut [usize]) -> Made
     give_types(s, free.next, free.value, types, cells)
 }
 
-// The same, then what the sheet's system makes.
-fn make_sheet(s: &[u8], threads: &mut [usize], types: &mut [usize], cells: &mut [usize]) -> Sizes
-    ensures { λ r. ⌜ (64 ≤ length (now (threads .entry)) → Room (now (types .entry)) (now (cells .entry))
+// The same, then what the sheet's system makes, from its forms.
+fn make_sheet(
+    s: &[u8],
+    forms: &mut [usize],
+    threads: &mut [usize],
+    types: &mut [usize],
+    cells: &mut [usize],
+) -> Sizes
+    ensures { λ r. ⌜ (length (now (forms .entry)) ≡ 4096 → 64 ≤ length (now (threads .entry)) → Room (now (types .entry)) (now (cells .entry))
         → (sheet : Sheet) (end : ℕ) → length (now (s .entry)) ≤ 4096 → readSheet (now (s .entry)) ≡ got sheet end
-        → MadeSheet (now (s .entry)) sheet (now (threads .exit)) (now (types .exit)) (now (cells .exit)) r) ⌝ }
+        → MadeSheet (now (forms .exit)) sheet (now (threads .exit)) (now (types .exit)) (now (cells .exit)) r) ⌝ }
 {
-    let path = paths::empty();
     let given = give_free(s, types, cells);
     let sizes = given.sizes;
     let system = Thread {
@@ -92,23 +97,25 @@ fn make_sheet(s: &[u8], threads: &mut [usize], types: &mut [usize], cells: &mut 
         nest: 64,
         at: given.next,
     };
-    let made = make_system(s, system, path, sizes, threads, types, cells);
+    note_system(s, given.next, 64, forms);
+    let made = make_system(forms, system, sizes, threads, types, cells);
     made.sizes
 }
 
 // The start of a sheet that passes questions 1 to 6, in blank tables.
 pub fn start(
     s: &[u8],
+    forms: &mut [usize],
     threads: &mut [usize],
     types: &mut [usize],
     known: &mut [bool],
     cells: &mut [usize],
 ) -> Sizes
-    requires { ⌜ Blank (now threads) (now types) (now known) (now cells) ⌝ }
+    requires { ⌜ Blank (now forms) (now threads) (now types) (now known) (now cells) ⌝ }
     ensures { λ r. ⌜ ((sheet : Sheet) (end : ℕ) → length (now (s .entry)) ≤ 4096 → readSheet (now (s .entry)) ≡ got sheet end
-        → Starts (now (s .entry)) sheet (now (threads .exit)) (now (types .exit)) (now (known .exit)) (now (cells .exit)) r) ⌝ }
+        → Starts (now (forms .exit)) sheet (now (threads .exit)) (now (types .exit)) (now (known .exit)) (now (cells .exit)) r) ⌝ }
 {
     let free = free_count(s);
     know_first(known, free.value);
-    make_sheet(s, threads, types, cells)
+    make_sheet(s, forms, threads, types, cells)
 }

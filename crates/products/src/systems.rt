@@ -2,180 +2,161 @@
 // nested forms, the permitted nesting falling at each call.
 ghost use mathlib.Core.Path.{_≡_};
 ghost use Prim.Native.Nat.{_+_, _<_, _≤_};
-ghost use Rattle.reading.specs.Read.{got};
-ghost use Rattle.reading.specs.Forms.{systemAt};
 ghost use Rattle.reading.specs.Syntax.{parₛ, newₛ, compₛ, components};
 ghost use Rattle.reading.specs.declared.OwnFields.{OwnFields};
-ghost use Rattle.reading.specs.Told.{pathOf};
-ghost use Rattle.reading.specs.Total.{under, beside, processTree, systemTree};
+ghost use Rattle.decoding.specs.Words.{itemAt};
+ghost use Rattle.decoding.specs.Tables.{processIn, systemIn};
 ghost use Rattle.products.specs.Makes.{Ready, MakesSystem};
 use crate::MadeSystem;
 use crate::Sizes;
 use crate::giving::give;
 use crate::giving::last_cell;
 use crate::processes::make_process;
+use decoding::Item;
+use decoding::words::item_at;
 use memory::Thread;
-use reading::Dialect;
 use reading::Form;
-use reading::FormRead;
-use reading::Path;
-use reading::forms::system_at;
-use reading::paths;
 
 // What the system at a place makes; `t.component` is the number of its first component.
 pub fn make_system(
-    s: &[u8],
+    forms: &[usize],
     t: Thread,
-    path: Path,
     sizes: Sizes,
     made: &mut [usize],
     types: &mut [usize],
     cells: &mut [usize],
 ) -> MadeSystem
-    ensures { λ r. ⌜ (t .component ≤ 32 → Ready (now (s .entry)) t sizes (now (made .entry)) (now (types .entry)) (now (cells .entry))
-        → MakesSystem (now (s .entry)) t (systemTree (t .nest) (now (s .entry)) (t .names) (pathOf path) (t .component) (t .at)) sizes
+    ensures { λ r. ⌜ (t .component + components (systemIn (t .nest) (now (forms .entry)) (t .at)) ≤ 32
+        → Ready t sizes (now (made .entry)) (now (types .entry)) (now (cells .entry))
+        → MakesSystem (now (forms .entry)) t (systemIn (t .nest) (now (forms .entry)) (t .at)) sizes
         (now (made .entry)) (now (made .exit)) (now (types .entry)) (now (types .exit)) (now (cells .entry)) (now (cells .exit)) r) ⌝ }
 {
-    let read = system_at(
-        Dialect::Current,
-        s,
-        t.at,
-        t.nest,
-        t.names,
-        path,
-        t.component,
-    );
-    let FormRead::Found(place) = read else {
+    if t.nest == 0 {
         return MadeSystem {
-            next: t.at,
             components: t.component,
             sizes,
         };
-    };
-    let form = place.form;
-    make_form(s, t, form, place.next, path, sizes, made, types, cells)
+    }
+    let item = item_at(forms, t.at);
+    make_form(forms, t, item, sizes, made, types, cells)
 }
 
-// The same, where a form stands at the place, its parts at `next`.
+// The same, where this item stands at the place.
 fn make_form(
-    s: &[u8],
+    forms: &[usize],
     t: Thread,
-    form: Form,
-    next: usize,
-    path: Path,
+    item: Item,
     sizes: Sizes,
     made: &mut [usize],
     types: &mut [usize],
     cells: &mut [usize],
 ) -> MadeSystem
-    requires { ⌜ systemAt (now s) (t .at) (t .nest) (t .names) (pathOf path) (t .component) ≡ got form next ⌝ }
-    ensures { λ r. ⌜ (t .component ≤ 32 → Ready (now (s .entry)) t sizes (now (made .entry)) (now (types .entry)) (now (cells .entry))
-        → MakesSystem (now (s .entry)) t (systemTree (t .nest) (now (s .entry)) (t .names) (pathOf path) (t .component) (t .at)) sizes
+    requires { ⌜ (item ≡ itemAt (now forms) (t .at)) × (0 < t .nest) ⌝ }
+    ensures { λ r. ⌜ (t .component + components (systemIn (t .nest) (now (forms .entry)) (t .at)) ≤ 32
+        → Ready t sizes (now (made .entry)) (now (types .entry)) (now (cells .entry))
+        → MakesSystem (now (forms .entry)) t (systemIn (t .nest) (now (forms .entry)) (t .at)) sizes
         (now (made .entry)) (now (made .exit)) (now (types .entry)) (now (types .exit)) (now (cells .entry)) (now (cells .exit)) r) ⌝ }
 {
+    let form = item.form;
     let inner = Thread {
         component: t.component,
         env: t.env,
         names: t.names,
         nest: t.nest - 1,
-        at: next,
+        at: item.next,
+    };
+    let none = MadeSystem {
+        components: t.component,
+        sizes,
     };
     match form {
-        Form::Nil => MadeSystem {
-            next,
-            components: t.component,
-            sizes,
-        },
-        Form::Par => make_par(s, inner, path, sizes, made, types, cells),
-        Form::Group(g) => make_system(s, inner, paths::with(path, g), sizes, made, types, cells),
-        Form::New(u) => make_under(s, inner, u, path, sizes, made, types, cells),
-        Form::Component(_) => make_component(s, inner, sizes, made, types, cells),
-        Form::Input(_) => MadeSystem {
-            next: t.at,
-            components: t.component,
-            sizes,
-        },
-        Form::Output(_) => MadeSystem {
-            next: t.at,
-            components: t.component,
-            sizes,
-        },
-        Form::Replicate => MadeSystem {
-            next: t.at,
-            components: t.component,
-            sizes,
-        },
+        Form::Nil => none,
+        Form::Par => make_par(forms, inner, item.second, sizes, made, types, cells),
+        Form::Group(_) => make_system(forms, inner, sizes, made, types, cells),
+        Form::New(u) => make_under(forms, inner, u, sizes, made, types, cells),
+        Form::Component(_) => make_component(forms, inner, sizes, made, types, cells),
+        Form::Input(_) => none,
+        Form::Output(_) => none,
+        Form::Replicate => none,
     }
 }
 
 // A component: what its process makes.
 fn make_component(
-    s: &[u8],
+    forms: &[usize],
     t: Thread,
     sizes: Sizes,
     made: &mut [usize],
     types: &mut [usize],
     cells: &mut [usize],
 ) -> MadeSystem
-    requires { ⌜ t .component < 32 ⌝ }
-    ensures { λ r. ⌜ ((own : OwnFields) → Ready (now (s .entry)) t sizes (now (made .entry)) (now (types .entry)) (now (cells .entry))
-        → MakesSystem (now (s .entry)) t (under (compₛ own) (processTree (t .nest) (now (s .entry)) (t .names) (t .at))) sizes
+    ensures { λ r. ⌜ (t .component < 32 → (own : OwnFields) → Ready t sizes (now (made .entry)) (now (types .entry)) (now (cells .entry))
+        → MakesSystem (now (forms .entry)) t (compₛ own (processIn (t .nest) (now (forms .entry)) (t .at))) sizes
         (now (made .entry)) (now (made .exit)) (now (types .entry)) (now (types .exit)) (now (cells .entry)) (now (cells .exit)) r) ⌝ }
 {
-    let process = make_process(s, t, sizes, made, types, cells);
-    let after = process.sizes;
+    if 32 <= t.component {
+        return MadeSystem {
+            components: t.component,
+            sizes,
+        };
+    }
+    let after = make_process(forms, t, sizes, made, types, cells);
     MadeSystem {
-        next: process.next,
         components: t.component + 1,
         sizes: after,
     }
 }
 
-// Two systems, one after the other; the second counts on from the components of the first.
+// Two systems, one after the other; the second stands at `second` and counts on from the components of the first.
 fn make_par(
-    s: &[u8],
+    forms: &[usize],
     t: Thread,
-    path: Path,
+    second: usize,
     sizes: Sizes,
     made: &mut [usize],
     types: &mut [usize],
     cells: &mut [usize],
 ) -> MadeSystem
-    ensures { λ r. ⌜ (t .component ≤ 32 → Ready (now (s .entry)) t sizes (now (made .entry)) (now (types .entry)) (now (cells .entry))
-        → MakesSystem (now (s .entry)) t
-        (beside parₛ (systemTree (t .nest) (now (s .entry)) (t .names) (pathOf path) (t .component) (t .at))
-        (λ l m. systemTree (t .nest) (now (s .entry)) (t .names) (pathOf path) (t .component + components l) m)) sizes
+    ensures { λ r. ⌜ (second < 8192
+        → t .component + components (parₛ (systemIn (t .nest) (now (forms .entry)) (t .at)) (systemIn (t .nest) (now (forms .entry)) second)) ≤ 32
+        → Ready t sizes (now (made .entry)) (now (types .entry)) (now (cells .entry))
+        → MakesSystem (now (forms .entry)) t
+        (parₛ (systemIn (t .nest) (now (forms .entry)) (t .at)) (systemIn (t .nest) (now (forms .entry)) second)) sizes
         (now (made .entry)) (now (made .exit)) (now (types .entry)) (now (types .exit)) (now (cells .entry)) (now (cells .exit)) r) ⌝ }
 {
-    let left = make_system(s, t, path, sizes, made, types, cells);
+    let left = make_system(forms, t, sizes, made, types, cells);
     let rest = Thread {
         component: left.components,
         env: t.env,
         names: t.names,
         nest: t.nest,
-        at: left.next,
+        at: second,
     };
     let so_far = left.sizes;
-    make_system(s, rest, path, so_far, made, types, cells)
+    make_system(forms, rest, so_far, made, types, cells)
 }
 
 // A system under a new name of type u.
 fn make_under(
-    s: &[u8],
+    forms: &[usize],
     t: Thread,
     u: usize,
-    path: Path,
     sizes: Sizes,
     made: &mut [usize],
     types: &mut [usize],
     cells: &mut [usize],
 ) -> MadeSystem
-    requires { ⌜ t .names < 64 ⌝ }
-    ensures { λ r. ⌜ (t .component ≤ 32 → Ready (now (s .entry)) t sizes (now (made .entry)) (now (types .entry)) (now (cells .entry))
-        → MakesSystem (now (s .entry)) t
-        (under (newₛ u) (systemTree (t .nest) (now (s .entry)) (t .names + 1) (pathOf path) (t .component) (t .at))) sizes
+    ensures { λ r. ⌜ (t .names + t .nest < 128 → t .component + components (systemIn (t .nest) (now (forms .entry)) (t .at)) ≤ 32
+        → Ready t sizes (now (made .entry)) (now (types .entry)) (now (cells .entry))
+        → MakesSystem (now (forms .entry)) t (newₛ u (systemIn (t .nest) (now (forms .entry)) (t .at))) sizes
         (now (made .entry)) (now (made .exit)) (now (types .entry)) (now (types .exit)) (now (cells .entry)) (now (cells .exit)) r) ⌝ }
 {
+    if 128 <= t.names {
+        return MadeSystem {
+            components: t.component,
+            sizes,
+        };
+    }
     let given = give(sizes, u, t.env, types, cells);
     let inner = Thread {
         component: t.component,
@@ -184,5 +165,5 @@ fn make_under(
         nest: t.nest,
         at: t.at,
     };
-    make_system(s, inner, path, given, made, types, cells)
+    make_system(forms, inner, given, made, types, cells)
 }

@@ -1,5 +1,5 @@
 -- 04, return by return.
-use Prim.Native.Nat.{ℕ, _+_, _-_, _<_, _≤_}
+use Prim.Native.Nat.{ℕ, _+_, _-_, _%_, _<_, _≤_}
 use mathlib.Core.Path.{_≡_, refl, sym, ap, ap₂, _∙_}
 use mathlib.Core.List.{List, [], _∷_, _++_}
 use mathlib.Core.Option.{some, none}
@@ -10,7 +10,7 @@ use borrow.Author.Tests.{eq-eqb, ne-eqb}
 use lib.Dec.{eqb, lit<}
 use lib.ListN.{length, getD, set, getElem?}
 use Rattle.reading.specs.Syntax.{Process, nil, par, new, input, output, repl}
-use Rattle.reading.specs.Total.{processTree}
+use Rattle.decoding.specs.Tables.{processIn}
 use Rattle.running.specs.State.{Thread, State}
 use Rattle.running.specs.Products.{news}
 use Rattle.running.specs.Moves.{Sending, Receiving, guard, given, asSending, asReceiving, made, singles, after, taken, recordOf, communicateStep}
@@ -27,7 +27,7 @@ use Rattle.continuations.specs.declared.Prefix.{Prefix}
 use Rattle.continuations.specs.declared.Prefix.the-variants as prefix
 use Rattle.continuations.specs.Prefixes.{continuationOf, sendingOf, receivingOf, PrefixFound}
 use Rattle.continuations.specs.Places.{remainingAt}
-use Rattle.continuations.specs.Exchanges.{boundRemaining, exchanged, Exchanging}
+use Rattle.continuations.specs.Exchanges.{exchanged, Exchanging}
 use Rattle.continuations.proofs.FormLaws.{no-send, no-receive}
 use Rattle.transitions.specs.Steps.{Acts, refusal, outcomeOf, SteppedAny, Met}
 use Rattle.transitions.proofs.MoveLaws.{record-bytes, later, answers-refused, answers-placed, no-thread, thread-is}
@@ -49,23 +49,23 @@ apart state i j v w a b hv hw ha hb e =
     let same : v ≡ w = let k : some v ≡ some w = sym hv ∙ ap (getElem? (state .threads)) e ∙ hw in cc in
     not-both w (w .process) a b (rw same at ha) hb
 
-module _ (s : List ℕ) (m : Communication) (sender receiver : Actor) (z : Sizes) (threads types cells : List ℕ) where
+module _ (forms : List ℕ) (m : Communication) (sender receiver : Actor) (z : Sizes) (threads types cells : List ℕ) where
   abbrev mine : Process
-  mine = processTree (sender .thread .nest - 1) s (sender .thread .names) (sender .act .next) .tree
+  mine = processIn (sender .thread .nest - 1) forms (sender .act .next % 8192)
 
   abbrev theirs : Process
-  theirs = processTree (receiver .thread .nest - 1) s (receiver .thread .names + 1) (receiver .act .next) .tree
+  theirs = processIn (receiver .thread .nest - 1) forms (receiver .act .next % 8192)
 
   abbrev Both : List ℕ → List ℕ → List ℕ → Moved → Type 0
   Both threads′ types′ cells′ r =
-      (v w : Thread) → asSending v (v .process) ≡ sendingOf s (sender .thread) (prefix.Sends (sender .act))
-      → asReceiving w (w .process) ≡ receivingOf s (receiver .thread) (prefix.Receives (receiver .act))
-      → receiver .thread .names < 64 → sender .act .object < 65536
-      → Met s z m (sender .thread) (receiver .thread) v w threads types cells threads′ types′ cells′ r
+      (v w : Thread) → asSending v (v .process) ≡ sendingOf forms (sender .thread) (prefix.Sends (sender .act))
+      → asReceiving w (w .process) ≡ receivingOf forms (receiver .thread) (prefix.Receives (receiver .act))
+      → receiver .thread .names + (receiver .thread .nest - 1) < 128 → sender .act .object < 65536
+      → Met forms z m (sender .thread) (receiver .thread) v w threads types cells threads′ types′ cells′ r
 
   -- 04 of these two threads.
   communication : (state : State) (v w : Thread) → getElem? (state .threads) (m .sender) ≡ some v → getElem? (state .threads) (m .receiver) ≡ some w
-      → asSending v (v .process) ≡ sendingOf s (sender .thread) (prefix.Sends (sender .act)) → asReceiving w (w .process) ≡ receivingOf s (receiver .thread) (prefix.Receives (receiver .act))
+      → asSending v (v .process) ≡ sendingOf forms (sender .thread) (prefix.Sends (sender .act)) → asReceiving w (w .process) ≡ receivingOf forms (receiver .thread) (prefix.Receives (receiver .act))
       → communicateStep state (m .sender) (m .receiver)
       ≡ guard 34 (eqb (sender .act .channel) (receiver .act .channel))
       (taken
@@ -81,7 +81,7 @@ module _ (s : List ℕ) (m : Communication) (sender receiver : Actor) (z : Sizes
       → Both threads types cells r
   unfolding guard
   other-channel r n o v w send receive names small state turns known few room av aw hv hw h =
-      answers-refused s turns threads types known cells state 34 z (communicateStep state (m .sender) (m .receiver)) r (lit< tt)
+      answers-refused forms turns threads types known cells state 34 z (communicateStep state (m .sender) (m .receiver)) r (lit< tt)
       (rw (communication state v w hv hw send receive, ne-eqb (sender .act .channel) (receiver .act .channel) n) refl) o h
 
   module _ (threads′ types′ cells′ : List ℕ) (p q : Place) (placed : Placed) (r : Moved) where
@@ -91,7 +91,7 @@ module _ (s : List ℕ) (m : Communication) (sender receiver : Actor) (z : Sizes
     pub communicate-both-step : sender .act .channel ≡ receiver .act .channel
         → p ≡ continuationOf (sender .thread) (sender .act .next)
         → q ≡ continuationOf (receiver .thread) (receiver .act .next)
-        → Exchanging s pair z threads types cells threads′ types′ cells′ placed
+        → Exchanging forms pair z threads types cells threads′ types′ cells′ placed
         → r ≡ outcomeOf placed (record { number = 0; label = 1; channel = sender .act .channel; name = sender .act .object; actor = sender .thread .component; receiver = receiver .thread .component })
         → Both threads′ types′ cells′ r
     unfolding guard sendingOf receivingOf
@@ -99,7 +99,7 @@ module _ (s : List ℕ) (m : Communication) (sender receiver : Actor) (z : Sizes
         let xs = exchanging state (v .component) (w .component) turns known few room (av .component ∙ ap (λ x. x .component) (sym ep)) (aw .component ∙ ap (λ x. x .component) (sym eq))
         (rw ep (process-of (sender .act .next) av)) (rw eq (process-of (receiver .act .next) aw)) (rw eq names) small
         (apart state (m .sender) (m .receiver) v w _ _ hv hw send receive) h in
-        answers-placed s turns threads′ types′ known cells′ state placed _ (exchanged s pair cells state (v .component) (w .component))
+        answers-placed forms turns threads′ types′ known cells′ state placed _ (exchanged forms pair cells state (v .component) (w .component))
         (recordOf 1 (sender .act .channel) (sender .act .object) (v .component .number) (w .component .number)) (communicateStep state (m .sender) (m .receiver)) r
         (rw (communication state v w hv hw send receive, eq-eqb (sender .act .channel) (receiver .act .channel) ch) (ap (λ n. taken n (recordOf 1 (sender .act .channel) (sender .act .object) (v .component .number) (w .component .number))) (met state v w av aw ep eq)))
         o
@@ -107,89 +107,89 @@ module _ (s : List ℕ) (m : Communication) (sender receiver : Actor) (z : Sizes
         ∙ ap₂ (λ a b. recordOf 1 (sender .act .channel) (sender .act .object) a b) (sym (av .component)) (sym (aw .component)))
         (xs .fits)
         (xs .taken)
-        (λ y. later s turns threads′ types′ known cells′ state (placed .sizes) (rw (xs .kept y .0) (xs .kept y .1)))
+        (λ y. later forms turns threads′ types′ known cells′ state (placed .sizes) (rw (xs .kept y .0) (xs .kept y .1)))
       where
-        met : (state : State) (v w : Thread) → Acts s cells (z .cells) (sender .thread) v → Acts s cells (z .cells) (receiver .thread) w
+        met : (state : State) (v w : Thread) → Acts forms cells (z .cells) (sender .thread) v → Acts forms cells (z .cells) (receiver .thread) w
             → p ≡ continuationOf (sender .thread) (sender .act .next)
             → q ≡ continuationOf (receiver .thread) (receiver .act .next)
             → after state
             (set (set (singles (state .threads)) (m .sender) (made state 0 v (v .names) mine)) (m .receiver)
             (made state (length (news mine)) w (w .names ++ (sender .act .object ∷ [])) theirs))
             (news mine ++ news theirs)
-            ≡ exchanged s pair cells state (v .component) (w .component)
-        met state v w av aw ep eq = unfold made in unfold exchanged in unfold remainingAt in unfold boundRemaining in
+            ≡ exchanged forms pair cells state (v .component) (w .component)
+        met state v w av aw ep eq = unfold made in unfold exchanged in unfold remainingAt in
             rw (ep, eq, ← av .names, ← aw .names, add-zero (length (state .types))) refl
 
 -- A sender, and the other thread's prefix.
-module _ (s : List ℕ) (m : Communication) (sender : Actor) (u : Place) (z : Sizes) (threads types cells : List ℕ) (st : Prefix) (f : PrefixFound s cells u st) where
+module _ (forms : List ℕ) (m : Communication) (sender : Actor) (u : Place) (z : Sizes) (threads types cells : List ℕ) (st : Prefix) (f : PrefixFound forms cells u st) where
   abbrev Sent : List ℕ → List ℕ → List ℕ → Moved → Type 0
   Sent threads′ types′ cells′ r =
-      (v w : Thread) → asSending v (v .process) ≡ sendingOf s (sender .thread) (prefix.Sends (sender .act)) → sender .act .object < 65536
-      → Met s z m (sender .thread) u v w threads types cells threads′ types′ cells′ r
+      (v w : Thread) → asSending v (v .process) ≡ sendingOf forms (sender .thread) (prefix.Sends (sender .act)) → sender .act .object < 65536
+      → Met forms z m (sender .thread) u v w threads types cells threads′ types′ cells′ r
 
   -- 31: the other's prefix is no receive.
-  pub no-receiver : (r : Moved) → receivingOf s u st ≡ none → r ≡ refusal 31 z → Sent threads types cells r
+  pub no-receiver : (r : Moved) → receivingOf forms u st ≡ none → r ≡ refusal 31 z → Sent threads types cells r
   unfolding communicateStep given sendingOf
   no-receiver r n o v w send small state turns known few room av aw hv hw h =
-      answers-refused s turns threads types known cells state 31 z (communicateStep state (m .sender) (m .receiver)) r (lit< tt)
-      (rw (hv, hw, send, f w (aw .names) (aw .process) .receives, n) refl) o h
+      answers-refused forms turns threads types known cells state 31 z (communicateStep state (m .sender) (m .receiver)) r (lit< tt)
+      (rw (hv, hw, send, f w (aw .names) (aw .process) (aw .scope) .receives, n) refl) o h
 
   pub communicate-receives : (r : Moved) (d : Action) (threads′ types′ cells′ : List ℕ) → st ≡ prefix.Receives d
-      → ((v w : Thread) → asSending v (v .process) ≡ sendingOf s (sender .thread) (prefix.Sends (sender .act))
-      → asReceiving w (w .process) ≡ receivingOf s u (prefix.Receives d) → u .names < 64 → sender .act .object < 65536
-      → Met s z m (sender .thread) u v w threads types cells threads′ types′ cells′ r)
+      → ((v w : Thread) → asSending v (v .process) ≡ sendingOf forms (sender .thread) (prefix.Sends (sender .act))
+      → asReceiving w (w .process) ≡ receivingOf forms u (prefix.Receives d) → u .names + (u .nest - 1) < 128 → sender .act .object < 65536
+      → Met forms z m (sender .thread) u v w threads types cells threads′ types′ cells′ r)
       → Sent threads′ types′ cells′ r
   communicate-receives r d threads′ types′ cells′ q g v w send small state turns known few room av aw hv hw h =
-      let prefixed = f w (aw .names) (aw .process) in
-      g v w send (prefixed .receives ∙ ap (receivingOf s u) q) (prefixed .binds d q) small state turns known few room av aw hv hw h
+      let prefixed = f w (aw .names) (aw .process) (aw .scope) in
+      g v w send (prefixed .receives ∙ ap (receivingOf forms u) q) (prefixed .binds d q) small state turns known few room av aw hv hw h
 
 -- Two indices.
-module _ (s : List ℕ) (m : Communication) (z : Sizes) (threads types cells : List ℕ) (threads-room : length threads ≡ 128) where
+module _ (forms : List ℕ) (m : Communication) (z : Sizes) (threads types cells : List ℕ) (threads-room : length threads ≡ 128) where
   abbrev Told : List ℕ → List ℕ → List ℕ → Moved → Type 0
   Told threads′ types′ cells′ r =
-      SteppedAny s z threads types cells threads′ types′ cells′ (λ state. communicateStep state (m .sender) (m .receiver)) r
+      SteppedAny forms z threads types cells threads′ types′ cells′ (λ state. communicateStep state (m .sender) (m .receiver)) r
 
   pub no-sender : (r : Moved) → z .threads ≤ m .sender → r ≡ refusal 30 z → Told threads types cells r
   unfolding communicateStep given
   no-sender r k e state turns known few room h =
-      answers-refused s turns threads types known cells state 30 z (communicateStep state (m .sender) (m .receiver)) r (lit< tt)
-      (rw (no-thread s z turns threads types known cells state threads-room h (m .sender) k) refl) e h
+      answers-refused forms turns threads types known cells state 30 z (communicateStep state (m .sender) (m .receiver)) r (lit< tt)
+      (rw (no-thread forms z turns threads types known cells state threads-room h (m .sender) k) refl) e h
 
   pub no-other : (r : Moved) → m .sender < z .threads → z .threads ≤ m .receiver → r ≡ refusal 30 z → Told threads types cells r
   unfolding communicateStep given
   no-other r k l e state turns known few room h =
-      let found = thread-is s z turns threads types known cells state threads-room h (m .sender) k in
-      answers-refused s turns threads types known cells state 30 z (communicateStep state (m .sender) (m .receiver)) r (lit< tt)
-      (rw (found .here, no-thread s z turns threads types known cells state threads-room h (m .receiver) l) refl) e h
+      let found = thread-is forms z turns threads types known cells state threads-room h (m .sender) k in
+      answers-refused forms turns threads types known cells state 30 z (communicateStep state (m .sender) (m .receiver)) r (lit< tt)
+      (rw (found .here, no-thread forms z turns threads types known cells state threads-room h (m .receiver) l) refl) e h
 
   pub both-there : (t u : Place) (r : Moved) (threads′ types′ cells′ : List ℕ) → m .sender < z .threads → m .receiver < z .threads
       → t ≡ unpacked (getD threads (m .sender) 0) → u ≡ unpacked (getD threads (m .receiver) 0)
-      → ((v w : Thread) → Met s z m t u v w threads types cells threads′ types′ cells′ r)
+      → ((v w : Thread) → Met forms z m t u v w threads types cells threads′ types′ cells′ r)
       → Told threads′ types′ cells′ r
   both-there t u r threads′ types′ cells′ k l e f g state turns known few room h =
-      let a = thread-is s z turns threads types known cells state threads-room h (m .sender) k in
-      let b = thread-is s z turns threads types known cells state threads-room h (m .receiver) l in
+      let a = thread-is forms z turns threads types known cells state threads-room h (m .sender) k in
+      let b = thread-is forms z turns threads types known cells state threads-room h (m .receiver) l in
       g (a .thread) (b .thread) state turns known few room (rw e (a .acts)) (rw f (b .acts)) (a .here) (b .here) h
 
 -- Two threads, and the prefix of the first.
-module _ (s : List ℕ) (m : Communication) (t u : Place) (z : Sizes) (threads types cells : List ℕ) (st : Prefix) (f : PrefixFound s cells t st) where
+module _ (forms : List ℕ) (m : Communication) (t u : Place) (z : Sizes) (threads types cells : List ℕ) (st : Prefix) (f : PrefixFound forms cells t st) where
   abbrev Two : List ℕ → List ℕ → List ℕ → Moved → Type 0
-  Two threads′ types′ cells′ r = (v w : Thread) → Met s z m t u v w threads types cells threads′ types′ cells′ r
+  Two threads′ types′ cells′ r = (v w : Thread) → Met forms z m t u v w threads types cells threads′ types′ cells′ r
 
   -- 31: the first one's prefix is no send.
-  pub idle-sender : (r : Moved) → sendingOf s t st ≡ none → r ≡ refusal 31 z → Two threads types cells r
+  pub idle-sender : (r : Moved) → sendingOf forms t st ≡ none → r ≡ refusal 31 z → Two threads types cells r
   unfolding communicateStep given
   idle-sender r n o v w state turns known few room av aw hv hw h =
-      answers-refused s turns threads types known cells state 31 z (communicateStep state (m .sender) (m .receiver)) r (lit< tt)
-      (rw (hv, hw, f v (av .names) (av .process) .sends, n) refl) o h
+      answers-refused forms turns threads types known cells state 31 z (communicateStep state (m .sender) (m .receiver)) r (lit< tt)
+      (rw (hv, hw, f v (av .names) (av .process) (av .scope) .sends, n) refl) o h
 
   pub sender-sends : (r : Moved) (d : Action) (threads′ types′ cells′ : List ℕ) → st ≡ prefix.Sends d
-      → ((v w : Thread) → asSending v (v .process) ≡ sendingOf s t (prefix.Sends d) → d .object < 65536
-      → Met s z m t u v w threads types cells threads′ types′ cells′ r)
+      → ((v w : Thread) → asSending v (v .process) ≡ sendingOf forms t (prefix.Sends d) → d .object < 65536
+      → Met forms z m t u v w threads types cells threads′ types′ cells′ r)
       → Two threads′ types′ cells′ r
   sender-sends r d threads′ types′ cells′ q g v w state turns known few room av aw hv hw h =
-      let prefixed = f v (av .names) (av .process) in
-      g v w (prefixed .sends ∙ ap (sendingOf s t) q) (prefixed .small d q) state turns known few room av aw hv hw h
+      let prefixed = f v (av .names) (av .process) (av .scope) in
+      g v w (prefixed .sends ∙ ap (sendingOf forms t) q) (prefixed .small d q) state turns known few room av aw hv hw h
 
 pub ruleset both-steps = (needs, other-channel)
 

@@ -19,7 +19,7 @@ use Rattle.transitions.specs.Steps.{Answers, refusal}
 use Rattle.transitions.proofs.MoveLaws.{record-bytes, answers-refused, count, join-singles}
 
 module _ (t : ℕ) (z : Sizes) (types : List ℕ) (known : List Bool) (types-room : length types ≡ 1024) (known-room : length known ≡ 1024)
-    (s threads cells : List ℕ) (state : State) (turns : ℕ) (threads-room : length threads ≡ 128) (h : Holds s z turns threads types known cells state) where
+    (forms threads cells : List ℕ) (state : State) (turns : ℕ) (threads-room : length threads ≡ 128) (h : Holds forms z turns threads types known cells state) where
   -- The state with the new name.
   abbrev next : State
   next = record { threads = state .threads; types = state .types ++ (t ∷ []); known = state .known ++ (true ∷ []) }
@@ -36,19 +36,19 @@ module _ (t : ℕ) (z : Sizes) (types : List ℕ) (known : List Bool) (types-roo
       rw (join-singles (state .threads), named, set-at (state .known) false [] true (z .names) flagged) refl
 
   crowd : length (state .threads) ≤ 64
-  crowd = omega (arith, count s z turns threads types known cells state threads-room h 0, h .few)
+  crowd = omega (arith, count forms z turns threads types known cells state threads-room h 0, h .few)
 
   names-after : length (state .types ++ (t ∷ [])) ≡ z .names + 1
   names-after = omega (arith, length-append (state .types) (t ∷ []), named)
 
-  pub environment-full : (r : Moved) → 1024 ≤ z .names → r ≡ refusal 35 z → Answers s (turns + 1) threads types known cells state (environmentStep state t) r
+  pub environment-full : (r : Moved) → 1024 ≤ z .names → r ≡ refusal 35 z → Answers forms (turns + 1) threads types known cells state (environmentStep state t) r
   unfolding taken guard hasRoom
   environment-full r k e =
-      answers-refused s turns threads types known cells state 35 z (environmentStep state t) r (lit< tt)
+      answers-refused forms turns threads types known cells state 35 z (environmentStep state t) r (lit< tt)
       (rw (environment-is, le-leb (length (state .threads)) 64 crowd, lt-leb (length (state .types ++ (t ∷ []))) 1024 (omega (arith, names-after))) refl) e h
 
   pub environment-taken : (types′ : List ℕ) (known′ : List Bool) → z .names < 1024 → types′ ≡ set types (z .names) t → known′ ≡ set known (z .names) true
-      → Answers s (turns + 1) threads types′ known′ cells state (environmentStep state t)
+      → Answers forms (turns + 1) threads types′ known′ cells state (environmentStep state t)
       (record {
         sizes = record { threads = z .threads; names = z .names + 1; cells = z .cells };
         line = record { number = 0; label = 5; channel = 65535; name = z .names; actor = 255; receiver = 255 };
@@ -57,7 +57,6 @@ module _ (t : ℕ) (z : Sizes) (types : List ℕ) (known : List Bool) (types-roo
   environment-taken types′ known′ k e f =
       rw (environment-is, le-leb (length (state .threads)) 64 crowd, le-leb (length (state .types ++ (t ∷ []))) 1024 (omega (arith, names-after)), e, f) (record {
         holds = record {
-          short = h .short;
           few = h .few;
           given = omega arith;
           slack = omega (arith, h .slack);

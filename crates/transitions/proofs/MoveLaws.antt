@@ -38,11 +38,10 @@ refusal-bytes : (n : ℕ) (z : Sizes) → n < 256 → bytesOf (refusal n z .line
 unfolding bytesOf refusal word
 refusal-bytes n z h = rw (mod-eq-of-lt h) refl
 
-module _ (s : List ℕ) (turns : ℕ) (threads types : List ℕ) (known : List Bool) (cells : List ℕ) (state : State) where
+module _ (forms : List ℕ) (turns : ℕ) (threads types : List ℕ) (known : List Bool) (cells : List ℕ) (state : State) where
   -- Time passes.
-  pub later : (z : Sizes) → Holds s z turns threads types known cells state → Holds s z (turns + 1) threads types known cells state
+  pub later : (z : Sizes) → Holds forms z turns threads types known cells state → Holds forms z (turns + 1) threads types known cells state
   later z h = record {
-    short = h .short;
     few = h .few;
     given = h .given;
     slack = omega (arith, h .slack);
@@ -53,21 +52,21 @@ module _ (s : List ℕ) (turns : ℕ) (threads types : List ℕ) (known : List B
   }
 
   -- A refused move.
-  pub answers-refused : (n : ℕ) (z : Sizes) (result : Result) (r : Moved) → n < 256 → result ≡ refuses n → r ≡ refusal n z → Holds s z turns threads types known cells state
-      → Answers s (turns + 1) threads types known cells state result r
+  pub answers-refused : (n : ℕ) (z : Sizes) (result : Result) (r : Moved) → n < 256 → result ≡ refuses n → r ≡ refusal n z → Holds forms z turns threads types known cells state
+      → Answers forms (turns + 1) threads types known cells state result r
   unfolding stateAfter recordBytes
   answers-refused n z result r small e i h = rw (e, i) (record { holds = unfold refusal in later z h; bytes = refusal-bytes n z small })
 
   -- A move whose products were to be placed.
   pub answers-placed : (p : Placed) (rec : Record) (next : State) (bytes : List ℕ) (result : Result) (r : Moved) → result ≡ taken next bytes → r ≡ outcomeOf p rec
       → bytesOf rec ≡ bytes → p .fits ≡ hasRoom next
-      → (p .fits ≡ true → Holds s (p .sizes) (turns + 1) threads types known cells next)
-      → (p .fits ≡ false → Holds s (p .sizes) (turns + 1) threads types known cells state)
-      → Answers s (turns + 1) threads types known cells state result r
+      → (p .fits ≡ true → Holds forms (p .sizes) (turns + 1) threads types known cells next)
+      → (p .fits ≡ false → Holds forms (p .sizes) (turns + 1) threads types known cells state)
+      → Answers forms (turns + 1) threads types known cells state result r
   unfolding taken guard outcomeOf stateAfter recordBytes
   answers-placed p rec next bytes result r e i b f fits full = go (p .fits) refl
     where
-      go : (x : Bool) → p .fits ≡ x → Answers s (turns + 1) threads types known cells state result r
+      go : (x : Bool) → p .fits ≡ x → Answers forms (turns + 1) threads types known cells state result r
       go true h = rw (e, i, ← f, h) (record { holds = fits h; bytes = b })
       go false h = rw (e, i, ← f, h) (record { holds = unfold refusal in full h; bytes = refusal-bytes 35 (p .sizes) (lit< tt) })
 
@@ -77,33 +76,33 @@ getElem-none [] i h = refl
 getElem-none (x ∷ l) zero h = absurd (omega arith)
 getElem-none (x ∷ l) (suc i) h = getElem-none l i (omega arith)
 
-pub record ThreadAt (s cells : List ℕ) (top w : ℕ) (state : State) (i : ℕ) : Type 0 where
+pub record ThreadAt (forms cells : List ℕ) (top w : ℕ) (state : State) (i : ℕ) : Type 0 where
   pub thread : Thread
   pub here : getElem? (state .threads) i ≡ some thread
-  pub acts : Acts s cells top (unpacked w) thread
+  pub acts : Acts forms cells top (unpacked w) thread
 
-module _ (s : List ℕ) (z : Sizes) (turns : ℕ) (threads types : List ℕ) (known : List Bool) (cells : List ℕ) (state : State)
-    (room : length threads ≡ 128) (h : Holds s z turns threads types known cells state) (i : ℕ) where
+module _ (forms : List ℕ) (z : Sizes) (turns : ℕ) (threads types : List ℕ) (known : List Bool) (cells : List ℕ) (state : State)
+    (room : length threads ≡ 128) (h : Holds forms z turns threads types known cells state) (i : ℕ) where
   pub count : length (state .threads) ≡ z .threads
   count = sym (pairs-length (h .threads)) ∙ length-take-le (z .threads) threads (omega (arith, h .few))
 
   pub no-thread : z .threads ≤ i → getElem? (state .threads) i ≡ none
   no-thread k = getElem-none (state .threads) i (omega (arith, count))
 
-  pub thread-is : i < z .threads → ThreadAt s cells (z .cells) (getD threads i 0) state i
+  pub thread-is : i < z .threads → ThreadAt forms cells (z .cells) (getD threads i 0) state i
   thread-is k =
       let found = pairs-at 0 i (h .threads) (omega (arith, length-take-le (z .threads) threads (omega (arith, h .few)))) in
       let w = getD threads i 0 in
       let e : getD (take (z .threads) threads) i 0 ≡ w = getD-take (z .threads) threads i 0 k in
-      let runs : Runs s cells (z .cells) w (found .item) = rw e at (found .holds) in
+      let runs : Runs forms cells (z .cells) w (found .item) = rw e at (found .holds) in
       record {
         thread = found .item;
         here = found .here;
         acts = record {
           env = runs .env;
           small = component-small w;
-          scope = unfold unpacked in mod-lt _ (lit< tt);
-          nested = unfold unpacked in mod-lt _ (lit< tt);
+          scope = runs .scope;
+          deep = runs .deep;
           component = runs .component;
           names = runs .names;
           process = runs .process;
@@ -150,34 +149,33 @@ module _ (state : State) (i : ℕ) (u : Thread) (here : getElem? (state .threads
       rw (join-set (state .threads) i (new ++ (u ∷ [])) (inside (state .threads) i u here), before-here (state .threads) i u new here) refl
 
 -- The thread at an index, with its prefix.
-pub record Looked (s cells : List ℕ) (top : ℕ) (t : Place) (state : State) (i : ℕ) (st : Prefix) : Type 0 where
+pub record Looked (forms cells : List ℕ) (top : ℕ) (t : Place) (state : State) (i : ℕ) (st : Prefix) : Type 0 where
   pub thread : Thread
   pub here : getElem? (state .threads) i ≡ some thread
-  pub acts : Acts s cells top t thread
-  pub prefixed : HasPrefix s t thread st
+  pub acts : Acts forms cells top t thread
+  pub prefixed : HasPrefix forms t thread st
 
-pub look : (s : List ℕ) (z : Sizes) (turns : ℕ) (threads types : List ℕ) (known : List Bool) (cells : List ℕ) (state : State) (i : ℕ) (t : Place) (st : Prefix)
-    → length threads ≡ 128 → Holds s z turns threads types known cells state → i < z .threads → t ≡ unpacked (getD threads i 0)
-    → PrefixFound s cells t st
-    → Looked s cells (z .cells) t state i st
-look s z turns threads types known cells state i t st room h k e f =
-    let found = thread-is s z turns threads types known cells state room h i k in
-    let acts : Acts s cells (z .cells) t (found .thread) = rw e (found .acts) in
-    record { thread = found .thread; here = found .here; acts = acts; prefixed = f (found .thread) (acts .names) (acts .process) }
+pub look : (forms : List ℕ) (z : Sizes) (turns : ℕ) (threads types : List ℕ) (known : List Bool) (cells : List ℕ) (state : State) (i : ℕ) (t : Place) (st : Prefix)
+    → length threads ≡ 128 → Holds forms z turns threads types known cells state → i < z .threads → t ≡ unpacked (getD threads i 0)
+    → PrefixFound forms cells t st
+    → Looked forms cells (z .cells) t state i st
+look forms z turns threads types known cells state i t st room h k e f =
+    let found = thread-is forms z turns threads types known cells state room h i k in
+    let acts : Acts forms cells (z .cells) t (found .thread) = rw e (found .acts) in
+    record { thread = found .thread; here = found .here; acts = acts; prefixed = f (found .thread) (acts .names) (acts .process) (acts .scope) }
 
 -- A name becomes known to the environment.
-pub holds-known : (s : List ℕ) (z : Sizes) (turns : ℕ) (threads types : List ℕ) (known : List Bool) (cells : List ℕ) (state : State) (n : ℕ) → length known ≡ 1024
-    → Holds s z turns threads types known cells state
-    → Holds s z turns threads types (cond (ltb n (z .names)) (set known n true) known) cells (nowKnown n state)
+pub holds-known : (forms : List ℕ) (z : Sizes) (turns : ℕ) (threads types : List ℕ) (known : List Bool) (cells : List ℕ) (state : State) (n : ℕ) → length known ≡ 1024
+    → Holds forms z turns threads types known cells state
+    → Holds forms z turns threads types (cond (ltb n (z .names)) (set known n true) known) cells (nowKnown n state)
 unfolding nowKnown
-holds-known s z turns threads types known cells state n room h = go (ltb n (z .names)) refl
+holds-known forms z turns threads types known cells state n room h = go (ltb n (z .names)) refl
   where
     go : (b : Bool) → ltb n (z .names) ≡ b
-        → Holds s z turns threads types (cond b (set known n true) known) cells (record { threads = state .threads; types = state .types; known = set (state .known) n true })
+        → Holds forms z turns threads types (cond b (set known n true) known) cells (record { threads = state .threads; types = state .types; known = set (state .known) n true })
     go true e =
         let lt : n < z .names = ltb-true n (z .names) e in
         record {
-          short = h .short;
           few = h .few;
           given = h .given;
           slack = h .slack;
@@ -190,7 +188,6 @@ holds-known s z turns threads types known cells state n room h = go (ltb n (z .n
         let le : z .names ≤ n = ltb-false n (z .names) e in
         let long : length (state .known) ≡ z .names = ap length (sym (h .known)) ∙ length-take-le (z .names) known (omega (arith, h .given)) in
         record {
-          short = h .short;
           few = h .few;
           given = h .given;
           slack = h .slack;
@@ -200,7 +197,7 @@ holds-known s z turns threads types known cells state n room h = go (ltb n (z .n
           quiet = h .quiet;
         }
 
-pub known-is : {s : List ℕ} {z : Sizes} {turns : ℕ} {threads types : List ℕ} {known : List Bool} {cells : List ℕ} {state : State} (n : ℕ) (b : Bool)
-    → b ≡ getD (take (z .names) known) n false → Holds s z turns threads types known cells state → environmentKnows state n ≡ b
+pub known-is : {forms : List ℕ} {z : Sizes} {turns : ℕ} {threads types : List ℕ} {known : List Bool} {cells : List ℕ} {state : State} (n : ℕ) (b : Bool)
+    → b ≡ getD (take (z .names) known) n false → Holds forms z turns threads types known cells state → environmentKnows state n ≡ b
 unfolding environmentKnows
 known-is n b e h = sym (e ∙ ap (λ l. getD l n false) (h .known))

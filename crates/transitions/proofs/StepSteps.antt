@@ -17,38 +17,38 @@ use Rattle.products.specs.Held.{Holds}
 use Rattle.transitions.specs.declared.Moved.{Moved}
 use Rattle.transitions.specs.Steps.{Answers, Stepped, SteppedAny}
 
-module _ (s : List ℕ) (m : Move) (z : Sizes) (threads types : List ℕ) (known : List Bool) (cells : List ℕ) where
+module _ (forms : List ℕ) (m : Move) (z : Sizes) (threads types : List ℕ) (known : List Bool) (cells : List ℕ) where
   abbrev Told : List ℕ → List ℕ → List Bool → List ℕ → Moved → Type 0
-  Told threads′ types′ known′ cells′ r = Stepped s z threads types known cells threads′ types′ known′ cells′ (λ state. step state (moveOf m)) r
+  Told threads′ types′ known′ cells′ r = Stepped forms z threads types known cells threads′ types′ known′ cells′ (λ state. step state (moveOf m)) r
 
   module _ (threads′ types′ cells′ : List ℕ) (r : Moved) where
     pub step-unfold : (i : ℕ) → m ≡ move.Unfold i → length known ≡ 1024
-        → SteppedAny s z threads types cells threads′ types′ cells′ (λ state. unfoldStep state i) r → Told threads′ types′ known cells′ r
+        → SteppedAny forms z threads types cells threads′ types′ cells′ (λ state. unfoldStep state i) r → Told threads′ types′ known cells′ r
     unfolding step moveOf
     step-unfold i e room f state turns few h = rw e (f state turns known few room h)
 
     pub step-send : (i : ℕ) (known′ : List Bool) → m ≡ move.SendOut i
-        → Stepped s z threads types known cells threads′ types′ known′ cells′ (λ state. sendStep state i) r → Told threads′ types′ known′ cells′ r
+        → Stepped forms z threads types known cells threads′ types′ known′ cells′ (λ state. sendStep state i) r → Told threads′ types′ known′ cells′ r
     unfolding step moveOf
     step-send i known′ e f state turns few h = rw e (f state turns few h)
 
     pub step-receive : (p : Receipt) → m ≡ move.ReceiveIn p
-        → Stepped s z threads types known cells threads′ types′ known cells′ (λ state. receiveStep state (p .thread) (p .name)) r
+        → Stepped forms z threads types known cells threads′ types′ known cells′ (λ state. receiveStep state (p .thread) (p .name)) r
         → Told threads′ types′ known cells′ r
     unfolding step moveOf
     step-receive p e f state turns few h = rw e (f state turns few h)
 
     pub step-communicate : (p : Communication) → m ≡ move.Communicate p → length known ≡ 1024
-        → SteppedAny s z threads types cells threads′ types′ cells′ (λ state. communicateStep state (p .sender) (p .receiver)) r
+        → SteppedAny forms z threads types cells threads′ types′ cells′ (λ state. communicateStep state (p .sender) (p .receiver)) r
         → Told threads′ types′ known cells′ r
     unfolding step moveOf
     step-communicate p e room f state turns few h = rw e (f state turns known few room h)
 
   pub step-environment : (types′ : List ℕ) (known′ : List Bool) (r : Moved) (t : ℕ) → m ≡ move.EnvironmentName t → length threads ≡ 128
-      → ((s threads cells : List ℕ) (state : State) (turns : ℕ) → length threads ≡ 128 → Holds s z turns threads types known cells state
-      → Answers s (turns + 1) threads types′ known′ cells state (environmentStep state t) r)
+      → ((forms threads cells : List ℕ) (state : State) (turns : ℕ) → length threads ≡ 128 → Holds forms z turns threads types known cells state
+      → Answers forms (turns + 1) threads types′ known′ cells state (environmentStep state t) r)
       → Told threads types′ known′ cells r
   unfolding step moveOf
-  step-environment types′ known′ r t e room f state turns few h = rw e (f s threads cells state turns room h)
+  step-environment types′ known′ r t e room f state turns few h = rw e (f forms threads cells state turns room h)
 
 pub ruleset step-steps = (needs, step-unfold, step-send, step-receive, step-communicate, step-environment)

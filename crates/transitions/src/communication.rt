@@ -1,6 +1,6 @@
 // 04, a communication of a sender and a receiver on one channel.
 ghost use mathlib.Core.Path.{_≡_};
-ghost use Prim.Native.Nat.{_<_};
+ghost use Prim.Native.Nat.{_+_, _-_, _<_};
 ghost use Rattle.running.specs.State.{Thread as Running};
 ghost use Rattle.running.specs.Moves.{asSending, asReceiving, communicateStep};
 ghost use Rattle.continuations.specs.Prefixes.{sendingOf, receivingOf};
@@ -23,7 +23,7 @@ use script::Record;
 
 // 04 of a sender and a receiver.
 fn communicate_both(
-    s: &[u8],
+    forms: &[usize],
     m: Communication,
     sender: Actor,
     receiver: Actor,
@@ -36,10 +36,10 @@ fn communicate_both(
     requires { ⌜ (m .sender < sizes .threads) × (m .receiver < sizes .threads)
         × Tables sizes (now threads) (now made) (now types) (now cells) ⌝ }
     ensures { λ r. ⌜ ((v w : Running)
-        → asSending v (v .process) ≡ sendingOf (now (s .entry)) (sender .thread) (Prefix.Sends (sender .act))
-        → asReceiving w (w .process) ≡ receivingOf (now (s .entry)) (receiver .thread) (Prefix.Receives (receiver .act))
-        → receiver .thread .names < 64 → sender .act .object < 65536
-        → Met (now (s .entry)) sizes m (sender .thread) (receiver .thread) v w
+        → asSending v (v .process) ≡ sendingOf (now (forms .entry)) (sender .thread) (Prefix.Sends (sender .act))
+        → asReceiving w (w .process) ≡ receivingOf (now (forms .entry)) (receiver .thread) (Prefix.Receives (receiver .act))
+        → receiver .thread .names + (receiver .thread .nest - 1) < 128 → sender .act .object < 65536
+        → Met (now (forms .entry)) sizes m (sender .thread) (receiver .thread) v w
         (now (threads .entry)) (now (types .entry)) (now (cells .entry))
         (now (threads .exit)) (now (types .exit)) (now (cells .exit)) r) ⌝ }
 {
@@ -65,13 +65,13 @@ fn communicate_both(
         actor: t.component,
         receiver: u.component,
     };
-    let placed = exchange(s, x, sizes, threads, made, types, cells);
+    let placed = exchange(forms, x, sizes, threads, made, types, cells);
     outcome(placed, line)
 }
 
 // 04 of a sender: its receiver's prefix must be a receive.
 fn communicate_sender(
-    s: &[u8],
+    forms: &[usize],
     m: Communication,
     sender: Actor,
     u: Thread,
@@ -84,15 +84,15 @@ fn communicate_sender(
     requires { ⌜ (m .sender < sizes .threads) × (m .receiver < sizes .threads)
         × Tables sizes (now threads) (now made) (now types) (now cells) ⌝ }
     ensures { λ r. ⌜ ((v w : Running)
-        → asSending v (v .process) ≡ sendingOf (now (s .entry)) (sender .thread) (Prefix.Sends (sender .act))
+        → asSending v (v .process) ≡ sendingOf (now (forms .entry)) (sender .thread) (Prefix.Sends (sender .act))
         → sender .act .object < 65536
-        → Met (now (s .entry)) sizes m (sender .thread) u v w (now (threads .entry)) (now (types .entry)) (now (cells .entry))
+        → Met (now (forms .entry)) sizes m (sender .thread) u v w (now (threads .entry)) (now (types .entry)) (now (cells .entry))
         (now (threads .exit)) (now (types .exit)) (now (cells .exit)) r) ⌝ }
 {
-    let prefix = prefix_of(s, u, cells);
+    let prefix = prefix_of(forms, u, cells);
     match prefix {
         Prefix::Receives(act) => communicate_both(
-            s,
+            forms,
             m,
             sender,
             Actor { thread: u, act },
@@ -110,7 +110,7 @@ fn communicate_sender(
 
 // 04 of two threads: the first one's prefix must be a send.
 fn communicate_threads(
-    s: &[u8],
+    forms: &[usize],
     m: Communication,
     t: Thread,
     u: Thread,
@@ -123,13 +123,13 @@ fn communicate_threads(
     requires { ⌜ (m .sender < sizes .threads) × (m .receiver < sizes .threads)
         × Tables sizes (now threads) (now made) (now types) (now cells) ⌝ }
     ensures { λ r. ⌜ ((v w : Running)
-        → Met (now (s .entry)) sizes m t u v w (now (threads .entry)) (now (types .entry)) (now (cells .entry))
+        → Met (now (forms .entry)) sizes m t u v w (now (threads .entry)) (now (types .entry)) (now (cells .entry))
         (now (threads .exit)) (now (types .exit)) (now (cells .exit)) r) ⌝ }
 {
-    let prefix = prefix_of(s, t, cells);
+    let prefix = prefix_of(forms, t, cells);
     match prefix {
         Prefix::Sends(act) => communicate_sender(
-            s,
+            forms,
             m,
             Actor { thread: t, act },
             u,
@@ -147,7 +147,7 @@ fn communicate_threads(
 
 // 04: a communication.
 pub fn communicate(
-    s: &[u8],
+    forms: &[usize],
     m: Communication,
     sizes: Sizes,
     threads: &mut [usize],
@@ -156,7 +156,7 @@ pub fn communicate(
     cells: &mut [usize],
 ) -> Moved
     requires { ⌜ Tables sizes (now threads) (now made) (now types) (now cells) ⌝ }
-    ensures { λ r. ⌜ SteppedAny (now (s .entry)) sizes (now (threads .entry)) (now (types .entry)) (now (cells .entry))
+    ensures { λ r. ⌜ SteppedAny (now (forms .entry)) sizes (now (threads .entry)) (now (types .entry)) (now (cells .entry))
         (now (threads .exit)) (now (types .exit)) (now (cells .exit)) (λ state. communicateStep state (m .sender) (m .receiver)) r ⌝ }
 {
     if sizes.threads <= m.sender {
@@ -167,5 +167,5 @@ pub fn communicate(
     }
     let t = thread_at(threads, m.sender);
     let u = thread_at(threads, m.receiver);
-    communicate_threads(s, m, t, u, sizes, threads, made, types, cells)
+    communicate_threads(forms, m, t, u, sizes, threads, made, types, cells)
 }

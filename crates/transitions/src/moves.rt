@@ -16,7 +16,7 @@ use script::Move;
 
 // A move on the state that the last one left.
 pub fn step(
-    s: &[u8],
+    forms: &[usize],
     m: Move,
     sizes: Sizes,
     threads: &mut [usize],
@@ -26,15 +26,15 @@ pub fn step(
     cells: &mut [usize],
 ) -> Moved
     requires { ⌜ Tables sizes (now threads) (now made) (now types) (now cells) × (length (now known) ≡ 1024) ⌝ }
-    ensures { λ r. ⌜ Stepped (now (s .entry)) sizes
+    ensures { λ r. ⌜ Stepped (now (forms .entry)) sizes
         (now (threads .entry)) (now (types .entry)) (now (known .entry)) (now (cells .entry))
         (now (threads .exit)) (now (types .exit)) (now (known .exit)) (now (cells .exit)) (λ state. stepOf state (moveOf m)) r ⌝ }
 {
     match m {
-        Move::Unfold(i) => unfold_replication(s, i, sizes, threads, made, types, cells),
-        Move::SendOut(i) => send_out(s, i, sizes, threads, made, types, known, cells),
-        Move::ReceiveIn(r) => receive_in(s, r, sizes, threads, made, types, known, cells),
-        Move::Communicate(r) => communicate(s, r, sizes, threads, made, types, cells),
+        Move::Unfold(i) => unfold_replication(forms, i, sizes, threads, made, types, cells),
+        Move::SendOut(i) => send_out(forms, i, sizes, threads, made, types, known, cells),
+        Move::ReceiveIn(r) => receive_in(forms, r, sizes, threads, made, types, known, cells),
+        Move::Communicate(r) => communicate(forms, r, sizes, threads, made, types, cells),
         Move::EnvironmentName(t) => environment_name(t, sizes, types, known),
     }
 }

@@ -1,6 +1,6 @@
 // 03, a receive from the environment, of a known name that has the bound type.
 ghost use mathlib.Core.Path.{_≡_};
-ghost use Prim.Native.Nat.{_<_};
+ghost use Prim.Native.Nat.{_+_, _-_, _<_};
 ghost use lib.ListN.{length};
 ghost use Rattle.running.specs.State.{Thread as Running};
 ghost use Rattle.running.specs.Moves.{asReceiving, receiveStep};
@@ -28,7 +28,7 @@ use script::Record;
 
 // 03 of a thread whose prefix is a receive, the name known and of the bound type.
 fn receive_on(
-    s: &[u8],
+    forms: &[usize],
     t: Thread,
     act: Action,
     m: Receipt,
@@ -39,16 +39,16 @@ fn receive_on(
     cells: &mut [usize],
 ) -> Moved
     requires { ⌜ (m .thread < sizes .threads) × Tables sizes (now threads) (now made) (now types) (now cells) ⌝ }
-    ensures { λ r. ⌜ ((u : Running) → t .names < 64 → m .name < 65536
-        → ActedAny (now (s .entry)) sizes t (m .thread) u (now (threads .entry)) (now (types .entry)) (now (cells .entry))
-        (now (threads .exit)) (now (types .exit)) (now (cells .exit)) (λ state. received (now (s .entry)) t act m state u) r) ⌝ }
+    ensures { λ r. ⌜ ((u : Running) → t .names + (t .nest - 1) < 128 → m .name < 65536
+        → ActedAny (now (forms .entry)) sizes t (m .thread) u (now (threads .entry)) (now (types .entry)) (now (cells .entry))
+        (now (threads .exit)) (now (types .exit)) (now (cells .exit)) (λ state. received (now (forms .entry)) t act m state u) r) ⌝ }
 {
     let cell = sizes.cells;
     let process = under_cell(continuation(t, act.next), cell);
     let wider = with_cell(sizes);
     bind(cells, cell, t.env, m.name);
     let placed = replace(
-        s,
+        forms,
         process,
         m.thread,
         m.thread + 1,
@@ -73,7 +73,7 @@ fn receive_on(
 
 // 03 of a thread whose prefix is a receive.
 fn receive_at(
-    s: &[u8],
+    forms: &[usize],
     t: Thread,
     act: Action,
     m: Receipt,
@@ -86,9 +86,9 @@ fn receive_at(
 ) -> Moved
     requires { ⌜ (m .thread < sizes .threads)
         × Tables sizes (now threads) (now made) (now types) (now cells) × (length (now known) ≡ 1024) ⌝ }
-    ensures { λ r. ⌜ ((u : Running) → t .names < 64
-        → asReceiving u (u .process) ≡ receivingOf (now (s .entry)) t (Prefix.Receives act)
-        → Acted (now (s .entry)) sizes t (m .thread) u
+    ensures { λ r. ⌜ ((u : Running) → t .names + (t .nest - 1) < 128
+        → asReceiving u (u .process) ≡ receivingOf (now (forms .entry)) t (Prefix.Receives act)
+        → Acted (now (forms .entry)) sizes t (m .thread) u
         (now (threads .entry)) (now (types .entry)) (now (known .entry)) (now (cells .entry))
         (now (threads .exit)) (now (types .exit)) (now (known .entry)) (now (cells .exit))
         (λ state. receiveStep state (m .thread) (m .name)) r) ⌝ }
@@ -102,12 +102,12 @@ fn receive_at(
     if type_of(types, sizes.names, m.name) != act.object {
         return refused(33, sizes);
     }
-    receive_on(s, t, act, m, sizes, threads, made, types, cells)
+    receive_on(forms, t, act, m, sizes, threads, made, types, cells)
 }
 
 // 03: a receive from the environment.
 pub fn receive_in(
-    s: &[u8],
+    forms: &[usize],
     m: Receipt,
     sizes: Sizes,
     threads: &mut [usize],
@@ -117,7 +117,7 @@ pub fn receive_in(
     cells: &mut [usize],
 ) -> Moved
     requires { ⌜ Tables sizes (now threads) (now made) (now types) (now cells) × (length (now known) ≡ 1024) ⌝ }
-    ensures { λ r. ⌜ Stepped (now (s .entry)) sizes
+    ensures { λ r. ⌜ Stepped (now (forms .entry)) sizes
         (now (threads .entry)) (now (types .entry)) (now (known .entry)) (now (cells .entry))
         (now (threads .exit)) (now (types .exit)) (now (known .entry)) (now (cells .exit))
         (λ state. receiveStep state (m .thread) (m .name)) r ⌝ }
@@ -126,10 +126,10 @@ pub fn receive_in(
         return refused(30, sizes);
     }
     let t = thread_at(threads, m.thread);
-    let prefix = prefix_of(s, t, cells);
+    let prefix = prefix_of(forms, t, cells);
     match prefix {
         Prefix::Receives(act) => receive_at(
-            s,
+            forms,
             t,
             act,
             m,

@@ -46,7 +46,7 @@ fn sent_line(act: Action, component: usize, old: bool) -> Record
 
 // 02 of a thread whose prefix is a send: the name sent becomes known.
 fn send_at(
-    s: &[u8],
+    forms: &[usize],
     t: Thread,
     act: Action,
     i: usize,
@@ -59,8 +59,8 @@ fn send_at(
 ) -> Moved
     requires { ⌜ (i < sizes .threads)
         × Tables sizes (now threads) (now made) (now types) (now cells) × (length (now known) ≡ 1024) ⌝ }
-    ensures { λ r. ⌜ ((u : Running) → asSending u (u .process) ≡ sendingOf (now (s .entry)) t (Prefix.Sends act)
-        → Acted (now (s .entry)) sizes t i u (now (threads .entry)) (now (types .entry)) (now (known .entry)) (now (cells .entry))
+    ensures { λ r. ⌜ ((u : Running) → asSending u (u .process) ≡ sendingOf (now (forms .entry)) t (Prefix.Sends act)
+        → Acted (now (forms .entry)) sizes t i u (now (threads .entry)) (now (types .entry)) (now (known .entry)) (now (cells .entry))
         (now (threads .exit)) (now (types .exit)) (now (known .exit)) (now (cells .exit)) (λ state. sendStep state i) r) ⌝ }
 {
     if !is_known(known, sizes.names, act.channel) {
@@ -68,7 +68,7 @@ fn send_at(
     }
     let line = sent_line(act, t.component, is_known(known, sizes.names, act.object));
     let placed = replace(
-        s,
+        forms,
         continuation(t, act.next),
         i,
         i + 1,
@@ -84,7 +84,7 @@ fn send_at(
 
 // 02: a send to the environment.
 pub fn send_out(
-    s: &[u8],
+    forms: &[usize],
     i: usize,
     sizes: Sizes,
     threads: &mut [usize],
@@ -94,7 +94,7 @@ pub fn send_out(
     cells: &mut [usize],
 ) -> Moved
     requires { ⌜ Tables sizes (now threads) (now made) (now types) (now cells) × (length (now known) ≡ 1024) ⌝ }
-    ensures { λ r. ⌜ Stepped (now (s .entry)) sizes
+    ensures { λ r. ⌜ Stepped (now (forms .entry)) sizes
         (now (threads .entry)) (now (types .entry)) (now (known .entry)) (now (cells .entry))
         (now (threads .exit)) (now (types .exit)) (now (known .exit)) (now (cells .exit)) (λ state. sendStep state i) r ⌝ }
 {
@@ -102,9 +102,9 @@ pub fn send_out(
         return refused(30, sizes);
     }
     let t = thread_at(threads, i);
-    let prefix = prefix_of(s, t, cells);
+    let prefix = prefix_of(forms, t, cells);
     match prefix {
-        Prefix::Sends(act) => send_at(s, t, act, i, sizes, threads, made, types, known, cells),
+        Prefix::Sends(act) => send_at(forms, t, act, i, sizes, threads, made, types, known, cells),
         Prefix::Nothing => refused(31, sizes),
         Prefix::Repeats(_) => refused(31, sizes),
         Prefix::Receives(_) => refused(31, sizes),

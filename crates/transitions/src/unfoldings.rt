@@ -20,7 +20,7 @@ use script::Record;
 
 // 01 of a thread whose prefix is a replication, what is repeated at `next`: its products go before the repeat.
 fn unfold_at(
-    s: &[u8],
+    forms: &[usize],
     t: Thread,
     next: usize,
     i: usize,
@@ -31,12 +31,12 @@ fn unfold_at(
     cells: &mut [usize],
 ) -> Moved
     requires { ⌜ (i < sizes .threads) × Tables sizes (now threads) (now made) (now types) (now cells) ⌝ }
-    ensures { λ r. ⌜ ((u : Running) → asRepeat (u .process) ≡ repeatOf (now (s .entry)) t (Prefix.Repeats next)
-        → ActedAny (now (s .entry)) sizes t i u (now (threads .entry)) (now (types .entry)) (now (cells .entry))
+    ensures { λ r. ⌜ ((u : Running) → asRepeat (u .process) ≡ repeatOf (now (forms .entry)) t (Prefix.Repeats next)
+        → ActedAny (now (forms .entry)) sizes t i u (now (threads .entry)) (now (types .entry)) (now (cells .entry))
         (now (threads .exit)) (now (types .exit)) (now (cells .exit)) (λ state. unfoldStep state i) r) ⌝ }
 {
     let placed = replace(
-        s,
+        forms,
         continuation(t, next),
         i,
         i,
@@ -61,7 +61,7 @@ fn unfold_at(
 
 // 01: the unfolding of a replication.
 pub fn unfold_replication(
-    s: &[u8],
+    forms: &[usize],
     i: usize,
     sizes: Sizes,
     threads: &mut [usize],
@@ -70,16 +70,16 @@ pub fn unfold_replication(
     cells: &mut [usize],
 ) -> Moved
     requires { ⌜ Tables sizes (now threads) (now made) (now types) (now cells) ⌝ }
-    ensures { λ r. ⌜ SteppedAny (now (s .entry)) sizes (now (threads .entry)) (now (types .entry)) (now (cells .entry))
+    ensures { λ r. ⌜ SteppedAny (now (forms .entry)) sizes (now (threads .entry)) (now (types .entry)) (now (cells .entry))
         (now (threads .exit)) (now (types .exit)) (now (cells .exit)) (λ state. unfoldStep state i) r ⌝ }
 {
     if sizes.threads <= i {
         return refused(30, sizes);
     }
     let t = thread_at(threads, i);
-    let prefix = prefix_of(s, t, cells);
+    let prefix = prefix_of(forms, t, cells);
     match prefix {
-        Prefix::Repeats(next) => unfold_at(s, t, next, i, sizes, threads, made, types, cells),
+        Prefix::Repeats(next) => unfold_at(forms, t, next, i, sizes, threads, made, types, cells),
         Prefix::Nothing => refused(31, sizes),
         Prefix::Receives(_) => refused(31, sizes),
         Prefix::Sends(_) => refused(31, sizes),

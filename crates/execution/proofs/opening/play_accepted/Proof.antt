@@ -18,6 +18,7 @@ play-accepted-spec =
     (λ c. search needs)
     (λ c. search needs)
     (λ c. search needs)
+    (λ c. search needs)
     play-with-requires
     (λ c. search needs)
     (λ c. search needs))
