@@ -1,34 +1,32 @@
--- The loops of src/grants.rt, step by step: each keeps an equation between what is asked of the whole list and of what is left
--- of it.
+-- The loops of src/grants.rt but those of the scan (`ScanSteps`), step by step: each keeps an equation between what is asked of the whole
+-- list and of what is left of it.
 use Prim.Native.Nat.{ℕ, _+_, _-_, _*_, _≤_, _<_}
 use mathlib.Core.Path.{_≡_, refl, sym, ap, _∙_}
-use mathlib.Core.Bool.{Bool, true, false, cond, _&&_}
-use mathlib.Core.List.{List, [], _∷_, _++_, map, append-assoc, append-nil}
+use mathlib.Core.Bool.{Bool, true, false, cond}
+use mathlib.Core.List.{List, [], _∷_}
 use native.Mathlib.Numerals.{add-one}
 use native.Mathlib.Omega.{arith}
-use borrow.Author.Tests.{ltb-true, le-ltb, lt-ltb, eq-eqb, ne-eqb}
-use lib.Dec.{ltb, eqb}
-use lib.ListN.{length, getD, take, drop, set, length-take, length-set, drop-of-length-le}
-use lib.Seq.{drop-cons, getD-take, take-all}
-use Rattle.reading.specs.Forms.{member}
-use Rattle.reading.proofs.PathLaws.{one-more}
+use borrow.Author.Tests.{le-ltb, lt-ltb, eq-eqb, ne-eqb}
+use lib.Dec.{ltb}
+use lib.ListN.{length, getD, take, drop, length-take, drop-of-length-le}
+use lib.Seq.{drop-cons, getD-take}
 use Rattle.inference.specs.Lists.{every, any}
 use Rattle.inference.specs.Counts.{Count, fin, unlimited, _⊕_}
 use Rattle.policy.specs.Syntax.{hasBit}
 use Rattle.fit.specs.Grants.{storedCount, listed}
-use Rattle.policy.specs.Rows.{Flat, nodeAt, wordIn, itemsAt, permissionsOf, flatOf, flats}
-use Rattle.fit.specs.Givers.{giverIn, givenAt, totalOf, joinedAt, indexOf}
+use Rattle.policy.specs.Rows.{nodeAt, wordIn, itemsAt, permissionsOf}
+use Rattle.fit.specs.Givers.{givenAt, totalOf, joinedAt, indexOf}
 use Rattle.policy.specs.declared.Node.{Node}
 use Rattle.policy.specs.declared.Permissions.{Permissions as Stored}
 use Rattle.fit.specs.declared.Total.{Total}
 use Rattle.policy.proofs.NodeLaws.{node-steps}
-use Rattle.policy.proofs.RowLaws.{flats-more, flats-none, items-more, items-none, items-all, kinds-none}
+use Rattle.policy.proofs.RowLaws.{items-more, items-none, items-all, kinds-none}
 
 -- The first n of a list, from the i-th on: none past its end, before it the i-th and what follows.
-past-end : (l : List ℕ) (n i : ℕ) → length l ≤ i → drop i (take n l) ≡ []
+pub past-end : (l : List ℕ) (n i : ℕ) → length l ≤ i → drop i (take n l) ≡ []
 past-end l n i h = drop-of-length-le (take n l) {i = i} (omega (arith, length-take n l))
 
-one-left : (l : List ℕ) (n i : ℕ) → i < n → i < length l → drop i (take n l) ≡ getD l i 0 ∷ drop (i + 1) (take n l)
+pub one-left : (l : List ℕ) (n i : ℕ) → i < n → i < length l → drop i (take n l) ≡ getD l i 0 ∷ drop (i + 1) (take n l)
 one-left l n i h k = rw (drop-cons (take n l) i 0 (omega (arith, length-take n l)), getD-take, add-one)
 
 -- The search for a kind has come to place i.
@@ -78,94 +76,6 @@ module _ (n : ℕ) (l : List ℕ) (i : ℕ) (s : AllSoFar n l i) where
   all-next k j h q = record { same = rw (one-left l n i h (omega arith), lt-ltb (getD l i 0) 64 q) at (s .same) }
 
 pub ruleset all-steps = (node-steps, all-starts, all-end, all-eight, all-missing, all-next)
-
--- The limit after a node: below a node that is reached, one deeper than it; at one that is not, its depth.
-pub limit-below : (path : List ℕ) (g limit d : ℕ) (b : Bool) → d ≤ limit → b ≡ member g path → b ≡ true
-    → d + 1 ≡ cond (ltb limit d) limit (cond (member g path) (d + 1) d)
-limit-below path g limit d b h p q = rw (le-ltb limit d h, sym p, q)
-
-pub limit-beside : (path : List ℕ) (g limit d : ℕ) (b : Bool) → d ≤ limit → b ≡ member g path → b ≡ false
-    → d ≡ cond (ltb limit d) limit (cond (member g path) (d + 1) d)
-limit-beside path g limit d b h p q = rw (le-ltb limit d h, sym p, q)
-
--- The search for a group's first reached node has come to row i.
-pub record GiverSoFar (nodes path : List ℕ) (g start end limit i : ℕ) : Type 0 where
-  pub same : (c : List ℕ) → giverIn path g 0 start (flats c nodes start (end - start)) ≡ giverIn path g limit i (flats c nodes i (end - i))
-
-pub giver-starts : (nodes path : List ℕ) (g start end : ℕ) → GiverSoFar nodes path g start end 0 start
-giver-starts nodes path g start end = record { same = λ c. refl }
-
--- At a row the search either ends, or goes on with the limit after the row's node.
-giver-row : (path : List ℕ) (g limit row : ℕ) (n : Node) (c : List ℕ) (later : List Flat)
-    → giverIn path g limit row (flatOf c n ∷ later)
-    ≡ (let l : ℕ = cond (ltb limit (n .depth)) limit (cond (member (n .group) path) (n .depth + 1) (n .depth)) in
-    cond (ltb (n .depth) l && eqb (n .group) g) row (giverIn path g l (row + 1) later))
-unfolding giverIn flatOf
-giver-row path g limit row n c later = go (ltb limit (n .depth)) refl (member (n .group) path)
-  where
-    go : (a : Bool) → ltb limit (n .depth) ≡ a → (b : Bool)
-        → cond a (giverIn path g limit (row + 1) later)
-        (cond b (cond (eqb (n .group) g) row (giverIn path g (n .depth + 1) (row + 1) later)) (giverIn path g (n .depth) (row + 1) later))
-        ≡ (let l : ℕ = cond a limit (cond b (n .depth + 1) (n .depth)) in cond (ltb (n .depth) l && eqb (n .group) g) row (giverIn path g l (row + 1) later))
-    go true e b = rw (le-ltb (n .depth) limit (omega (arith, ltb-true limit (n .depth) e)))
-    go false e true = rw (lt-ltb (n .depth) (n .depth + 1) (omega arith))
-    go false e false = rw (le-ltb (n .depth) (n .depth) (omega arith))
-
-module _ (nodes path : List ℕ) (g start end limit i : ℕ) (s : GiverSoFar nodes path g start end limit i) where
-  pub giver-ends : end ≤ i → (c : List ℕ) → 64 ≡ giverIn path g 0 start (flats c nodes start (end - start))
-  unfolding giverIn
-  giver-ends h c = sym (rw (flats-none c nodes i end h) at (s .same c))
-
-  -- At row i, with the node there, the limit after it, and whether it gives.
-  module _ (h : i < end) (n : Node) (at : n ≡ nodeAt nodes i) (l : ℕ)
-      (after : l ≡ cond (ltb limit (n .depth)) limit (cond (member (n .group) path) (n .depth + 1) (n .depth)))
-      (b : Bool) (found : b ≡ ltb (n .depth) l && eqb (n .group) g) where
-    at-row : (c : List ℕ) → giverIn path g 0 start (flats c nodes start (end - start)) ≡ cond b i (giverIn path g l (i + 1) (flats c nodes (i + 1) (end - (i + 1))))
-    at-row c = rw (s .same c, flats-more c nodes i end h, ← at, found, after) (giver-row path g limit i n c (flats c nodes (i + 1) (end - (i + 1))))
-
-    pub giver-here : b ≡ true → (c : List ℕ) → i ≡ giverIn path g 0 start (flats c nodes start (end - start))
-    giver-here e c = sym (rw e at (at-row c))
-
-    pub giver-next : b ≡ false → GiverSoFar nodes path g start end l (i + 1)
-    giver-next e = record { same = λ c. rw e at (at-row c) }
-
-pub ruleset giver-steps = (node-steps, limit-below, limit-beside, giver-starts, giver-ends, giver-here, giver-next)
-
--- The givers of a path's first i groups are found.
-pub record GiversSoFar (nodes : List ℕ) (start end n : ℕ) (groups rows : List ℕ) (i : ℕ) : Type 0 where
-  pub whole : (c : List ℕ) → take i rows ++ map (λ g. giverIn (take n groups) g 0 start (flats c nodes start (end - start))) (drop i (take n groups))
-      ≡ map (λ g. giverIn (take n groups) g 0 start (flats c nodes start (end - start))) (take n groups)
-  pub few : i ≤ n
-  pub long : length rows ≡ 8
-
-pub givers-start : (nodes : List ℕ) (start end n : ℕ) (groups rows : List ℕ) → length rows ≡ 8 → GiversSoFar nodes start end n groups rows 0
-givers-start nodes start end n groups rows h = record { whole = λ c. refl; few = omega arith; long = h }
-
-module _ (nodes : List ℕ) (start end n : ℕ) (groups rows : List ℕ) (i : ℕ) (s : GiversSoFar nodes start end n groups rows i) where
-  no-group-left : drop i (take n groups) ≡ [] → take n rows ≡ take i rows
-      → (c : List ℕ) → take n rows ≡ map (λ g. giverIn (take n groups) g 0 start (flats c nodes start (end - start))) (take n groups)
-  no-group-left p q c = q ∙ sym (append-nil (take i rows)) ∙ (rw p at (s .whole c))
-
-  pub givers-end : n ≤ i → (c : List ℕ) → take n rows ≡ map (λ g. giverIn (take n groups) g 0 start (flats c nodes start (end - start))) (take n groups)
-  givers-end h =
-      let e : n ≡ i = omega (arith, s .few) in
-      no-group-left (kinds-none groups n i h) (ap (λ m. take m rows) e)
-
-  pub givers-eight : length groups ≡ 8 → 8 ≤ i → (c : List ℕ) → take n rows ≡ map (λ g. giverIn (take n groups) g 0 start (flats c nodes start (end - start))) (take n groups)
-  givers-eight k h =
-      no-group-left (past-end groups n i (omega arith))
-      (take-all n rows (omega (arith, s .few, s .long)) ∙ sym (take-all i rows (omega (arith, s .long))))
-
-  pub givers-next : length groups ≡ 8 → i < 8 → i < n → (v : ℕ)
-      → ((c : List ℕ) → v ≡ giverIn (take n groups) (getD groups i 0) 0 start (flats c nodes start (end - start)))
-      → GiversSoFar nodes start end n groups (set rows i v) (i + 1)
-  givers-next k j h v q = record {
-    whole = λ c. rw (one-more rows i v (s .long) j, append-assoc, q c) (rw (one-left groups n i h (omega arith)) at (s .whole c));
-    few = omega arith;
-    long = length-set rows i v ∙ s .long;
-  }
-
-pub ruleset givers-steps = (node-steps, givers-start, givers-end, givers-eight, givers-next)
 
 -- What a row gives, and that its list is one that the table can hold.
 pub row-given : (nodes : List ℕ) (row : ℕ) (n : Node) → row < 64 → n ≡ nodeAt nodes row → (c : List ℕ) → permissionsOf c (n .permissions) ≡ givenAt c nodes row

@@ -2,6 +2,7 @@
 pub mod GrantLaws
 pub mod GrantTrees
 pub mod GrantSteps
+pub mod ScanSteps
 pub mod EntryLaws
 pub mod EntrySteps
 pub mod SearchLaws

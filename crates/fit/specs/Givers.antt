@@ -1,9 +1,10 @@
 -- The rows of the table of nodes that give to a path, and what they give together: the code's view of "reached" and of the
 -- grant (`GrantLaws`, `GrantTrees` of proofs/ tie it to document 01's definitions).
-use Prim.Native.Nat.{ℕ, zero, suc, _+_}
+use Prim.Native.Nat.{ℕ, suc, _+_, _<_}
+use mathlib.Core.Path.{_≡_}
 use mathlib.Core.List.{List, [], _∷_, map}
-use mathlib.Core.Bool.{Bool, true, false, cond}
-use lib.ListN.{take}
+use mathlib.Core.Bool.{cond}
+use lib.ListN.{take, getD}
 use lib.Dec.{ltb, eqb}
 use Rattle.reading.specs.Forms.{member}
 use Rattle.inference.specs.Counts.{Count, fin, unlimited, _⊕_}
@@ -28,6 +29,15 @@ giverIn path g limit row (f ∷ later) =
     (cond (member (f .head .group) path)
     (cond (eqb (f .head .group) g) row (giverIn path g (f .depth + 1) (row + 1) later))
     (giverIn path g (f .depth) (row + 1) later))
+
+-- A table by group, as the scan of a tree keeps it (src/grants.rt): 65 for a group that is not in the path, 64 for one of which no node is
+-- reached so far, else the row of its first reached node. This is the table before the scan.
+abbrev pub Marked : List ℕ → List ℕ → Type 0
+Marked path first = (g : ℕ) → g < 64 → getD first g 64 ≡ cond (member g path) 64 65
+
+-- The row that such a table tells of a group, or 64.
+unfoldable pub rowIn : List ℕ → ℕ → ℕ
+rowIn first g = cond (ltb (getD first g 64) 64) (getD first g 64) 64
 
 -- The rows that give to a path in a tree, which is in n rows from `start` on.
 abbrev pub giversIn : List ℕ → List ℕ → List ℕ → ℕ → ℕ → List ℕ

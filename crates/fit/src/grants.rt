@@ -1,21 +1,19 @@
 // What a policy grants a component: the nodes that its path reaches in the tree of a kind, and what they give together.
 ghost use mathlib.Core.Path.{_≡_};
-ghost use mathlib.Core.Bool.{cond, _&&_};
+ghost use mathlib.Core.Bool.{cond};
 ghost use mathlib.Core.List.{List, map};
 ghost use Prim.Native.Nat.{ℕ, _<_, _≤_, _+_, _-_};
 ghost use lib.Dec.{ltb, eqb};
-ghost use lib.ListN.{take};
-ghost use Rattle.reading.specs.Forms.{member};
+ghost use lib.ListN.{take, set};
 ghost use Rattle.reading.specs.Told.{pathOf};
 ghost use Rattle.inference.specs.Counts.{_⊕_};
 ghost use Rattle.inference.specs.Lists.{every, any};
 ghost use Rattle.policy.specs.Syntax.{hasBit};
 ghost use Rattle.fit.specs.Grants.{storedCount, listed as listedIn};
 ghost use Rattle.policy.specs.Rows.{itemsAt, permissionsOf, flats};
-ghost use Rattle.fit.specs.Givers.{indexOf, giverIn, givenRows, givenAt, totalOf, joinedAt};
+ghost use Rattle.fit.specs.Givers.{indexOf, giverIn, Marked, rowIn, givenRows, givenAt, totalOf, joinedAt};
 use crate::Givers;
 use crate::Total;
-use policy::Node;
 use policy::Permissions;
 use policy::Span;
 use policy::Trees;
@@ -24,7 +22,6 @@ use policy::nodes::node_at;
 use policy::nodes::word_in;
 use reading::Path;
 use reading::bytes::byte_in;
-use reading::paths;
 
 // The tree of a kind: its number, or the number of trees where there is none.
 pub fn tree_for(trees: Trees, kind: usize) -> usize
@@ -42,58 +39,95 @@ pub fn tree_for(trees: Trees, kind: usize) -> usize
     t
 }
 
-// How deep a node may stand to be reached, after a node: below one that is reached, one deeper than that.
-fn limit_after(node: Node, limit: usize, path: Path) -> usize
-    requires { ⌜ node .depth < 8 ⌝ }
-    ensures { λ r. ⌜ r ≡ cond (ltb limit (node .depth)) limit
-        (cond (member (node .group) (pathOf path)) (node .depth + 1) (node .depth)) ⌝ }
+// A table by group tells of each group: 65, it is not in the path; 64, no node of it is reached so far; else, the row of its first that is.
+
+// Marks a group as one of the path, where the table has it.
+fn mark(first: &mut [u8], group: usize)
+    ensures { λ r. ⌜ now (first .exit) ≡ set (now (first .entry)) group 64 ⌝ }
 {
-    if limit < node.depth {
+    if group < first.len() {
+        first[group] = 64;
+    }
+}
+
+// The table before any node: 64 for the groups of a path, 65 for all others.
+fn marks(path: Path) -> [u8; 64]
+    ensures { λ r. ⌜ Marked (pathOf path) r ⌝ }
+{
+    let groups = path.groups;
+    let len = path.len;
+    let mut first = [65u8; 64];
+    let mut i: usize = 0;
+    while i < 8 {
+        if len <= i {
+            return first;
+        }
+        mark(&mut first, groups[i]);
+        i += 1;
+    }
+    first
+}
+
+// How deep a node may stand to be reached, after a node: below one that is reached, one deeper than that. `known` is what the table
+// tells of the node's group.
+fn limit_after(known: u8, depth: usize, limit: usize) -> usize
+    requires { ⌜ depth < 8 ⌝ }
+    ensures { λ r. ⌜ r ≡ cond (ltb limit depth) limit (cond (ltb 64 known) depth (depth + 1)) ⌝ }
+{
+    if limit < depth {
         return limit;
     }
-    if paths::has(path, node.group) {
-        node.depth + 1
-    } else {
-        node.depth
-    }
+    if 64 < known { depth } else { depth + 1 }
 }
 
-// Is a node of a group reached, where this is the limit after it?
-fn gives(node: Node, limit: usize, group: usize) -> bool
-    ensures { λ r. ⌜ r ≡ ltb (node .depth) limit && eqb (node .group) group ⌝ }
+// What the table tells of a node's group, after the node: its row, if it is the first that is reached.
+fn known_after(known: u8, depth: usize, limit: usize, row: usize) -> u8
+    requires { ⌜ row < 64 ⌝ }
+    ensures { λ r. ⌜ r ≡ cond (ltb limit depth) known (cond (eqb known 64) row known) ⌝ }
 {
-    if node.depth < limit {
-        node.group == group
-    } else {
-        false
+    if limit < depth {
+        return known;
     }
+    if known == 64 { row as u8 } else { known }
 }
 
-// The row of the first node of a group that a path reaches in a tree, or 64.
-fn giver(nodes: &[usize], tree: Span, path: Path, group: usize) -> usize
+// The table after the nodes of a tree, in one scan.
+fn first_rows(nodes: &[usize], tree: Span, path: Path) -> [u8; 64]
     requires { ⌜ tree .to ≤ 64 ⌝ }
-    ensures { λ r. ⌜ ((c : List ℕ) → r ≡ giverIn (pathOf path) group 0 (tree .from)
+    ensures { λ r. ⌜ ((c : List ℕ) (g : ℕ) → rowIn r g ≡ giverIn (pathOf path) g 0 (tree .from)
         (flats c (now (nodes .entry)) (tree .from) (tree .to - tree .from))) ⌝ }
 {
+    let mut first = marks(path);
     let mut limit: usize = 0;
     let mut i = tree.from;
     while i < tree.to {
         let node = node_at(nodes, i);
-        limit = limit_after(node, limit, path);
-        if gives(node, limit, group) {
-            return i;
-        }
+        let group = node.group;
+        let known = first[group];
+        first[group] = known_after(known, node.depth, limit, i);
+        limit = limit_after(known, node.depth, limit);
         i += 1;
     }
-    64
+    first
 }
 
-// What gives to a path in a tree.
-pub fn givers(nodes: &[usize], tree: Span, path: Path) -> Givers
-    requires { ⌜ tree .to ≤ 64 ⌝ }
-    ensures { λ r. ⌜ ((c : List ℕ) → givenRows r
-        ≡ map (λ g. giverIn (pathOf path) g 0 (tree .from) (flats c (now (nodes .entry)) (tree .from) (tree .to - tree .from)))
-        (pathOf path)) ⌝ }
+// The row that the table tells of a group, or 64.
+fn row_in(first: &[u8], group: usize) -> usize
+    ensures { λ r. ⌜ r ≡ rowIn (now (first .entry)) group ⌝ }
+{
+    if first.len() <= group {
+        return 64;
+    }
+    if first[group] < 64 {
+        first[group] as usize
+    } else {
+        64
+    }
+}
+
+// The rows that the table tells of the groups of a path.
+fn rows_in(first: &[u8], path: Path) -> Givers
+    ensures { λ r. ⌜ givenRows r ≡ map (rowIn (now (first .entry))) (pathOf path) ⌝ }
 {
     let groups = path.groups;
     let len = path.len;
@@ -103,10 +137,21 @@ pub fn givers(nodes: &[usize], tree: Span, path: Path) -> Givers
         if len <= i {
             return Givers { rows, len };
         }
-        rows[i] = giver(nodes, tree, path, groups[i]);
+        rows[i] = row_in(first, groups[i]);
         i += 1;
     }
     Givers { rows, len }
+}
+
+// What gives to a path in a tree.
+pub fn givers(nodes: &[usize], tree: Span, path: Path) -> Givers
+    requires { ⌜ tree .to ≤ 64 ⌝ }
+    ensures { λ r. ⌜ ((c : List ℕ) → givenRows r
+        ≡ map (λ g. giverIn (pathOf path) g 0 (tree .from) (flats c (now (nodes .entry)) (tree .from) (tree .to - tree .from)))
+        (pathOf path)) ⌝ }
+{
+    let first = first_rows(nodes, tree, path);
+    rows_in(&first, path)
 }
 
 // Is each group of the path at a reached node?
