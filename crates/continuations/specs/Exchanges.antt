@@ -5,7 +5,6 @@ use mathlib.Core.List.{List, [], _∷_, _++_}
 use mathlib.Core.Bool.{Bool, true, false, cond}
 use lib.ListN.{length, take, drop, set}
 use lib.Dec.{ltb}
-use Rattle.reading.specs.Syntax.{Process}
 use Rattle.decoding.specs.Tables.{processIn}
 use Rattle.inference.specs.Acts.{Component}
 use Rattle.running.specs.State.{State}

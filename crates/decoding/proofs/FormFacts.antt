@@ -1,9 +1,9 @@
 -- What a form that was read tells beyond its limits: it stands within the sheet, its fields are bytes of the sheet or small, and it
 -- is read with any limits under which there is room.
-use Prim.Native.Nat.{ℕ, _+_, _<_, _≤_}
+use Prim.Native.Nat.{ℕ, _+_, _<_}
 use mathlib.Core.Bool.{Bool, true, false, cond, _&&_}
 use mathlib.Core.List.{List, []}
-use mathlib.Core.Path.{_≡_, refl, sym, ap, _∙_}
+use mathlib.Core.Path.{_≡_, sym}
 use native.Mathlib.Omega.{arith}
 use borrow.Author.Tests.{ltb-true}
 use lib.Dec.{ltb, eqb}
@@ -15,7 +15,7 @@ use Rattle.reading.specs.Types.{typeAtIn}
 use Rattle.reading.specs.Forms.{member, limited, newFormIn, inputFormIn, outputForm, freshGroupIn, groupFormIn, componentFormIn, processFormIn, processAtIn, processAt, systemFormIn, systemAtIn, systemAt}
 use Rattle.reading.specs.declared.Form.{Form}
 use Rattle.reading.specs.declared.Form.the-variants.{Nil, Par, Group, New, Component, Input, Output, Replicate}
-use Rattle.reading.proofs.Parts.{Every, of-found, every-then, every-cond, every-limited, parts, passed, never, byte-found, below-found}
+use Rattle.reading.proofs.Parts.{Every, of-found, every-then, every-cond, every-limited, parts, never, byte-found, below-found}
 use Rattle.reading.proofs.ReadLaws.{byte-place, process-local, system-local}
 use Rattle.reading.proofs.Local.{place-after}
 use Rattle.reading.proofs.TypeLaws.{type-fits, groups-64}

@@ -1,11 +1,11 @@
 -- Tables that are filled part by part: what a form's number and its parts' numbers come to together. Over any trees.
 use Prim.Native.Nat.{ℕ, _<_, _≤_}
 use mathlib.Core.List.{List}
-use mathlib.Core.Path.{_≡_, refl, sym, ap₂, ap, _∙_}
+use mathlib.Core.Path.{_≡_, ap₂, ap, _∙_}
 use native.Mathlib.Omega.{arith}
 use lib.ListN.{length, getD, set}
 use lib.Seq.{getD-set-same, getD-set-other}
-use Rattle.decoding.specs.Notes.{Alike, Noted, Headed}
+use Rattle.decoding.specs.Notes.{Noted, Headed}
 
 set-there : (l : List ℕ) (i j w : ℕ) → (j ≡ i → ⊥) → getD (set l i w) j 0 ≡ getD l j 0
 set-there l i j w h = getD-set-other l i j w 0 h

@@ -1,10 +1,9 @@
 -- The walk that decodes a sheet into a table, return by return: a form's number and its parts' numbers hold the tree that the form
 -- begins.
-use Prim.Native.Nat.{ℕ, zero, suc, _+_, _-_, _*_, _<_, _≤_}
+use Prim.Native.Nat.{ℕ, suc, _+_, _-_, _*_, _<_}
 use mathlib.Core.List.{List, [], _∷_, _++_}
-use mathlib.Core.Path.{_≡_, refl, sym, ap, _∙_}
+use mathlib.Core.Path.{_≡_, refl, sym, _∙_}
 use native.Mathlib.Omega.{arith}
-use native.Mathlib.Numerals.{sub-one}
 use borrow.Author.Needs.{needs}
 use lib.Dec.{lit<}
 use lib.ListN.{length, getD, set, length-set}
@@ -28,7 +27,7 @@ use Rattle.reading.proofs.TreeLaws.{process-begins, system-begins}
 use Rattle.reading.proofs.ReadLaws.{read-process-local, read-system-local}
 use Rattle.reading.proofs.Local.{place-after}
 use Rattle.decoding.specs.declared.Item.{Item}
-use Rattle.decoding.specs.Words.{packedForm, packed, unpacked, itemAt}
+use Rattle.decoding.specs.Words.{packedForm, packed, itemAt}
 use Rattle.decoding.specs.Tables.{processOf, processIn, systemOf, systemIn}
 use Rattle.decoding.specs.Notes.{Noted, Headed, Fitted, ProcessNoted, FormNoted, PartNoted, PartsNoted, SystemNoted, SystemFormNoted, SystemPartNoted, SystemPartsNoted}
 use Rattle.decoding.proofs.WordLaws.{FormFits, process-back, system-back}

@@ -4,7 +4,6 @@ use mathlib.Core.List.{List}
 use Rattle.reading.specs.Syntax.{Process, nil, par, new, input, output, repl, System, nilₛ, parₛ, groupₛ, newₛ, compₛ}
 use Rattle.reading.specs.declared.Form.{Form}
 use Rattle.reading.specs.declared.Form.the-variants.{Nil, Par, Group, New, Component, Input, Output, Replicate}
-use Rattle.decoding.specs.declared.Item.{Item}
 use Rattle.decoding.specs.Words.{itemAt}
 
 -- The process that begins with a form; `part` tells what stands at a later place, one level deeper.

@@ -10,15 +10,14 @@ use lib.Dec.{leb}
 use lib.ListN.{length, drop, length-append}
 use Rattle.reading.specs.Read.{Read, got, refused}
 use Rattle.service.specs.Questions.{Asked, passed, failed, ask, afterReading, Accepted, judged}
-use Rattle.service.specs.Check.{fitting, interfaceFor, written, checked}
-use Rattle.service.specs.Told.{told, Checked}
-use Rattle.service.specs.declared.Answer.{Answer}
+use Rattle.service.specs.Check.{interfaceFor, written, checked}
+use Rattle.service.specs.Told.{Checked}
 use Rattle.service.specs.declared.Answer.the-variants as answer-case
 use Rattle.running.specs.State.{State}
 use Rattle.running.specs.Products.{start}
 use Rattle.running.specs.Moves.{Move, unfoldRepl, sendOut, receiveIn, communicate, environmentName, Result, refuses, guard, given, word, recordOf, taken, unfoldStep, sendStep, receiveStep, communicateStep, environmentStep, step, stateAfter, recordBytes, hasRoom, runLog}
 use Rattle.running.specs.Script.{readScript}
-use Rattle.running.specs.Play.{Opened, openedFrom, opened, logged, outcomeOf, played}
+use Rattle.running.specs.Play.{openedFrom, opened, logged, outcomeOf, played}
 use Rattle.running.proofs.Theorem.{guaranteed}
 use Rattle.execution.specs.Told.{Played}
 use Rattle.execution.specs.Assurance.{Assured, AssuredRun}

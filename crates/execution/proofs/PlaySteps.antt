@@ -8,7 +8,7 @@ use borrow.Author.Needs.{needs}
 use borrow.Author.Tests.{le-leb, lt-leb}
 use lib.Dec.{leb}
 use lib.ListN.{length, getD, replicate, length-replicate}
-use Rattle.reading.specs.Read.{Read, got, refused}
+use Rattle.reading.specs.Read.{got, refused}
 use Rattle.reading.specs.Syntax.{Sheet}
 use Rattle.reading.specs.System.{readSheet}
 use Rattle.reading.specs.Told.{number, refusalOf}

@@ -1,5 +1,5 @@
 -- How sizes and cells grow from walk to walk, and that threads in memory stay what they are while cells are added.
-use Prim.Native.Nat.{ℕ, zero, suc, _+_, _<_, _≤_, min}
+use Prim.Native.Nat.{ℕ, _+_, _≤_}
 use mathlib.Core.Path.{_≡_, refl, sym, ap, _∙_}
 use mathlib.Core.List.{List, [], _∷_, _++_}
 use native.Mathlib.Omega.{arith}
@@ -10,7 +10,6 @@ use Rattle.inference.specs.Acts.{Component, componentAt}
 use Rattle.running.specs.State.{Thread}
 use Rattle.running.specs.Products.{news, threadsOf, systemNews, systemThreads}
 use Rattle.memory.specs.Threads.{unpacked}
-use Rattle.memory.specs.Chains.{chain}
 use Rattle.memory.proofs.ChainLaws.{chain-kept}
 use Rattle.products.specs.declared.Sizes.{Sizes}
 use Rattle.products.specs.Pairs.{Pairs}

@@ -12,7 +12,6 @@ use lib.ListN.{length, take, set, length-append}
 use lib.Seq.{take-suc-set}
 use Rattle.reading.specs.Syntax.{Process, nil, par, new, input, output, repl}
 use Rattle.reading.specs.declared.Act.{Act as Fields}
-use Rattle.reading.specs.declared.Form.{Form}
 use Rattle.reading.specs.declared.Form.the-variants.{Nil, Par, Group, New, Component as Head, Input, Output, Replicate}
 use Rattle.reading.specs.declared.OwnFields.{OwnFields}
 use Rattle.decoding.specs.declared.Item.{Item}

@@ -5,7 +5,7 @@ use mathlib.Core.List.{List, [], _∷_, _++_, append-assoc}
 use mathlib.Core.Bool.{Bool, true, false, cond}
 use mathlib.Core.Option.{some, none}
 use native.Mathlib.Omega.{arith}
-use native.Mathlib.Nat.{suc-add, mod-eq-of-lt, mod-lt}
+use native.Mathlib.Nat.{suc-add, mod-eq-of-lt}
 use borrow.Author.Tests.{ltb-true, ltb-false}
 use lib.Dec.{ltb, lit<}
 use lib.ListN.{length, getD, take, drop, set, getElem?, replicate}

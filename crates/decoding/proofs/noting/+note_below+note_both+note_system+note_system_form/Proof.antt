@@ -1,3 +1,4 @@
+-- The walk over a system notes the system that the reader reads, return by return (NoteSteps.antt); its measure is as that of a process.
 use Rattle.decoding.proofs.NoteSteps.{system-steps}
 use Prim.Native.Nat.{ℕ, _+_, _*_, _<_}
 use borrow.Fn.Kinds.{In}

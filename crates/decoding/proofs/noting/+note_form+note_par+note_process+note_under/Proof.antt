@@ -1,3 +1,5 @@
+-- The walk over a process notes the process that the reader reads. Each return is one lemma of NoteSteps; the measure is three times
+-- the nesting that is left, and a little more on the way from a form to its parts.
 use Rattle.decoding.proofs.NoteSteps.{note-steps}
 use Prim.Native.Nat.{ℕ, _+_, _*_, _<_}
 use borrow.Fn.Kinds.{In}

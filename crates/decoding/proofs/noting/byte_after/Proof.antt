@@ -1,3 +1,4 @@
+-- `byte_after` reads the byte so many places on, and 0 past the end.
 use Rattle.decoding.proofs.WordSteps.{word-steps}
 use borrow.Author.Needs.{needs}
 use Rattle.decoding.proofs.noting.byte_after.Statement.{statement}

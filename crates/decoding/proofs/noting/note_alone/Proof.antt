@@ -1,3 +1,4 @@
+-- `note_alone` stores a nothing-form, and nothing else.
 use Rattle.decoding.proofs.WordSteps.{word-steps}
 use borrow.Author.Needs.{needs}
 use Rattle.decoding.proofs.noting.note_alone.Statement.{statement}

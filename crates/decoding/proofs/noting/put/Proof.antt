@@ -1,3 +1,4 @@
+-- `put` stores the number of a form.
 use Rattle.decoding.proofs.WordSteps.{word-steps}
 use borrow.Author.Needs.{needs}
 use Rattle.decoding.proofs.noting.put.Statement.{statement}

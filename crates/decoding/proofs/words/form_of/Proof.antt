@@ -1,5 +1,5 @@
+-- `form_of` gives the form of a code: each arm of its match is one case of the definition.
 use Rattle.decoding.proofs.WordSteps.{word-steps}
-use borrow.Author.Needs.{needs}
 use Rattle.decoding.proofs.words.form_of.Statement.{statement}
 use Rattle.decoding.proofs.words.form_of.Tie as tie
 

@@ -1,3 +1,4 @@
+-- `item_at` takes apart the number at a place, and 0 past the end.
 use Rattle.decoding.proofs.WordSteps.{word-steps}
 use borrow.Author.Needs.{needs}
 use Rattle.decoding.proofs.words.item_at.Statement.{statement}

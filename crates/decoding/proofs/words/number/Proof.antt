@@ -1,4 +1,4 @@
-use Rattle.decoding.proofs.WordSteps.{word-steps}
+-- `number` puts a code and its fields into digits of their own, as `digits` does.
 use borrow.Author.Needs.{needs}
 use Rattle.decoding.specs.Words.{digits}
 use borrow.Author.Needs.{needs}

@@ -1,3 +1,4 @@
+-- `pack` gives the number of each form.
 use Rattle.decoding.proofs.WordSteps.{word-steps}
 use borrow.Author.Needs.{needs}
 use Rattle.decoding.proofs.words.pack.Statement.{statement}

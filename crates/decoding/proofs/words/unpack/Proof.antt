@@ -1,3 +1,4 @@
+-- `unpack` takes the digits of a number apart, as `unpacked` does.
 use Rattle.decoding.proofs.WordSteps.{word-steps}
 use borrow.Author.Needs.{needs}
 use Rattle.decoding.proofs.words.unpack.Statement.{statement}
