@@ -19,7 +19,10 @@ pub fn byte_in(s: &[u8], at: usize) -> usize
     ensures { λ r. ⌜ r ≡ getD (now (s .entry)) at 0 ⌝ }
     ensures { λ r. ⌜ r < 256 ⌝ }
 {
-    if at < s.len() { wide(s[at]) } else { 0 }
+    if s.len() <= at {
+        return 0;
+    }
+    wide(s[at])
 }
 
 // Question 2: the byte due at a place.
