@@ -28,7 +28,7 @@ pub fn all() -> Vec<Workload> {
     for posts in [4, 8, 16, 32] {
         all.push(check(&format!("check, deep: {posts} paths of 8, 64 nodes"), inputs::deep_sheet(posts), inputs::deep_charter()));
     }
-    for (moves, idle, threads) in [(1024, 0, "few"), (1024, 60, "64"), (512, 60, "64"), (256, 60, "64")] {
+    for (moves, idle, threads) in [(1024, 0, "few"), (1024, 60, "64"), (512, 60, "64"), (256, 60, "64"), (24, 0, "few"), (3, 0, "few")] {
         let name = format!("play, {moves} moves, {threads} threads");
         all.push(play(&name, inputs::running_sheet(idle), inputs::running_script(moves, idle)));
     }
