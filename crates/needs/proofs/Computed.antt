@@ -1,6 +1,6 @@
 -- All definitions that `need` is computed with, under one name (a worked case says `unfolding need-computed`).
-use Rattle.needs.specs.Needs.{linkNeed, carriedNeed, channelNeed, need}
+use Rattle.needs.specs.Needs.{linkTo, carries, caseNeed, channelNeed, need}
 
 unfoldable pub need-computed : Unit {0}
-unfolding linkNeed carriedNeed channelNeed need
+unfolding linkTo carries caseNeed channelNeed need
 need-computed = tt

@@ -1,4 +1,5 @@
--- The lemmas that the proofs of the functions share, laws of the definition, and what worked cases compute it with.
+-- The six cases, the lemmas that the proofs of the functions share, laws of the definition, and what worked cases compute it with.
+pub mod Cases
 pub mod NeedSteps
 pub mod NeedLaws
 pub mod Computed

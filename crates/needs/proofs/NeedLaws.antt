@@ -9,7 +9,9 @@ use borrow.Author.Tests.{ltb-true}
 use Rattle.reading.specs.Types.{shape}
 use Rattle.reading.specs.declared.Shape.{Shape}
 use Rattle.reading.specs.declared.Shape.the-variants.{Plain, Channel}
-use Rattle.needs.specs.Needs.{linkNeed, carriedNeed, channelNeed, need}
+use Rattle.needs.specs.Needs.{linkTo, carries, caseNeed, channelNeed, need}
+use Rattle.needs.specs.declared.Carried.{Carried}
+use Rattle.needs.specs.declared.Carried.the-variants.{Data, Link, Deeper}
 use Rattle.needs.specs.declared.Need.{Need}
 use Rattle.needs.specs.declared.Need.the-variants.{Nothing, Read, Write, Access, Disclose}
 
@@ -21,11 +23,11 @@ NeedRange (Write k) = k < 16
 NeedRange (Access k) = k < 16
 NeedRange (Disclose k g) = (k < 16) × (g < 64)
 
-unfoldable ShapeRange : Shape → Type 0
+unfoldable pub ShapeRange : Shape → Type 0
 ShapeRange (Plain k) = k < 16
 ShapeRange (Channel g t) = g < 64
 
-shape-range : (t : ℕ) → ShapeRange (shape t)
+pub shape-range : (t : ℕ) → ShapeRange (shape t)
 unfolding shape ShapeRange
 shape-range t = go (ltb t 16) refl
   where
@@ -33,24 +35,34 @@ shape-range t = go (ltb t 16) refl
     go true e = ltb-true t 16 e
     go false e = omega arith
 
-link-range : (sends : Bool) (g : ℕ) (s : Shape) → g < 64 → ShapeRange s → NeedRange (linkNeed sends g s)
-unfolding linkNeed NeedRange ShapeRange
-link-range false g (Plain t) h r = r
-link-range true g (Plain t) h r = (r, h)
-link-range false g (Channel k u) h r = tt
-link-range true g (Channel k u) h r = tt
+unfoldable CarriedRange : Carried → Type 0
+CarriedRange (Data k) = k < 16
+CarriedRange (Link k) = k < 16
+CarriedRange Deeper = Unit {0}
 
-carried-range : (sends : Bool) (g : ℕ) (s : Shape) → g < 64 → ShapeRange s → NeedRange (carriedNeed sends g s)
-unfolding carriedNeed NeedRange ShapeRange
-carried-range false g (Plain t) h r = r
-carried-range true g (Plain t) h r = r
-carried-range false g (Channel k u) h r = link-range false g (shape u) h (shape-range u)
-carried-range true g (Channel k u) h r = link-range true g (shape u) h (shape-range u)
+link-range : (s : Shape) → ShapeRange s → CarriedRange (linkTo s)
+unfolding linkTo ShapeRange CarriedRange
+link-range (Plain t) r = r
+link-range (Channel i u) r = tt
+
+carried-range : (s : Shape) → ShapeRange s → CarriedRange (carries s)
+unfolding carries ShapeRange CarriedRange
+carried-range (Plain t) r = r
+carried-range (Channel h u) r = link-range (shape u) (shape-range u)
+
+case-range : (sends : Bool) (g : ℕ) (c : Carried) → g < 64 → CarriedRange c → NeedRange (caseNeed sends g c)
+unfolding caseNeed NeedRange CarriedRange
+case-range false g (Data t) h r = r
+case-range false g (Link t) h r = r
+case-range false g Deeper h r = tt
+case-range true g (Data t) h r = r
+case-range true g (Link t) h r = (r, h)
+case-range true g Deeper h r = tt
 
 channel-range : (sends : Bool) (s : Shape) → ShapeRange s → NeedRange (channelNeed sends s)
 unfolding channelNeed NeedRange ShapeRange
 channel-range sends (Plain t) r = tt
-channel-range sends (Channel g t) r = carried-range sends g (shape t) r (shape-range t)
+channel-range sends (Channel g t) r = case-range sends g (carries (shape t)) r (carried-range (shape t) (shape-range t))
 
 pub need-range : (sends : Bool) (t : ℕ) → NeedRange (need sends t)
 unfolding need
@@ -72,25 +84,20 @@ discloses (Disclose k g) = 1
 pub no-disclosure : {P : Type 0} {k g : ℕ} (n : Need) → discloses n ≡ 0 → n ≡ Disclose k g → P
 no-disclosure n z e = let w : discloses n ≡ 1 = ap discloses e in absurd (omega arith)
 
-link-group : (sends : Bool) (g : ℕ) (s : Shape) (k h : ℕ) → linkNeed sends g s ≡ Disclose k h → g ≡ h
-unfolding linkNeed
-link-group true g (Plain t) k h e = cc
-link-group false g (Plain t) k h e = no-disclosure (Access t) refl e
-link-group true g (Channel i u) k h e = no-disclosure Nothing refl e
-link-group false g (Channel i u) k h e = no-disclosure Nothing refl e
-
-carried-group : (sends : Bool) (g : ℕ) (s : Shape) (k h : ℕ) → carriedNeed sends g s ≡ Disclose k h → g ≡ h
-unfolding carriedNeed
-carried-group true g (Plain t) k h e = no-disclosure (Write t) refl e
-carried-group false g (Plain t) k h e = no-disclosure (Read t) refl e
-carried-group true g (Channel i u) k h e = link-group true g (shape u) k h e
-carried-group false g (Channel i u) k h e = link-group false g (shape u) k h e
+case-group : (sends : Bool) (g : ℕ) (c : Carried) (k h : ℕ) → caseNeed sends g c ≡ Disclose k h → g ≡ h
+unfolding caseNeed
+case-group false g (Data t) k h e = no-disclosure (Read t) refl e
+case-group false g (Link t) k h e = no-disclosure (Access t) refl e
+case-group false g Deeper k h e = no-disclosure Nothing refl e
+case-group true g (Data t) k h e = no-disclosure (Write t) refl e
+case-group true g (Link t) k h e = cc
+case-group true g Deeper k h e = no-disclosure Nothing refl e
 
 channel-group : (sends : Bool) (s : Shape) (k h : ℕ) → channelNeed sends s ≡ Disclose k h → OfGroup h s
 unfolding channelNeed
 channel-group sends (Plain t) k h e = no-disclosure Nothing refl e
 channel-group sends (Channel g t) k h e =
-    record { carried = t; channel = ap (λ (i : ℕ). Channel i t) (carried-group sends g (shape t) k h e) }
+    record { carried = t; channel = ap (λ (i : ℕ). Channel i t) (case-group sends g (carries (shape t)) k h e) }
 
 -- A disclosed group is the channel's own.
 pub need-group : (sends : Bool) (t k h : ℕ) → need sends t ≡ Disclose k h → OfGroup h (shape t)

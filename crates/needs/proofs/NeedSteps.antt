@@ -1,61 +1,83 @@
--- What an act needs, by the shape of its channel's type: each lemma is one return of the functions, from the shape that was
--- matched and the tests that were made.
+-- What an act needs: each lemma is one return of the functions, from the shape or the case that was matched and the tests that
+-- were made.
 use Prim.Native.Nat.{ℕ}
 use mathlib.Core.Bool.{Bool, true, false}
 use mathlib.Core.Path.{_≡_}
+use borrow.Author.Tests.{not-true, not-false}
 use Rattle.reading.proofs.Tests.{tests}
 use Rattle.reading.specs.Types.{shape}
 use Rattle.reading.specs.declared.Shape.{Shape}
 use Rattle.reading.specs.declared.Shape.the-variants.{Plain, Channel}
-use Rattle.needs.specs.Needs.{need, channelNeed, linkNeed, carriedNeed}
+use Rattle.needs.specs.Needs.{need, channelNeed, caseNeed, carries, linkTo}
+use Rattle.needs.specs.declared.Carried.{Carried}
+use Rattle.needs.specs.declared.Carried.the-variants.{Data, Link, Deeper}
 use Rattle.needs.specs.declared.Need.{Need}
 use Rattle.needs.specs.declared.Need.the-variants as need-case
 
-module _ (b : Bool) (g : ℕ) (s : Shape) where
-  pub link-sends : (k : ℕ) → s ≡ Plain k → b ≡ true → need-case.Disclose k g ≡ linkNeed b g s
-  unfolding linkNeed
-  link-sends k e h = rw (e, h)
+-- What a channel carries.
+module _ (t : ℕ) (s : Shape) (q : s ≡ shape t) where
+  pub carries-data : (k : ℕ) → s ≡ Plain k → Data k ≡ carries (shape t)
+  unfolding carries
+  carries-data k e = rw (← q, e)
 
-  pub link-receives : (k : ℕ) → s ≡ Plain k → b ≡ false → need-case.Access k ≡ linkNeed b g s
-  unfolding linkNeed
-  link-receives k e h = rw (e, h)
+  module _ (h u : ℕ) (e : s ≡ Channel h u) (r : Shape) (f : r ≡ shape u) where
+    pub carries-link : (k : ℕ) → r ≡ Plain k → Link k ≡ carries (shape t)
+    unfolding carries linkTo
+    carries-link k d = rw (← q, e, ← f, d)
 
-  pub carried-sends : (k : ℕ) → s ≡ Plain k → b ≡ true → need-case.Write k ≡ carriedNeed b g s
-  unfolding carriedNeed
-  carried-sends k e h = rw (e, h)
+    pub carries-deeper : (i v : ℕ) → r ≡ Channel i v → Deeper ≡ carries (shape t)
+    unfolding carries linkTo
+    carries-deeper i v d = rw (← q, e, ← f, d)
 
-  pub carried-receives : (k : ℕ) → s ≡ Plain k → b ≡ false → need-case.Read k ≡ carriedNeed b g s
-  unfolding carriedNeed
-  carried-receives k e h = rw (e, h)
+-- The six cases.
+module _ (b : Bool) (g : ℕ) (s : Carried) where
+  pub receives-data : (k : ℕ) → s ≡ Data k → b ≡ false → need-case.Read k ≡ caseNeed b g s
+  unfolding caseNeed
+  receives-data k e h = rw (e, h)
 
-pub link-deeper : (b : Bool) (g : ℕ) (s : Shape) (h u : ℕ) → s ≡ Channel h u → need-case.Nothing ≡ linkNeed b g s
-unfolding linkNeed
-link-deeper true g s h u e = rw e
-link-deeper false g s h u e = rw e
+  pub receives-link : (k : ℕ) → s ≡ Link k → b ≡ false → need-case.Access k ≡ caseNeed b g s
+  unfolding caseNeed
+  receives-link k e h = rw (e, h)
 
-pub carried-deeper : {y : Need} (b : Bool) (g : ℕ) (s : Shape) (h u : ℕ) (r : Shape) → s ≡ Channel h u → r ≡ shape u → y ≡ linkNeed b g r
-    → y ≡ carriedNeed b g s
-unfolding carriedNeed
-carried-deeper true g s h u r e f p = rw (e, ← f) p
-carried-deeper false g s h u r e f p = rw (e, ← f) p
+  pub receives-deeper : s ≡ Deeper → b ≡ false → need-case.Nothing ≡ caseNeed b g s
+  unfolding caseNeed
+  receives-deeper e h = rw (e, h)
 
+  pub sends-data : (k : ℕ) → s ≡ Data k → b ≡ true → need-case.Write k ≡ caseNeed b g s
+  unfolding caseNeed
+  sends-data k e h = rw (e, h)
+
+  pub sends-link : (k : ℕ) → s ≡ Link k → b ≡ true → need-case.Disclose k g ≡ caseNeed b g s
+  unfolding caseNeed
+  sends-link k e h = rw (e, h)
+
+  pub sends-deeper : s ≡ Deeper → b ≡ true → need-case.Nothing ≡ caseNeed b g s
+  unfolding caseNeed
+  sends-deeper e h = rw (e, h)
+
+-- The channel's type.
 module _ (b : Bool) (t : ℕ) (s : Shape) (q : s ≡ shape t) where
   pub no-channel : (k : ℕ) → s ≡ Plain k → need-case.Nothing ≡ need b t
   unfolding need channelNeed
   no-channel k e = rw (← q, e)
 
-  pub on-channel : {y : Need} (g u : ℕ) (r : Shape) → s ≡ Channel g u → r ≡ shape u → y ≡ carriedNeed b g r → y ≡ need b t
+  pub on-channel : {y : Need} (g u : ℕ) (c : Carried) → s ≡ Channel g u → c ≡ carries (shape u) → y ≡ caseNeed b g c → y ≡ need b t
   unfolding need channelNeed
-  on-channel g u r e f p = rw (← q, e, ← f) p
+  on-channel g u c e f p = rw (← q, e, ← f) p
 
 pub ruleset need-steps = (
   tests,
-  link-sends,
-  link-receives,
-  link-deeper,
-  carried-sends,
-  carried-receives,
-  carried-deeper,
+  not-true,
+  not-false,
+  carries-data,
+  carries-link,
+  carries-deeper,
+  receives-data,
+  receives-link,
+  receives-deeper,
+  sends-data,
+  sends-link,
+  sends-deeper,
   no-channel,
   on-channel,
 )

@@ -1,7 +1,8 @@
-// What an act needs: the permission for data of a base type, or nothing, by the type of its channel (document 01, "What an act
-// needs").
+// What an act needs: the permission for data of a base type, or nothing, by what its channel carries (document 01, "What an act
+// needs"; source document 000, rules (In) and (Out)).
 ghost use mathlib.Core.Path.{_≡_};
-ghost use Rattle.needs.specs.Needs.{need, linkNeed, carriedNeed};
+ghost use Rattle.needs.specs.Needs.{need, caseNeed, carries};
+ghost use Rattle.reading.specs.Types.{shape};
 use reading::Shape;
 use reading::types::shape_of;
 
@@ -14,41 +15,50 @@ pub enum Need {
     Disclose { kind: usize, group: usize },
 }
 
-// An act on G[H[T]]: T plain.
-fn link_need(sends: bool, group: usize, inner: Shape) -> Need
-    ensures { λ r. ⌜ r ≡ linkNeed sends group inner ⌝ }
+// What a channel carries: plain data, a channel of plain data, or anything deeper.
+enum Carried {
+    Data(usize),
+    Link(usize),
+    Deeper,
+}
+
+// The three that T of a channel G[T] can be.
+fn carried_by(t: usize) -> Carried
+    ensures { λ r. ⌜ r ≡ carries (shape t) ⌝ }
 {
-    match inner {
-        Shape::Plain(kind) => {
-            if sends {
-                Need::Disclose { kind, group }
-            } else {
-                Need::Access(kind)
-            }
-        }
+    match shape_of(t) {
+        Shape::Plain(kind) => Carried::Data(kind),
         Shape::Channel {
             group: _,
-            carried: _,
-        } => Need::Nothing,
+            carried: inner,
+        } => match shape_of(inner) {
+            Shape::Plain(kind) => Carried::Link(kind),
+            Shape::Channel {
+                group: _,
+                carried: _,
+            } => Carried::Deeper,
+        },
     }
 }
 
-// An act on G[T]: T plain, or a channel.
-fn carried_need(sends: bool, group: usize, carried: Shape) -> Need
-    ensures { λ r. ⌜ r ≡ carriedNeed sends group carried ⌝ }
+// The six cases: (i), (ii), (iii) of rule (In) for a receive, then those of rule (Out) for a send.
+fn case_need(sends: bool, group: usize, carried: Carried) -> Need
+    ensures { λ r. ⌜ r ≡ caseNeed sends group carried ⌝ }
 {
-    match carried {
-        Shape::Plain(kind) => {
-            if sends {
-                Need::Write(kind)
-            } else {
-                Need::Read(kind)
-            }
+    if !sends {
+        // (In)
+        match carried {
+            Carried::Data(kind) => Need::Read(kind),
+            Carried::Link(kind) => Need::Access(kind),
+            Carried::Deeper => Need::Nothing,
         }
-        Shape::Channel {
-            group: _,
-            carried: t,
-        } => link_need(sends, group, shape_of(t)),
+    } else {
+        // (Out)
+        match carried {
+            Carried::Data(kind) => Need::Write(kind),
+            Carried::Link(kind) => Need::Disclose { kind, group },
+            Carried::Deeper => Need::Nothing,
+        }
     }
 }
 
@@ -58,6 +68,6 @@ pub fn need_of(sends: bool, t: usize) -> Need
 {
     match shape_of(t) {
         Shape::Plain(_) => Need::Nothing,
-        Shape::Channel { group, carried } => carried_need(sends, group, shape_of(carried)),
+        Shape::Channel { group, carried } => case_need(sends, group, carried_by(carried)),
     }
 }

@@ -1,4 +1,4 @@
--- What an act on a type needs: the shape of the type, then that of what it carries.
+-- What an act on a channel needs: the shape of its type, then what it carries.
 use Rattle.needs.proofs.NeedSteps.{need-steps}
 use borrow.Author.Needs.{needs}
 use Rattle.needs.proofs.need_of.Statement.{statement}
