@@ -29,31 +29,31 @@ module _ (t : ℕ) (s : Shape) (q : s ≡ shape t) where
     unfolding carries linkTo
     carries-deeper i v d = rw (← q, e, ← f, d)
 
--- The six cases.
-module _ (b : Bool) (g : ℕ) (s : Carried) where
-  pub receives-data : (k : ℕ) → s ≡ Data k → b ≡ false → need-case.Read k ≡ caseNeed b g s
+-- The six cases, c being what was found.
+module _ (b : Bool) (g t : ℕ) (c : Carried) (q : c ≡ carries (shape t)) where
+  pub receives-data : (k : ℕ) → c ≡ Data k → b ≡ false → need-case.Read k ≡ caseNeed b g (carries (shape t))
   unfolding caseNeed
-  receives-data k e h = rw (e, h)
+  receives-data k e h = rw (← q, e, h)
 
-  pub receives-link : (k : ℕ) → s ≡ Link k → b ≡ false → need-case.Access k ≡ caseNeed b g s
+  pub receives-link : (k : ℕ) → c ≡ Link k → b ≡ false → need-case.Access k ≡ caseNeed b g (carries (shape t))
   unfolding caseNeed
-  receives-link k e h = rw (e, h)
+  receives-link k e h = rw (← q, e, h)
 
-  pub receives-deeper : s ≡ Deeper → b ≡ false → need-case.Nothing ≡ caseNeed b g s
+  pub receives-deeper : c ≡ Deeper → b ≡ false → need-case.Nothing ≡ caseNeed b g (carries (shape t))
   unfolding caseNeed
-  receives-deeper e h = rw (e, h)
+  receives-deeper e h = rw (← q, e, h)
 
-  pub sends-data : (k : ℕ) → s ≡ Data k → b ≡ true → need-case.Write k ≡ caseNeed b g s
+  pub sends-data : (k : ℕ) → c ≡ Data k → b ≡ true → need-case.Write k ≡ caseNeed b g (carries (shape t))
   unfolding caseNeed
-  sends-data k e h = rw (e, h)
+  sends-data k e h = rw (← q, e, h)
 
-  pub sends-link : (k : ℕ) → s ≡ Link k → b ≡ true → need-case.Disclose k g ≡ caseNeed b g s
+  pub sends-link : (k : ℕ) → c ≡ Link k → b ≡ true → need-case.Disclose k g ≡ caseNeed b g (carries (shape t))
   unfolding caseNeed
-  sends-link k e h = rw (e, h)
+  sends-link k e h = rw (← q, e, h)
 
-  pub sends-deeper : s ≡ Deeper → b ≡ true → need-case.Nothing ≡ caseNeed b g s
+  pub sends-deeper : c ≡ Deeper → b ≡ true → need-case.Nothing ≡ caseNeed b g (carries (shape t))
   unfolding caseNeed
-  sends-deeper e h = rw (e, h)
+  sends-deeper e h = rw (← q, e, h)
 
 -- The channel's type.
 module _ (b : Bool) (t : ℕ) (s : Shape) (q : s ≡ shape t) where
@@ -61,9 +61,9 @@ module _ (b : Bool) (t : ℕ) (s : Shape) (q : s ≡ shape t) where
   unfolding need channelNeed
   no-channel k e = rw (← q, e)
 
-  pub on-channel : {y : Need} (g u : ℕ) (c : Carried) → s ≡ Channel g u → c ≡ carries (shape u) → y ≡ caseNeed b g c → y ≡ need b t
+  pub on-channel : {y : Need} (g u : ℕ) → s ≡ Channel g u → y ≡ caseNeed b g (carries (shape u)) → y ≡ need b t
   unfolding need channelNeed
-  on-channel g u c e f p = rw (← q, e, ← f) p
+  on-channel g u e p = rw (← q, e) p
 
 pub ruleset need-steps = (
   tests,

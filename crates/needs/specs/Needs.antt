@@ -20,8 +20,9 @@ unfoldable pub carries : Shape → Carried
 carries (Plain t) = Data t
 carries (Channel h u) = linkTo (shape u)
 
--- The needed permission of an act on a channel of group g, by what the channel carries: the cases (i), (ii), (iii) of rule (In)
--- for a receive (false), then those of rule (Out) for a send (true).
+-- "Receive on G[T]: read of t if T is plain t; access of t if T is a channel carrying plain t; otherwise nothing. Send on G[T]:
+-- write of t if T is plain t; disclose G, once if T carries plain t; otherwise nothing." (Document 01; in source document 000 the
+-- cases (i), (ii), (iii) of rule (In), then those of rule (Out).) A receive is false and a send true, on a channel of group g.
 unfoldable pub caseNeed : Bool → ℕ → Carried → Need
 caseNeed false g (Data t) = Read t
 caseNeed false g (Link t) = Access t

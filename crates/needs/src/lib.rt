@@ -41,20 +41,21 @@ fn carried_by(t: usize) -> Carried
     }
 }
 
-// The six cases: (i), (ii), (iii) of rule (In) for a receive, then those of rule (Out) for a send.
-fn case_need(sends: bool, group: usize, carried: Carried) -> Need
-    ensures { λ r. ⌜ r ≡ caseNeed sends group carried ⌝ }
+// The six cases of an act on a channel of a group that carries T: (i), (ii), (iii) of rule (In) for a receive, then those of
+// rule (Out) for a send.
+fn case_need(sends: bool, group: usize, t: usize) -> Need
+    ensures { λ r. ⌜ r ≡ caseNeed sends group (carries (shape t)) ⌝ }
 {
     if !sends {
         // (In)
-        match carried {
+        match carried_by(t) {
             Carried::Data(kind) => Need::Read(kind),
             Carried::Link(kind) => Need::Access(kind),
             Carried::Deeper => Need::Nothing,
         }
     } else {
         // (Out)
-        match carried {
+        match carried_by(t) {
             Carried::Data(kind) => Need::Write(kind),
             Carried::Link(kind) => Need::Disclose { kind, group },
             Carried::Deeper => Need::Nothing,
@@ -68,6 +69,6 @@ pub fn need_of(sends: bool, t: usize) -> Need
 {
     match shape_of(t) {
         Shape::Plain(_) => Need::Nothing,
-        Shape::Channel { group, carried } => case_need(sends, group, carried_by(carried)),
+        Shape::Channel { group, carried } => case_need(sends, group, carried),
     }
 }

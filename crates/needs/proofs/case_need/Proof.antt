@@ -1,4 +1,4 @@
--- The six cases: each return follows from the case that was matched and from whether the act sends.
+-- The six cases: each return follows from what was found that the channel carries and from whether the act sends.
 use Rattle.needs.proofs.NeedSteps.{need-steps}
 use borrow.Author.Needs.{needs}
 use Rattle.needs.proofs.case_need.Statement.{statement}
@@ -8,9 +8,11 @@ pub case-need-spec : {M : Type 1} → statement M
 case-need-spec =
     tie.close
     (tie.spec
+    (λ c κs. search needs)
     (λ c. search needs)
     (λ c. search needs)
     (λ c. search needs)
+    (λ c κs. search needs)
     (λ c. search needs)
     (λ c. search needs)
     (λ c. search needs)
