@@ -47,31 +47,54 @@ pub fn why_none(end: End) -> Refusal
     }
 }
 
-// Reads past a process. The permitted nesting falls at each call.
-pub fn read_process(dialect: Dialect, s: &[u8], at: usize, nest: usize, names: usize) -> End
-    ensures { λ r. ⌜ ending r ≡ ended (readProcessIn dialect nest (now (s .entry)) names at) ⌝ }
+// Reads past a process, form by form: a call for the first part of each parallel form, a turn for all else. The permitted
+// nesting falls at each.
+pub fn read_process(dialect: Dialect, s: &[u8], from: usize, levels: usize, bound: usize) -> End
+    ensures { λ r. ⌜ ending r ≡ ended (readProcessIn dialect levels (now (s .entry)) bound from) ⌝ }
 {
-    let read = process_at(dialect, s, at, nest, names);
-    let FormRead::Found(place) = read else {
-        return End::Refused(why(read));
-    };
-    let next = place.next;
-    let form = place.form;
-    match form {
-        Form::Nil => End::At(next),
-        Form::Par => {
-            let left = read_process(dialect, s, next, nest - 1, names);
-            let End::At(middle) = left else {
-                return left;
-            };
-            read_process(dialect, s, middle, nest - 1, names)
+    let mut at = from;
+    let mut nest = levels;
+    let mut names = bound;
+    loop {
+        let read = process_at(dialect, s, at, nest, names);
+        let FormRead::Found(place) = read else {
+            return End::Refused(why(read));
+        };
+        let next = place.next;
+        let form = place.form;
+        nest -= 1;
+        match form {
+            Form::Nil => {
+                return End::At(next);
+            }
+            Form::Par => {
+                let left = read_process(dialect, s, next, nest, names);
+                let End::At(middle) = left else {
+                    return left;
+                };
+                at = middle;
+            }
+            Form::New(_) => {
+                at = next;
+                names += 1;
+            }
+            Form::Input(_) => {
+                at = next;
+                names += 1;
+            }
+            Form::Output(_) => {
+                at = next;
+            }
+            Form::Replicate => {
+                at = next;
+            }
+            Form::Group(_) => {
+                return End::Refused(Refusal { question: 4, at });
+            }
+            Form::Component(_) => {
+                return End::Refused(Refusal { question: 4, at });
+            }
         }
-        Form::New(_) => read_process(dialect, s, next, nest - 1, names + 1),
-        Form::Input(_) => read_process(dialect, s, next, nest - 1, names + 1),
-        Form::Output(_) => read_process(dialect, s, next, nest - 1, names),
-        Form::Replicate => read_process(dialect, s, next, nest - 1, names),
-        Form::Group(_) => End::Refused(Refusal { question: 4, at }),
-        Form::Component(_) => End::Refused(Refusal { question: 4, at }),
     }
 }
 

@@ -1,6 +1,8 @@
--- `read_process` reads past a process, form by form (ProcessSteps.antt). The measure is the nesting left, which falls since a
+-- `read_process` reads past a process, form by form (ProcessSteps.antt). The invariant: what is left of the process, from the
+-- place reached on, ends as all of it does. The measures, of a call and of a turn, are the nesting left, which falls since a
 -- form was found only where it is above 0.
-use Rattle.reading.proofs.ProcessSteps.{process-steps}
+use borrow.Author.Needs.{needs}
+use Rattle.reading.proofs.ProcessSteps.{ProcessLeft, at-replicate, process-steps}
 use Prim.Native.Nat.{ℕ, _<_}
 use borrow.Fn.Kinds.{In}
 use borrow.Fn.PlainCycle.{Measures, is, falls, and}
@@ -27,6 +29,13 @@ read-process-below t =
     (falls 1 read-process-kinds.ps _<_ μ-read-process t)
     read-process.Pre
 
+abbrev read-process-Inv-loop : read-process-lts.InvT-loop
+read-process-Inv-loop dialect s from levels bound at₀ nest₀ names₀ at nest names =
+    ProcessLeft dialect s from levels bound at nest names
+
+abbrev read-process-μ-loop : read-process-lts.MeasureT-loop
+read-process-μ-loop dialect s from levels bound at₀ nest₀ names₀ at nest names = nest
+
 pub +read-process-spec : {M : Type 1} → statement M
 +read-process-spec = close μ-read-process λ t. read-process-lts.spec (
   process-at-reads.Asked,
@@ -38,29 +47,8 @@ pub +read-process-spec : {M : Type 1} → statement M
 )
     (read-process-at t)
     read-process.Post
-    (λ c κs. search process-steps)
-    (λ c. search process-steps)
-    (λ c. search process-steps)
-    (λ c κs. search process-steps)
-    (λ c. search process-steps)
-    (λ c. search process-steps)
-    (λ c. search process-steps)
-    (λ c. search process-steps)
-    (λ c κs. search process-steps)
-    (λ c. search process-steps)
-    (λ c. search process-steps)
-    (λ c. search process-steps)
-    (λ c. search process-steps)
-    (λ c κs. search process-steps)
-    (λ c. search process-steps)
-    (λ c. search process-steps)
-    (λ c. search process-steps)
-    (λ c κs. search process-steps)
-    (λ c. search process-steps)
-    (λ c. search process-steps)
-    (λ c. search process-steps)
-    (λ c κs. search process-steps)
-    (λ c. search process-steps)
+    read-process-Inv-loop
+    read-process-μ-loop
     (λ c. search process-steps)
     (λ c κs. search process-steps)
     (λ c. search process-steps)
@@ -71,7 +59,26 @@ pub +read-process-spec : {M : Type 1} → statement M
     (λ c. search process-steps)
     (λ c. search process-steps)
     (λ c. search process-steps)
+    (λ c κs. search process-steps)
     (λ c. search process-steps)
+    (λ c. search process-steps)
+    (λ c. search process-steps)
+    (λ c. search process-steps)
+    (λ c. search process-steps)
+    (λ c. search process-steps)
+    (λ c. search process-steps)
+    (λ c. search process-steps)
+    (λ c. search process-steps)
+    (λ c. search process-steps)
+    (λ c. search process-steps)
+    (λ c. search process-steps)
+    (λ c. search process-steps)
+    (λ c. search process-steps)
+    (λ c. search process-steps)
+    (λ c. search process-steps)
+    (λ c. search process-steps)
+    (λ c. search process-steps)
+    (λ c. search (needs, at-replicate))
     (λ c. search process-steps)
     (λ c. search process-steps)
     (λ c. search process-steps)
