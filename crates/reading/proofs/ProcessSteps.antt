@@ -66,13 +66,16 @@ process-whole d s at nest names = record { same = refl; low = omega arith }
 -- What the code knows of the form at the place reached.
 module _ (d : Dialect) (s : List ℕ) (from levels bound at nest names : ℕ) (l : ProcessLeft d s from levels bound at nest names) (r : FormRead)
     (e : form r ≡ processAtIn d s at nest names) where
-  pub process-refused : (q w : Refusal) → r ≡ form-read.Refused q → w ≡ whyOf r
-      → refused (w .question) (w .at) ≡ ended (readProcessIn d levels s bound from)
-  unfolding ended
-  process-refused q w f h = rw (l .same, process-stop d nest s names at {q = q .question} {p = q .at} (rw f at (sym e)), h, f)
+  abbrev told : Read (Unit {0})
+  told = ended (readProcessIn d levels s bound from)
 
   abbrev deeper : ℕ → ℕ → Read Process
   deeper n m = readProcessIn d (nest - 1) s n m
+
+  pub process-refused : (q w : Refusal) → r ≡ form-read.Refused q → w ≡ whyOf r
+      → refused (w .question) (w .at) ≡ told
+  unfolding ended
+  process-refused q w f h = rw (l .same, process-stop d nest s names at {q = q .question} {p = q .at} (rw f at (sym e)), h, f)
 
   module _ (p : Place) (f : r ≡ form-read.Found p) where
     found : processAtIn d s at nest names ≡ got (p .form) (p .next)
@@ -95,26 +98,26 @@ module _ (d : Dialect) (s : List ℕ) (from levels bound at nest names : ℕ) (l
     unfolding FitsProcess
     input-fits a h = let k = rw h at (process-room d s at nest names found) in record { fits = omega arith }
 
-    begun : ended (readProcessIn d levels s bound from) ≡ ended (processFrom deeper at names (p .form) (p .next))
+    begun : told ≡ ended (processFrom deeper at names (p .form) (p .next))
     begun = rw (l .same, process-step d nest s names at found)
 
     ends : {y : Read (Unit {0})} (g : Form) → p .form ≡ g → ended (processFrom deeper at names g (p .next)) ≡ y
-        → y ≡ ended (readProcessIn d levels s bound from)
+        → y ≡ told
     ends g h k = sym (rw h at begun ∙ k)
 
     goes : (g : Form) (n m : ℕ) → p .form ≡ g → ended (processFrom deeper at names g (p .next)) ≡ ended (deeper n m)
         → ProcessLeft d s from levels bound m (nest - 1) n
     goes g n m h k = record { same = rw h at begun ∙ k; low = omega (arith, l .low) }
 
-    pub at-nil : p .form ≡ Nil → got tt (p .next) ≡ ended (readProcessIn d levels s bound from)
+    pub at-nil : p .form ≡ Nil → got tt (p .next) ≡ told
     unfolding processFrom ended
     at-nil h = ends Nil h refl
 
-    pub at-group : (g : ℕ) → p .form ≡ Group g → refused 4 at ≡ ended (readProcessIn d levels s bound from)
+    pub at-group : (g : ℕ) → p .form ≡ Group g → refused 4 at ≡ told
     unfolding processFrom ended
     at-group g h = ends (Group g) h refl
 
-    pub at-component : (own : OwnFields) → p .form ≡ Component own → refused 4 at ≡ ended (readProcessIn d levels s bound from)
+    pub at-component : (own : OwnFields) → p .form ≡ Component own → refused 4 at ≡ told
     unfolding processFrom ended
     at-component own h = ends (Component own) h refl
 
@@ -138,7 +141,7 @@ module _ (d : Dialect) (s : List ℕ) (from levels bound at nest names : ℕ) (l
       pub at-par : (m : ℕ) → p .form ≡ Par → t ≡ end.At m → ProcessLeft d s from levels bound m (nest - 1) names
       at-par m h i = goes Par names m h (after-par deeper at names (p .next) t m i k)
 
-      pub at-par-left : (q : Refusal) → p .form ≡ Par → t ≡ end.Refused q → ending t ≡ ended (readProcessIn d levels s bound from)
+      pub at-par-left : (q : Refusal) → p .form ≡ Par → t ≡ end.Refused q → ending t ≡ told
       at-par-left q h i = ends Par h (after-left deeper at names (p .next) t q i k)
 
 pub ruleset process-steps = (

@@ -1,5 +1,5 @@
--- Reading past a system, form by form, and counting its components: from what stands at a place, and from what is read after
--- it one level deeper, how the system at that place ends and how many components there are then.
+-- Reading past a system, form by form, and counting its components: after each form the system ends as what is left of it does,
+-- one level deeper, with as many components in all.
 use Prim.Native.Nat.{ℕ, _+_, _-_, _<_, _≤_}
 use mathlib.Core.Bool.{true}
 use mathlib.Core.List.{List, [], _∷_, _++_}
@@ -42,70 +42,38 @@ unfolding counted andThen
 counted-map preceding (got p k) f h = rw (h p)
 counted-map preceding (refused q p) f h = refl
 
--- Each form, where `read` and `process` read one level deeper.
-module _ (read : ℕ → List ℕ → ℕ → ℕ → Read System) (process : ℕ → Read Process) (at names : ℕ) (path : List ℕ) (preceding : ℕ) (f : Form) (next : ℕ) where
-  abbrev pub told : Read ℕ
-  told = counted preceding (systemFrom read process at names path preceding f next)
+-- After a parallel form's left part a system ends as its right part does; `read` reads one level deeper.
+module _ (read : ℕ → List ℕ → ℕ → ℕ → Read System) (process : ℕ → Read Process) (at names : ℕ) (path : List ℕ) (preceding next : ℕ) where
+  after-par : (l : NumberRead) (n : Number) → l ≡ number-read.Found n → number l ≡ counted preceding (read names path preceding next)
+      → counted preceding (systemFrom read process at names path preceding Par next) ≡ counted (n .value) (read names path (n .value) (n .next))
+  unfolding systemFrom counted andThen components
+  after-par l n i h = go (read names path preceding next) (rw i at h)
+    where
+      join : (p : System) (x : Read System)
+          → counted preceding (andThen x (λ r k. got (parₛ p r) k)) ≡ counted (preceding + components p) x
+      join p (got r k) = rw add-assoc
+      join p (refused a b) = refl
 
-  module _ {y : Read ℕ} where
-    pub at-nil : f ≡ Nil → y ≡ got preceding next → y ≡ told
-    unfolding systemFrom counted components
-    at-nil e h = rw (e, add-zero) h
-
-    pub at-par : (l : NumberRead) (n : Number) → f ≡ Par → l ≡ number-read.Found n
-        → number l ≡ counted preceding (read names path preceding next)
-        → y ≡ counted (n .value) (read names path (n .value) (n .next)) → y ≡ told
-    unfolding systemFrom counted andThen components
-    at-par l n e i h k = rw e (go (read names path preceding next) (rw i at h))
-      where
-        join : (p : System) (x : Read System)
-            → counted (preceding + components p) x ≡ counted preceding (andThen x (λ r k. got (parₛ p r) k))
-        join p (got r k) = rw add-assoc
-        join p (refused a b) = refl
-
-        go : (x : Read System) → got (n .value) (n .next) ≡ counted preceding x
-            → y ≡ counted preceding (andThen x (λ l m. andThen (read names path (preceding + components l) m) (λ r k. got (parₛ l r) k)))
-        go (got p m) h =
-            let v : n .value ≡ preceding + components p = cc in
-            let w : n .next ≡ m = cc in
-            rw (v, w) at k ∙ join p (read names path (preceding + components p) m)
-        go (refused a b) h = never (sym h)
-
-    pub at-new : (t : ℕ) → f ≡ New t → y ≡ counted preceding (read (names + 1) path preceding next) → y ≡ told
-    unfolding systemFrom components
-    at-new t e h = rw (e, counted-map preceding (read (names + 1) path preceding next) (λ p. newₛ t p) (λ p. refl)) h
-
-    pub at-group : (g : ℕ) (q : List ℕ) → f ≡ Group g → q ≡ path ++ (g ∷ []) → y ≡ counted preceding (read names q preceding next)
-        → y ≡ told
-    unfolding systemFrom components
-    at-group g q e i h = rw (e, ← i, counted-map preceding (read names q preceding next) (λ p. groupₛ g p) (λ p. refl)) h
-
-    pub at-component : (own : OwnFields) → f ≡ Component own → ((o : OwnFields) → y ≡ counted preceding (component o (process next))) → y ≡ told
-    unfolding systemFrom
-    at-component own e h = rw e (h own)
-
-    pub at-input : (a : Act) → f ≡ Input a → y ≡ refused 4 at → y ≡ told
-    unfolding systemFrom counted
-    at-input a e h = rw e h
-
-    pub at-output : (a : Act) → f ≡ Output a → y ≡ refused 4 at → y ≡ told
-    unfolding systemFrom counted
-    at-output a e h = rw e h
-
-    pub at-replicate : f ≡ Replicate → y ≡ refused 4 at → y ≡ told
-    unfolding systemFrom counted
-    at-replicate e h = rw e h
+      go : (x : Read System) → got (n .value) (n .next) ≡ counted preceding x
+          → counted preceding (andThen x (λ l m. andThen (read names path (preceding + components l) m) (λ r k. got (parₛ l r) k)))
+          ≡ counted (n .value) (read names path (n .value) (n .next))
+      go (got p m) h =
+          let v : n .value ≡ preceding + components p = cc in
+          let w : n .next ≡ m = cc in
+          rw (v, w) (join p (read names path (preceding + components p) m))
+      go (refused a b) h = never (sym h)
 
   -- A parallel form whose left part is refused.
-  pub at-par-left : (l : NumberRead) (q : Refusal) → f ≡ Par → l ≡ number-read.Refused q
-      → number l ≡ counted preceding (read names path preceding next) → number l ≡ told
+  after-left : (l : NumberRead) (q : Refusal) → l ≡ number-read.Refused q → number l ≡ counted preceding (read names path preceding next)
+      → counted preceding (systemFrom read process at names path preceding Par next) ≡ number l
   unfolding systemFrom counted andThen
-  at-par-left l q e i h = rw (e, i) (go (read names path preceding next) (rw i at h))
+  after-left l q i h = rw i (go (read names path preceding next) (rw i at h))
     where
       go : (x : Read System) → refused (q .question) (q .at) ≡ counted preceding x
-          → refused (q .question) (q .at) ≡ counted preceding (andThen x (λ l m. andThen (read names path (preceding + components l) m) (λ r k. got (parₛ l r) k)))
+          → counted preceding (andThen x (λ l m. andThen (read names path (preceding + components l) m) (λ r k. got (parₛ l r) k)))
+          ≡ refused (q .question) (q .at)
       go (got p n) h = never h
-      go (refused a b) h = h
+      go (refused a b) h = sym h
 
 -- A component's process, read or not.
 pub component-ends : (preceding : ℕ) (own : OwnFields) (x : Read Process) (e : End) (m : ℕ) → e ≡ end.At m → ending e ≡ ended x
@@ -127,58 +95,126 @@ component-stops preceding own (refused a b) e q w i o h =
 
 pub ruleset component-steps = (needs, component-ends, component-stops)
 
--- What the code knows of the form at a place.
-module _ (d : Dialect) (nest : ℕ) (s : List ℕ) (names : ℕ) (path : List ℕ) (preceding at : ℕ) (r : FormRead) where
-  pub system-refused : (q w : Refusal) → r ≡ form-read.Refused q → form r ≡ systemAtIn d s at nest names path preceding
-      → w ≡ whyOf r
-      → refused (w .question) (w .at) ≡ counted preceding (readSystemIn d nest s names path preceding at)
-  unfolding counted
-  system-refused q w f e h = rw (system-stop d nest s names path preceding at {q = q .question} {p = q .at} (rw f at (sym e)), h, f)
+-- The loop over a system's forms: what is left of the system, from the place reached on.
+pub record SystemLeft (d : Dialect) (s : List ℕ) (from levels bound : ℕ) (above : List ℕ) (preceding at nest names : ℕ) (path : List ℕ) (so-far : ℕ) : Type 0 where
+  pub same : counted preceding (readSystemIn d levels s bound above preceding from) ≡ counted so-far (readSystemIn d nest s names path so-far at)
+  pub low : nest ≤ levels
 
-  module _ (p : Place) (f : r ≡ form-read.Found p) (e : form r ≡ systemAtIn d s at nest names path preceding) where
-    found : systemAtIn d s at nest names path preceding ≡ got (p .form) (p .next)
+pub system-whole : (d : Dialect) (s : List ℕ) (at nest names : ℕ) (path : List ℕ) (so-far : ℕ)
+    → SystemLeft d s at nest names path so-far at nest names path so-far
+system-whole d s at nest names path so-far = record { same = refl; low = omega arith }
+
+-- What the code knows of the form at the place reached.
+module _ (d : Dialect) (s : List ℕ) (from levels bound : ℕ) (above : List ℕ) (preceding at nest names : ℕ) (path : List ℕ) (so-far : ℕ)
+    (l : SystemLeft d s from levels bound above preceding at nest names path so-far) (r : FormRead)
+    (e : form r ≡ systemAtIn d s at nest names path so-far) where
+  abbrev told : Read ℕ
+  told = counted preceding (readSystemIn d levels s bound above preceding from)
+
+  abbrev deeper : ℕ → List ℕ → ℕ → ℕ → Read System
+  deeper n p k m = readSystemIn d (nest - 1) s n p k m
+
+  abbrev inside : ℕ → Read Process
+  inside m = readProcessIn d (nest - 1) s names m
+
+  abbrev after : Form → ℕ → Read ℕ
+  after g next = counted so-far (systemFrom deeper inside at names path so-far g next)
+
+  pub system-refused : (q w : Refusal) → r ≡ form-read.Refused q → w ≡ whyOf r
+      → refused (w .question) (w .at) ≡ told
+  unfolding counted
+  system-refused q w f h = rw (l .same, system-stop d nest s names path so-far at {q = q .question} {p = q .at} (rw f at (sym e)), h, f)
+
+  module _ (p : Place) (f : r ≡ form-read.Found p) where
+    found : systemAtIn d s at nest names path so-far ≡ got (p .form) (p .next)
     found = rw f at (sym e)
 
-    pub system-found : {y : Read ℕ}
-        → y ≡ told (λ ns p k m. readSystemIn d (nest - 1) s ns p k m) (λ m. readProcessIn d (nest - 1) s names m) at names path preceding (p .form) (p .next)
-        → y ≡ counted preceding (readSystemIn d nest s names path preceding at)
-    system-found h = rw (system-step d nest s names path preceding at found) h
-
     pub system-deeper : 1 ≤ nest
-    system-deeper = system-level nest names (length path) preceding (p .form) (system-room d s at nest names path preceding found)
+    system-deeper = system-level nest names (length path) so-far (p .form) (system-room d s at nest names path so-far found)
 
-    pub system-falls : (t : ℕ) → nest ≡ t → nest - 1 < t
-    system-falls t h = omega (arith, system-deeper)
+    pub system-lessens : nest - 1 < nest
+    system-lessens = omega (arith, system-deeper)
+
+    pub system-falls : (t : ℕ) → levels ≡ t → nest - 1 < t
+    system-falls t h = omega (arith, system-deeper, l .low)
 
     pub new-fits : (t : ℕ) → p .form ≡ New t → Fits w64 (names + 1)
     unfolding FitsSystem
-    new-fits t h = let k = rw h at (system-room d s at nest names path preceding found) in record { fits = omega arith }
+    new-fits t h = let k = rw h at (system-room d s at nest names path so-far found) in record { fits = omega arith }
 
-    pub group-entered : (g : ℕ) (q : List ℕ) → p .form ≡ Group g → (ltb (length path) 8 ≡ true → q ≡ path ++ (g ∷ []))
-        → q ≡ path ++ (g ∷ [])
+    pub another : (own : OwnFields) → p .form ≡ Component own → so-far < 32
     unfolding FitsSystem
-    group-entered g q h i = let k = rw h at (system-room d s at nest names path preceding found) in i (lt-ltb (length path) 8 (k .1))
+    another own h = let k = rw h at (system-room d s at nest names path so-far found) in k .2
 
-    pub another : (own : OwnFields) → p .form ≡ Component own → preceding < 32
-    unfolding FitsSystem
-    another own h = let k = rw h at (system-room d s at nest names path preceding found) in k .2
+    begun : told ≡ after (p .form) (p .next)
+    begun = rw (l .same, system-step d nest s names path so-far at found)
+
+    ends : {y : Read ℕ} (g : Form) → p .form ≡ g → after g (p .next) ≡ y → y ≡ told
+    ends g h k = sym (rw h at begun ∙ k)
+
+    goes : (g : Form) (n : ℕ) (q : List ℕ) (i m : ℕ) → p .form ≡ g → after g (p .next) ≡ counted i (deeper n q i m)
+        → SystemLeft d s from levels bound above preceding m (nest - 1) n q i
+    goes g n q i m h k = record { same = rw h at begun ∙ k; low = omega (arith, l .low) }
+
+    pub at-nil : p .form ≡ Nil → got so-far (p .next) ≡ told
+    unfolding systemFrom counted components
+    at-nil h = ends Nil h (rw add-zero)
+
+    pub at-input : (a : Act) → p .form ≡ Input a → refused 4 at ≡ told
+    unfolding systemFrom counted
+    at-input a h = ends (Input a) h refl
+
+    pub at-output : (a : Act) → p .form ≡ Output a → refused 4 at ≡ told
+    unfolding systemFrom counted
+    at-output a h = ends (Output a) h refl
+
+    pub at-replicate : p .form ≡ Replicate → refused 4 at ≡ told
+    unfolding systemFrom counted
+    at-replicate h = ends Replicate h refl
+
+    pub at-component : (own : OwnFields) (t : NumberRead) → p .form ≡ Component own
+        → ((o : OwnFields) → number t ≡ counted so-far (component o (readProcessIn d (nest - 1) s names (p .next))))
+        → number t ≡ told
+    unfolding systemFrom
+    at-component own t h k = ends (Component own) h (sym (k own))
+
+    pub at-new : (t : ℕ) → p .form ≡ New t → SystemLeft d s from levels bound above preceding (p .next) (nest - 1) (names + 1) path so-far
+    unfolding systemFrom components
+    at-new t h =
+        goes (New t) (names + 1) path so-far (p .next) h
+        (counted-map so-far (deeper (names + 1) path so-far (p .next)) (λ q. newₛ t q) (λ q. refl))
+
+    pub at-group : (g : ℕ) (q : List ℕ) → p .form ≡ Group g → (ltb (length path) 8 ≡ true → q ≡ path ++ (g ∷ []))
+        → SystemLeft d s from levels bound above preceding (p .next) (nest - 1) names q so-far
+    unfolding systemFrom components FitsSystem
+    at-group g q h i =
+        let k = rw h at (system-room d s at nest names path so-far found) in
+        let z = i (lt-ltb (length path) 8 (k .1)) in
+        goes (Group g) names q so-far (p .next) h
+        (rw (← z) (counted-map so-far (deeper names q so-far (p .next)) (λ q. groupₛ g q) (λ q. refl)))
+
+    module _ (t : NumberRead) (k : number t ≡ counted so-far (readSystemIn d (nest - 1) s names path so-far (p .next))) where
+      pub at-par : (n : Number) → p .form ≡ Par → t ≡ number-read.Found n
+          → SystemLeft d s from levels bound above preceding (n .next) (nest - 1) names path (n .value)
+      at-par n h i = goes Par names path (n .value) (n .next) h (after-par deeper inside at names path so-far (p .next) t n i k)
+
+      pub at-par-left : (q : Refusal) → p .form ≡ Par → t ≡ number-read.Refused q
+          → number t ≡ told
+      at-par-left q h i = ends Par h (after-left deeper inside at names path so-far (p .next) t q i k)
 
 pub ruleset system-steps = (
   needs,
+  system-whole,
+  system-refused,
+  system-deeper,
+  system-lessens,
+  system-falls,
+  new-fits,
+  another,
   at-nil,
-  at-par,
-  at-par-left,
-  at-new,
-  at-group,
-  at-component,
   at-input,
   at-output,
   at-replicate,
-  system-refused,
-  system-found,
-  system-deeper,
-  system-falls,
-  new-fits,
-  group-entered,
-  another,
+  at-component,
+  at-par-left,
 )

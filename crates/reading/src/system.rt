@@ -120,50 +120,68 @@ fn read_component(
     })
 }
 
-// Reads past a system. The number found is that of the components so far, those of this system included.
+// Reads past a system, form by form, as a process is read. The number found is that of the components so far, those of this
+// system included.
 pub fn read_system(
     dialect: Dialect,
     s: &[u8],
-    at: usize,
-    nest: usize,
-    names: usize,
-    path: Path,
-    components: usize,
+    from: usize,
+    levels: usize,
+    bound: usize,
+    above: Path,
+    preceding: usize,
 ) -> NumberRead
-    ensures { λ r. ⌜ number r ≡ counted components (readSystemIn dialect nest (now (s .entry)) names (pathOf path) components at) ⌝ }
+    ensures { λ r. ⌜ number r ≡ counted preceding (readSystemIn dialect levels (now (s .entry)) bound (pathOf above) preceding from) ⌝ }
 {
-    let read = system_at(dialect, s, at, nest, names, path, components);
-    let FormRead::Found(place) = read else {
-        return NumberRead::Refused(why(read));
-    };
-    let next = place.next;
-    let form = place.form;
-    match form {
-        Form::Nil => NumberRead::Found(Number {
-            value: components,
-            next,
-        }),
-        Form::Par => {
-            let left = read_system(dialect, s, next, nest - 1, names, path, components);
-            let NumberRead::Found(middle) = left else {
-                return left;
-            };
-            read_system(dialect, s, middle.next, nest - 1, names, path, middle.value)
+    let mut at = from;
+    let mut nest = levels;
+    let mut names = bound;
+    let mut path = above;
+    let mut components = preceding;
+    loop {
+        let read = system_at(dialect, s, at, nest, names, path, components);
+        let FormRead::Found(place) = read else {
+            return NumberRead::Refused(why(read));
+        };
+        let next = place.next;
+        let form = place.form;
+        nest -= 1;
+        match form {
+            Form::Nil => {
+                return NumberRead::Found(Number {
+                    value: components,
+                    next,
+                });
+            }
+            Form::Par => {
+                let left = read_system(dialect, s, next, nest, names, path, components);
+                let NumberRead::Found(middle) = left else {
+                    return left;
+                };
+                at = middle.next;
+                components = middle.value;
+            }
+            Form::Group(g) => {
+                at = next;
+                path = paths::with(path, g);
+            }
+            Form::New(_) => {
+                at = next;
+                names += 1;
+            }
+            Form::Component(_) => {
+                return read_component(dialect, s, next, nest, names, components);
+            }
+            Form::Input(_) => {
+                return NumberRead::Refused(Refusal { question: 4, at });
+            }
+            Form::Output(_) => {
+                return NumberRead::Refused(Refusal { question: 4, at });
+            }
+            Form::Replicate => {
+                return NumberRead::Refused(Refusal { question: 4, at });
+            }
         }
-        Form::Group(g) => read_system(
-            dialect,
-            s,
-            next,
-            nest - 1,
-            names,
-            paths::with(path, g),
-            components,
-        ),
-        Form::New(_) => read_system(dialect, s, next, nest - 1, names + 1, path, components),
-        Form::Component(_) => read_component(dialect, s, next, nest - 1, names, components),
-        Form::Input(_) => NumberRead::Refused(Refusal { question: 4, at }),
-        Form::Output(_) => NumberRead::Refused(Refusal { question: 4, at }),
-        Form::Replicate => NumberRead::Refused(Refusal { question: 4, at }),
     }
 }
 
