@@ -3,7 +3,8 @@ use Prim.Native.Nat.{ℕ, zero, suc, _+_, _-_, _*_, _/_, _%_, _^_, _<_, _≤_}
 use mathlib.Core.Bool.{Bool, true, false, cond}
 use mathlib.Core.List.{List}
 use mathlib.Core.Path.{_≡_, refl}
-use native.Mathlib.Nat.{pow-le-pow-right, div-add-mod', mod-lt}
+use native.Mathlib.Nat.{add-assoc, mul-add, mul-assoc, pow-succ', pow-le-pow-right, div-add-mod', mod-lt}
+use native.Mathlib.Numerals.{sub-one}
 use native.Mathlib.Omega.{arith}
 use borrow.Author.Tests.{ltb-false, lt-ltb, le-ltb}
 use lib.Dec.{ltb, lit<}
@@ -43,6 +44,17 @@ shape-channel g t h =
 pub carried-less : (g t : ℕ) → t < channel g t
 unfolding channel
 carried-less g t = omega arith
+
+-- A channel's number, scaled and added to: the group's share and the carried type's.
+pub channel-scaled : (sum factor g t : ℕ) → sum + factor * channel g t ≡ sum + factor * (16 + g) + factor * 64 * t
+unfolding channel
+channel-scaled sum factor g t =
+    let z : 16 + (t * 64 + g) ≡ (16 + g) + 64 * t = omega arith in
+    rw (z, mul-add factor (16 + g) (64 * t), mul-assoc factor 64 t, add-assoc)
+
+pub power-step : (factor n : ℕ) → 0 < n → factor * 64 * 64 ^ (n - 1) ≡ factor * 64 ^ n
+power-step factor zero h = absurd (omega arith)
+power-step factor (suc n) h = rw (sub-one (suc n), pow-succ' 64 n, mul-assoc)
 
 -- No dialect has a group or a kind but those that types are numbered for.
 pub groups-64 : (d : Dialect) → groupsIn d ≤ 64

@@ -25,25 +25,33 @@ pub fn shape_of(t: usize) -> Shape
     }
 }
 
-// `count` groups, the outermost first, then the kind.
+// `count` groups, the outermost first, then the kind. The groups read so far add `sum` to the type's number, and the type that
+// they carry adds `factor` times its own.
 fn groups_then_kind(dialect: Dialect, s: &[u8], at: usize, count: usize) -> NumberRead
     requires { ⌜ count ≤ 4 ⌝ }
     ensures { λ r. ⌜ number r ≡ groupsThenKindIn dialect count (now (s .entry)) at ⌝ }
 {
-    if count == 0 {
-        return byte_below(s, at, kinds(dialect));
+    let mut next = at;
+    let mut left = count;
+    let mut sum: usize = 0;
+    let mut factor: usize = 1;
+    while 0 < left {
+        let read = byte_below(s, next, groups(dialect));
+        let NumberRead::Found(group) = read else {
+            return read;
+        };
+        next = group.next;
+        left -= 1;
+        sum += factor * (16 + group.value);
+        factor *= 64;
     }
-    let read = byte_below(s, at, groups(dialect));
-    let NumberRead::Found(group) = read else {
+    let read = byte_below(s, next, kinds(dialect));
+    let NumberRead::Found(kind) = read else {
         return read;
     };
-    let rest = groups_then_kind(dialect, s, group.next, count - 1);
-    let NumberRead::Found(carried) = rest else {
-        return rest;
-    };
     NumberRead::Found(Number {
-        value: 16 + (carried.value * 64 + group.value),
-        next: carried.next,
+        value: sum + factor * kind.value,
+        next: kind.next,
     })
 }
 
