@@ -168,10 +168,10 @@ module _ (s script log : List ℕ) (reads : Reads s) (forms threads types : List
       ) in
       rw t (c (startOf s) (start-holds h k))
 
-pub tables-from : (forms threads made types : List ℕ) (known : List Bool) (cells threads′ made′ types′ : List ℕ) (known′ : List Bool) (cells′ : List ℕ)
-    → Blank forms threads types known cells → length made ≡ 128 → length threads′ ≡ length threads → length made′ ≡ length made
+pub tables-from : (s forms threads made types : List ℕ) (known : List Bool) (cells threads′ made′ types′ : List ℕ) (known′ : List Bool) (cells′ : List ℕ)
+    → Blank s forms threads types known cells → length made ≡ 128 → length threads′ ≡ length threads → length made′ ≡ length made
     → length types′ ≡ length types → length known′ ≡ length known → length cells′ ≡ length cells → Lent threads′ made′ types′ known′ cells′
-tables-from forms threads made types known cells threads′ made′ types′ known′ cells′ b m th ma ty k ce = record {
+tables-from s forms threads made types known cells threads′ made′ types′ known′ cells′ b m th ma ty k ce = record {
   thread-room = th ∙ b .thread-room;
   made-room = ma ∙ m;
   type-room = ty ∙ b .type-room;
@@ -187,9 +187,10 @@ all-false zero i = refl
 all-false (suc n) zero = refl
 all-false (suc n) (suc i) = all-false n i
 
-pub new-tables : Blank (replicate 4096 0) (replicate 128 0) (replicate 1024 0) (replicate 1024 false) (replicate 2304 0)
-new-tables = record {
-  form-room = length-replicate {A = ℕ} 4096 0;
+pub new-tables : (s forms : List ℕ) → length s ≤ length forms
+    → Blank s forms (replicate 128 0) (replicate 1024 0) (replicate 1024 false) (replicate 2304 0)
+new-tables s forms h = record {
+  form-room = h;
   thread-room = length-replicate {A = ℕ} 128 0;
   type-room = length-replicate {A = ℕ} 1024 0;
   known-room = length-replicate {A = Bool} 1024 false;

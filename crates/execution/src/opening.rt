@@ -1,5 +1,6 @@
 // Questions 20 to 22 of a sheet that passes questions 1 to 18, and its run.
 ghost use mathlib.Core.Path.{_≡_};
+ghost use Prim.Native.Nat.{_≤_};
 ghost use lib.ListN.{length};
 ghost use Rattle.running.specs.State.{State};
 ghost use Rattle.products.specs.Held.{Holds};
@@ -72,7 +73,7 @@ fn play_with(
     known: &mut [bool],
     cells: &mut [usize],
 ) -> Answer
-    requires { ⌜ Reads (now s) × Blank (now forms) (now threads) (now types) (now known) (now cells) × (length (now made) ≡ 128) ⌝ }
+    requires { ⌜ Reads (now s) × Blank (now s) (now forms) (now threads) (now types) (now known) (now cells) × (length (now made) ≡ 128) ⌝ }
     ensures { λ r. ⌜ Comes (playedFrom (startOf (now (s .entry))) (now (script .entry)) (now (log .entry))) (now (log .exit)) r ⌝ }
 {
     let sizes = start(s, forms, threads, types, known, cells);
@@ -95,12 +96,11 @@ fn play_with(
     )
 }
 
-// Questions 20 to 22, and the run.
-pub fn play_accepted(s: &[u8], script: &[u8], log: &mut [u8]) -> Answer
-    requires { ⌜ Reads (now s) ⌝ }
+// Questions 20 to 22, and the run, over a table of forms with a place for each byte of the sheet; the other tables are new.
+fn play_over(s: &[u8], script: &[u8], log: &mut [u8], forms: &mut [usize]) -> Answer
+    requires { ⌜ Reads (now s) × (length (now s) ≤ length (now forms)) ⌝ }
     ensures { λ r. ⌜ Comes (playedFrom (startOf (now (s .entry))) (now (script .entry)) (now (log .entry))) (now (log .exit)) r ⌝ }
 {
-    let mut forms = [0usize; 4096];
     let mut threads = [0usize; 128];
     let mut made = [0usize; 128];
     let mut types = [0usize; 1024];
@@ -110,11 +110,24 @@ pub fn play_accepted(s: &[u8], script: &[u8], log: &mut [u8]) -> Answer
         s,
         script,
         log,
-        &mut forms,
+        forms,
         &mut threads,
         &mut made,
         &mut types,
         &mut known,
         &mut cells,
     )
+}
+
+// Questions 20 to 22, and the run. A sheet of at most 256 bytes has a small table of forms to clear.
+pub fn play_accepted(s: &[u8], script: &[u8], log: &mut [u8]) -> Answer
+    requires { ⌜ Reads (now s) ⌝ }
+    ensures { λ r. ⌜ Comes (playedFrom (startOf (now (s .entry))) (now (script .entry)) (now (log .entry))) (now (log .exit)) r ⌝ }
+{
+    if s.len() <= 256 {
+        let mut few = [0usize; 256];
+        return play_over(s, script, log, &mut few);
+    }
+    let mut forms = [0usize; 4096];
+    play_over(s, script, log, &mut forms)
 }

@@ -257,7 +257,7 @@ module _ (s forms₀ forms threads threads′ types types₁ types′ cells cell
   pub sheet-made : GivenFree s types types₁ cells cells₁ g → SystemNoted s (g .next) 64 forms₀ forms noted
       → (0 + components (systemIn 64 forms (g .next)) ≤ 32 → Ready place (g .sizes) threads types₁ cells₁
       → MakesSystem forms place (systemIn 64 forms (g .next)) (g .sizes) threads threads′ types₁ types′ cells₁ cells′ m)
-      → length forms₀ ≡ 4096 → 64 ≤ length threads → Room types cells → (sheet : Sheet) (end : ℕ) → length s ≤ 4096 → readSheet s ≡ got sheet end
+      → length s ≤ length forms₀ → 64 ≤ length threads → Room types cells → (sheet : Sheet) (end : ℕ) → length s ≤ 4096 → readSheet s ≡ got sheet end
       → MadeSheet forms sheet threads′ types′ cells′ (m .sizes)
   unfolding start
   sheet-made f notes makes wide long room sheet end short read =
@@ -284,7 +284,7 @@ module _ (s forms₀ forms threads threads′ types types₁ types′ cells cell
         types-room = n .room .type-room;
         cells-room = n .room .cell-room;
       } in
-      let n-forms = notes (record { short = short; long = omega (arith, short, wide) }) count [] 0 (sheet .system) (p .end) body in
+      let n-forms = notes (record { short = short; long = wide }) count [] 0 (sheet .system) (p .end) body in
       let tree : systemIn 64 forms (g .next) ≡ sheet .system = n-forms .decoded forms (λ i h k. refl) in
       let few-components : components (sheet .system) ≤ 32 = (let f = components-few current 64 s count [] 0 (g .next) (omega arith) body in omega arith) in
       let w = rw tree at (makes (rw tree (omega (arith, few-components))) ready) in
@@ -302,8 +302,8 @@ module _ (s forms₀ forms threads threads′ types types₁ types′ cells cell
 
 -- The whole start.
 pub started : (s forms₀ forms threads threads′ types types′ : List ℕ) (known known′ : List Bool) (cells cells′ : List ℕ) (c : Number) (z : Sizes)
-    → Blank forms₀ threads types known cells → c ≡ freeCount s → known′ ≡ firstKnown (c .value) known
-    → (length forms₀ ≡ 4096 → 64 ≤ length threads → Room types cells → (sheet : Sheet) (end : ℕ) → length s ≤ 4096 → readSheet s ≡ got sheet end
+    → Blank s forms₀ threads types known cells → c ≡ freeCount s → known′ ≡ firstKnown (c .value) known
+    → (length s ≤ length forms₀ → 64 ≤ length threads → Room types cells → (sheet : Sheet) (end : ℕ) → length s ≤ 4096 → readSheet s ≡ got sheet end
     → MadeSheet forms sheet threads′ types′ cells′ z)
     → (sheet : Sheet) (end : ℕ) → length s ≤ 4096 → readSheet s ≡ got sheet end → Starts forms sheet threads′ types′ known′ cells′ z
 unfolding start

@@ -9,9 +9,9 @@ use Rattle.running.specs.Products.{start}
 use Rattle.products.specs.declared.Sizes.{Sizes}
 use Rattle.products.specs.Held.{Holds}
 
--- Tables before a run: no name is known to the environment.
-pub record Blank (forms threads types : List ℕ) (known : List Bool) (cells : List ℕ) : Type 0 where
-  pub form-room : length forms ≡ 4096
+-- Tables before the run of a sheet: each of its bytes has a place in the table of forms, and no name is known to the environment.
+pub record Blank (s forms threads types : List ℕ) (known : List Bool) (cells : List ℕ) : Type 0 where
+  pub form-room : length s ≤ length forms
   pub thread-room : length threads ≡ 128
   pub type-room : length types ≡ 1024
   pub known-room : length known ≡ 1024

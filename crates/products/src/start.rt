@@ -84,7 +84,8 @@ fn make_sheet(
     types: &mut [usize],
     cells: &mut [usize],
 ) -> Sizes
-    ensures { λ r. ⌜ (length (now (forms .entry)) ≡ 4096 → 64 ≤ length (now (threads .entry)) → Room (now (types .entry)) (now (cells .entry))
+    ensures { λ r. ⌜ (length (now (s .entry)) ≤ length (now (forms .entry)) → 64 ≤ length (now (threads .entry))
+        → Room (now (types .entry)) (now (cells .entry))
         → (sheet : Sheet) (end : ℕ) → length (now (s .entry)) ≤ 4096 → readSheet (now (s .entry)) ≡ got sheet end
         → MadeSheet (now (forms .exit)) sheet (now (threads .exit)) (now (types .exit)) (now (cells .exit)) r) ⌝ }
 {
@@ -111,7 +112,7 @@ pub fn start(
     known: &mut [bool],
     cells: &mut [usize],
 ) -> Sizes
-    requires { ⌜ Blank (now forms) (now threads) (now types) (now known) (now cells) ⌝ }
+    requires { ⌜ Blank (now s) (now forms) (now threads) (now types) (now known) (now cells) ⌝ }
     ensures { λ r. ⌜ ((sheet : Sheet) (end : ℕ) → length (now (s .entry)) ≤ 4096 → readSheet (now (s .entry)) ≡ got sheet end
         → Starts (now (forms .exit)) sheet (now (threads .exit)) (now (types .exit)) (now (known .exit)) (now (cells .exit)) r) ⌝ }
 {
