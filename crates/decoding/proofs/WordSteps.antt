@@ -1,10 +1,9 @@
 -- A form as a number, return by return: each arm of the matches on a form and on a code is one clause of the definition.
-use Prim.Native.Nat.{ℕ, _+_, _/_, _%_, _≤_}
+use Prim.Native.Nat.{ℕ, _/_, _%_, _≤_}
 use mathlib.Core.List.{List}
 use mathlib.Core.Path.{_≡_}
 use borrow.Author.Needs.{needs}
 use borrow.Author.Tests.{ne-eqb}
-use native.Mathlib.Omega.{arith}
 use lib.ListN.{length, getD, set}
 use Rattle.reading.proofs.Tables.{unread}
 use Rattle.reading.specs.declared.Act.{Act}
@@ -97,17 +96,13 @@ module _ (forms : List ℕ) (at : ℕ) (r : Item) where
   unfolding itemAt
   item-out h e = rw (← unread forms at h) e
 
--- A number stored, and a byte past the end.
+-- A number stored.
 pub stored : (forms after : List ℕ) (at w v : ℕ) → after ≡ set forms at w → w ≡ v → after ≡ set forms at v
 stored forms after at w v e h = rw h at e
-
-pub past-end : (s : List ℕ) (at places : ℕ) → length s ≤ at → 0 ≡ getD s (at + places) 0
-past-end s at places h = unread s (at + places) (omega arith)
 
 pub ruleset word-steps = (
   needs,
   stored,
-  past-end,
   pack-nil,
   pack-par,
   pack-group,

@@ -4,8 +4,8 @@ use mathlib.Core.Path.{_≡_}
 use mathlib.Core.List.{List}
 use lib.ListN.{length, getD}
 use Rattle.reading.specs.Read.{got}
-use Rattle.reading.specs.Syntax.{Process, par, System, parₛ, components}
-use Rattle.reading.specs.System.{processFrom, readProcess, systemFrom, readSystem}
+use Rattle.reading.specs.Syntax.{Process, System, parₛ, components}
+use Rattle.reading.specs.System.{readProcess, systemFrom, readSystem}
 use Rattle.reading.specs.declared.Place.{Place}
 use Rattle.decoding.specs.declared.Item.{Item}
 use Rattle.decoding.specs.Words.{packed}
@@ -33,31 +33,18 @@ pub record Fitted (s forms : List ℕ) : Type 0 where
   pub short : length s ≤ 4096
   pub long : length s ≤ length forms
 
--- What the walks promise of a process that the reader reads: of one at a place; of one that begins with a form; of a form with one part,
--- and with two.
+-- What the walks promise of a process that the reader reads: of one at a place; of a form over one.
 abbrev pub ProcessNoted : List ℕ → ℕ → ℕ → List ℕ → List ℕ → ℕ → Type 0
 ProcessNoted s at nest before after r =
     Fitted s before → (names : ℕ) (p : Process) (end : ℕ) → readProcess nest s names at ≡ got p end
     → Noted (λ forms. processIn nest forms at) p at end before after r
-
-abbrev pub FormNoted : List ℕ → ℕ → ℕ → Place → List ℕ → List ℕ → ℕ → Type 0
-FormNoted s at nest place before after r =
-    Fitted s before → (names : ℕ) (p : Process) (end : ℕ)
-    → processFrom (λ ns m. readProcess nest s ns m) at names (place .form) (place .next) ≡ got p end
-    → Noted (λ forms. processIn (suc nest) forms at) p at end before after r
 
 abbrev pub PartNoted : List ℕ → ℕ → ℕ → Item → List ℕ → List ℕ → ℕ → Type 0
 PartNoted s at nest item before after r =
     Fitted s before → at < length s → at < item .next → (names : ℕ) (p : Process) (end : ℕ) → readProcess nest s names (item .next) ≡ got p end
     → Headed (λ forms. processIn nest forms (item .next)) p (packed item) at end before after r
 
-abbrev pub PartsNoted : List ℕ → ℕ → ℕ → ℕ → List ℕ → List ℕ → ℕ → Type 0
-PartsNoted s at nest next before after r =
-    Fitted s before → at < length s → at < next → (names : ℕ) (p q : Process) (middle end : ℕ)
-    → readProcess nest s names next ≡ got p middle → readProcess nest s names middle ≡ got q end
-    → Noted (λ forms. processIn (suc nest) forms at) (par p q) at end before after r
-
--- The same of a system.
+-- The same of a system: of one at a place; of one that begins with a form; of a form with one part, and with two.
 abbrev pub SystemNoted : List ℕ → ℕ → ℕ → List ℕ → List ℕ → ℕ → Type 0
 SystemNoted s at nest before after r =
     Fitted s before → (names : ℕ) (path : List ℕ) (preceding : ℕ) (p : System) (end : ℕ) → readSystem nest s names path preceding at ≡ got p end

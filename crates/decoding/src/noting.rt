@@ -1,25 +1,25 @@
-// The walk that decodes a sheet into the table. The sheet was read before, so that no limit is asked again. It recurses over
-// nested forms, the permitted nesting falling at each call.
+// The walk that decodes a sheet into the table. The sheet was read before, so that no limit is asked again. The permitted nesting
+// falls at each form.
 ghost use mathlib.Core.Path.{_≡_};
 ghost use mathlib.Core.List.{[]};
-ghost use Prim.Native.Nat.{_+_, _<_};
-ghost use lib.ListN.{getD, set};
+ghost use lib.ListN.{set};
 ghost use Rattle.reading.specs.Read.{got};
-ghost use Rattle.reading.specs.Forms.{processAt, systemAt};
+ghost use Rattle.reading.specs.Forms.{systemAt};
 ghost use Rattle.decoding.specs.Words.{packedForm, packed};
-ghost use Rattle.decoding.specs.Notes.{ProcessNoted, FormNoted, PartNoted, PartsNoted, SystemNoted, SystemFormNoted, SystemPartNoted, SystemPartsNoted};
+ghost use Rattle.decoding.specs.Notes.{ProcessNoted, PartNoted, SystemNoted, SystemFormNoted, SystemPartNoted, SystemPartsNoted};
 use crate::Item;
+use crate::words::number;
 use crate::words::pack;
 use memory::names::store;
-use reading::Act;
 use reading::Dialect;
 use reading::Form;
 use reading::FormRead;
+use reading::NumberRead;
 use reading::Place;
 use reading::bytes::byte_in;
-use reading::forms::process_at;
 use reading::forms::system_at;
 use reading::paths;
+use reading::types::type_at;
 
 // Stores a form at its place.
 fn put(forms: &mut [usize], at: usize, item: Item)
@@ -28,96 +28,63 @@ fn put(forms: &mut [usize], at: usize, item: Item)
     store(forms, at, pack(item));
 }
 
-// The byte so many places after one, 0 past the end.
-fn byte_after(s: &[u8], at: usize, places: usize) -> usize
-    requires { ⌜ places < 8 ⌝ }
-    ensures { λ r. ⌜ r ≡ getD (now (s .entry)) (at + places) 0 ⌝ }
-    ensures { λ r. ⌜ r < 256 ⌝ }
+// The process at a place, form by form; the place after it. The first part of a parallel form (1) is a call; a new name (3), an
+// input (5), an output (6) and a repeat (7) are a turn each, and so is the second part; nothing (0) ends it.
+pub fn note_process(s: &[u8], from: usize, levels: usize, forms: &mut [usize]) -> usize
+    ensures { λ r. ⌜ ProcessNoted (now (s .entry)) from levels (now (forms .entry)) (now (forms .exit)) r ⌝ }
 {
-    if at < s.len() {
-        byte_in(s, at + places)
-    } else {
-        0
+    let mut at = from;
+    let mut nest = levels;
+    while 0 < nest {
+        if s.len() <= at {
+            return at;
+        }
+        nest -= 1;
+        match s[at] {
+            0 => {
+                store(forms, at, 0);
+                return at + 1;
+            }
+            1 => {
+                let first = at + 1;
+                let second = note_process(s, first, nest, forms);
+                store(forms, at, number(1, 0, second, first));
+                at = second;
+            }
+            3 => {
+                let read = type_at(Dialect::Current, s, at + 1);
+                let NumberRead::Found(t) = read else {
+                    return at;
+                };
+                store(forms, at, number(3, 0, t.value, t.next));
+                at = t.next;
+            }
+            5 => {
+                let read = type_at(Dialect::Current, s, at + 2);
+                let NumberRead::Found(t) = read else {
+                    return at;
+                };
+                store(forms, at, number(5, byte_in(s, at + 1), t.value, t.next));
+                at = t.next;
+            }
+            6 => {
+                store(
+                    forms,
+                    at,
+                    number(6, byte_in(s, at + 1), byte_in(s, at + 2), at + 3),
+                );
+                at += 3;
+            }
+            7 => {
+                store(forms, at, number(7, 0, 0, at + 1));
+                at += 1;
+            }
+            _ => {
+                return at;
+            }
+        }
     }
-}
-
-// The process at a place; the place after it.
-pub fn note_process(s: &[u8], at: usize, nest: usize, forms: &mut [usize]) -> usize
-    ensures { λ r. ⌜ ProcessNoted (now (s .entry)) at nest (now (forms .entry)) (now (forms .exit)) r ⌝ }
-{
-    if nest == 0 {
-        return at;
-    }
-    let read = process_at(Dialect::Current, s, at, 1, 0);
-    let FormRead::Found(place) = read else {
-        return at;
-    };
-    note_form(s, at, nest - 1, place, forms)
-}
-
-// The same, where a form stands at the place; its parts may be nested `nest` forms deep.
-fn note_form(s: &[u8], at: usize, nest: usize, place: Place, forms: &mut [usize]) -> usize
-    requires { ⌜ processAt (now s) at 1 0 ≡ got (place .form) (place .next) ⌝ }
-    ensures { λ r. ⌜ FormNoted (now (s .entry)) at nest place (now (forms .entry)) (now (forms .exit)) r ⌝ }
-{
-    let form = place.form;
-    let next = place.next;
-    match form {
-        Form::Nil => note_alone(at, next, forms),
-        Form::Par => note_par(s, at, nest, next, forms),
-        Form::New(t) => note_under(
-            s,
-            at,
-            nest,
-            Item {
-                form: Form::New(t),
-                next,
-                second: 0,
-            },
-            forms,
-        ),
-        Form::Input(act) => note_under(
-            s,
-            at,
-            nest,
-            Item {
-                form: Form::Input(Act {
-                    channel: byte_after(s, at, 1),
-                    object: act.object,
-                }),
-                next,
-                second: 0,
-            },
-            forms,
-        ),
-        Form::Output(_) => note_under(
-            s,
-            at,
-            nest,
-            Item {
-                form: Form::Output(Act {
-                    channel: byte_after(s, at, 1),
-                    object: byte_after(s, at, 2),
-                }),
-                next,
-                second: 0,
-            },
-            forms,
-        ),
-        Form::Replicate => note_under(
-            s,
-            at,
-            nest,
-            Item {
-                form: Form::Replicate,
-                next,
-                second: 0,
-            },
-            forms,
-        ),
-        Form::Group(_) => at,
-        Form::Component(_) => at,
-    }
+    at
 }
 
 // A nothing-form, which needs no place.
@@ -143,23 +110,6 @@ fn note_under(s: &[u8], at: usize, nest: usize, item: Item, forms: &mut [usize])
     let next = item.next;
     put(forms, at, item);
     note_process(s, next, nest, forms)
-}
-
-// A parallel form, whose second part stands after the first.
-fn note_par(s: &[u8], at: usize, nest: usize, next: usize, forms: &mut [usize]) -> usize
-    ensures { λ r. ⌜ PartsNoted (now (s .entry)) at nest next (now (forms .entry)) (now (forms .exit)) r ⌝ }
-{
-    let second = note_process(s, next, nest, forms);
-    put(
-        forms,
-        at,
-        Item {
-            form: Form::Par,
-            next,
-            second,
-        },
-    );
-    note_process(s, second, nest, forms)
 }
 
 // The system at a place; the place after it.

@@ -8,7 +8,7 @@ use reading::Form;
 use reading::OwnFields;
 
 // A code with its fields and the place of a part.
-fn number(code: usize, channel: usize, object: usize, next: usize) -> usize
+pub fn number(code: usize, channel: usize, object: usize, next: usize) -> usize
     ensures { λ r. ⌜ r ≡ digits code channel object next ⌝ }
 {
     let fields = object % 536870912 * 256 + channel % 256;
