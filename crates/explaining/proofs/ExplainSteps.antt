@@ -20,7 +20,7 @@ use Rattle.reading.specs.declared.NumberRead.the-variants as number-read
 use Rattle.reading.specs.declared.Path.{Path}
 use Rattle.reading.specs.declared.Refusal.{Refusal}
 use Rattle.inference.specs.Interface.{Entry, requiredOf}
-use Rattle.inference.specs.Rows.{pathAt, tableEntries, tableRequired}
+use Rattle.inference.specs.Rows.{Orderly, pathAt, tableEntries, tableRequired}
 use Rattle.policy.specs.Reading.{readPolicy}
 use Rattle.policy.specs.Syntax.{Tree}
 use Rattle.policy.specs.Loads.{AllHeld, Bounded}
@@ -58,25 +58,25 @@ module _ (names groups kinds : List ℕ) (read : End) (is : ends read (namesAtPl
 
     -- what the search found
     module _ (charter nodes : List ℕ) (trees : Trees) (table : List ℕ) (n : ℕ) (m : Missing)
-        (found : (policy : List Tree) → AllHeld charter nodes trees 0 policy
+        (found : (policy : List Tree) → AllHeld charter nodes trees 0 policy → ((i : ℕ) → i < n → Orderly table i)
         → firstUncovered policy (tableRequired table n) (tableEntries table n) ≡ uncoveredAt table m) where
-      pub nothing-said : (line : List ℕ) → 67 ≤ m .column → (policy : List Tree) → AllHeld charter nodes trees 0 policy
+      pub nothing-said : (line : List ℕ) → 67 ≤ m .column → (policy : List Tree) → AllHeld charter nodes trees 0 policy → ((i : ℕ) → i < n → Orderly table i)
           → Says names (firstUncovered policy (tableRequired table n) (tableEntries table n)) line line (answer-case.Accepted 0)
       unfolding said written uncoveredAt
-      nothing-said line h policy held = record {
-        answer = rw (found policy held, le-ltb (m .column) 67 h, reads-so) refl;
-        lent = rw (found policy held, le-ltb (m .column) 67 h, reads-so) refl;
+      nothing-said line h policy held order = record {
+        answer = rw (found policy held order, le-ltb (m .column) 67 h, reads-so) refl;
+        lent = rw (found policy held order, le-ltb (m .column) 67 h, reads-so) refl;
       }
 
       pub sentence-said : (line line′ : List ℕ) (path : Path) (r : Answer) → m .column < 67 → pathOf path ≡ pathAt table (m .component)
           → Delivered (sentence (namesAtPlaces names groups kinds) (record { path = pathOf path; permission = permissionAt (m .column); kind = m .kind }))
           line line′ r
-          → (policy : List Tree) → AllHeld charter nodes trees 0 policy
+          → (policy : List Tree) → AllHeld charter nodes trees 0 policy → ((i : ℕ) → i < n → Orderly table i)
           → Says names (firstUncovered policy (tableRequired table n) (tableEntries table n)) line line′ r
       unfolding said uncoveredAt
-      sentence-said line line′ path r h p d policy held = record {
-        answer = rw (found policy held, lt-ltb (m .column) 67 h, ← p, reads-so) (d .answer);
-        lent = rw (found policy held, lt-ltb (m .column) 67 h, ← p, reads-so)
+      sentence-said line line′ path r h p d policy held order = record {
+        answer = rw (found policy held order, lt-ltb (m .column) 67 h, ← p, reads-so) (d .answer);
+        lent = rw (found policy held order, lt-ltb (m .column) 67 h, ← p, reads-so)
             (d .lent (sentence-bytes names (namesAtPlaces names groups kinds) k reads-so _));
       }
 
@@ -98,16 +98,16 @@ module _ (sheet charter names table nodes : List ℕ) (j : Judged) (line : List 
       record { answer = rw (fails h judges, ne-eqb (j .fault) 18 n) refl; lent = rw (fails h judges, ne-eqb (j .fault) 18 n) refl }
 
   -- what the tables require is what the sheet requires
-  requires-so : (reads : Reads sheet charter) → Judges sheet charter table nodes j → tableRequired table (j .components) ≡ requiredOf (reads .tree)
+  requires-so : (reads : Reads sheet charter) → Judges sheet charter table nodes j → 10 < j .fault → tableRequired table (j .components) ≡ requiredOf (reads .tree)
   unfolding tableRequired requiredOf
-  requires-so reads judges = ap (λ (es : List Entry). record { entries = es }) (judges .held (reads .tree) (reads .end) (reads .reads))
+  requires-so reads judges past = ap (λ (es : List Entry). record { entries = es }) (judges .held past (reads .tree) (reads .end) (reads .reads))
 
-  entries-so : (reads : Reads sheet charter) → Judges sheet charter table nodes j → tableEntries table (j .components) ≡ requiredOf (reads .tree) .entries
+  entries-so : (reads : Reads sheet charter) → Judges sheet charter table nodes j → 10 < j .fault → tableEntries table (j .components) ≡ requiredOf (reads .tree) .entries
   unfolding requiredOf
-  entries-so reads judges = judges .held (reads .tree) (reads .end) (reads .reads)
+  entries-so reads judges past = judges .held past (reads .tree) (reads .end) (reads .reads)
 
   pub eighteen : j .fault ≡ 18 → (line′ : List ℕ) (r : Answer)
-      → ((policy : List Tree) → AllHeld charter nodes (j .trees) 0 policy
+      → ((policy : List Tree) → AllHeld charter nodes (j .trees) 0 policy → ((i : ℕ) → i < j .components → Orderly table i)
       → Says names (firstUncovered policy (tableRequired table (j .components)) (tableEntries table (j .components))) line line′ r)
       → Reads sheet charter → Judges sheet charter table nodes j → Explained sheet charter names line line′ r
   unfolding explained explanation
@@ -120,11 +120,11 @@ module _ (sheet charter names table nodes : List ℕ) (j : Judged) (line : List 
       holds = judges .trees-held (omega arith)
 
       here : Says names (firstUncovered (holds .policy) (tableRequired table (j .components)) (tableEntries table (j .components))) line line′ r
-      here = says (holds .policy) (holds .held)
+      here = says (holds .policy) (holds .held) (judges .orderly (omega arith))
 
       found : uncoveredIn (sheetOf sheet charter) (readPolicy charter)
           ≡ firstUncovered (holds .policy) (tableRequired table (j .components)) (tableEntries table (j .components))
-      found = unfold uncoveredIn in rw (reads .reads, holds .reads, requires-so reads judges, entries-so reads judges) refl
+      found = unfold uncoveredIn in rw (reads .reads, holds .reads, requires-so reads judges (omega arith), entries-so reads judges (omega arith)) refl
 
 -- A sheet that does not read is refused with the reading's question, which is not 18.
 module _ (s c names line : List ℕ) (r : NumberRead) (q w : Refusal) (is : number r ≡ countedIn (sheetOf s c)) (f : r ≡ number-read.Refused q) (h : w ≡ refusalOf r) where

@@ -4,7 +4,7 @@ ghost use mathlib.Core.List.{List};
 ghost use Prim.Native.Nat.{ℕ, _<_, _≤_};
 ghost use lib.ListN.{length};
 ghost use Rattle.reading.specs.Told.{pathOf};
-ghost use Rattle.inference.specs.Rows.{tableEntries, tableRequired};
+ghost use Rattle.inference.specs.Rows.{Orderly, tableEntries, tableRequired};
 ghost use Rattle.policy.specs.Syntax.{Tree};
 ghost use Rattle.policy.specs.Loads.{Bounded, AllHeld};
 ghost use Rattle.fit.specs.Covers.{permissionAt};
@@ -70,6 +70,7 @@ fn explain_missing(
 ) -> Answer
     requires { ⌜ (components ≤ 32) × Bounded trees × (length (now nodes) ≡ 320) ⌝ }
     ensures { λ r. ⌜ ((policy : List Tree) → AllHeld (now (charter .entry)) (now (nodes .entry)) trees 0 policy
+        → ((n : ℕ) → n < components → Orderly (now (table .entry)) n)
         → Says (now (names .entry)) (firstUncovered policy (tableRequired (now (table .entry)) components) (tableEntries (now (table .entry)) components))
         (now (line .entry)) (now (line .exit)) r) ⌝ }
 {
@@ -180,10 +181,10 @@ pub fn examine(
     };
     let mut nodes = [0usize; 320];
     if components.value <= 4 {
-        let mut few = [0u16; 4388];
+        let mut few = [0u16; 840];
         return examine_read(sheet, charter, names, &mut few, &mut nodes, output, line);
     }
-    let mut table = [0u16; 35104];
+    let mut table = [0u16; 6720];
     examine_read(sheet, charter, names, &mut table, &mut nodes, output, line)
 }
 
@@ -214,9 +215,9 @@ pub fn explain(sheet: &[u8], charter: &[u8], names: &[u8], line: &mut [u8]) -> A
     };
     let mut nodes = [0usize; 320];
     if components.value <= 4 {
-        let mut few = [0u16; 4388];
+        let mut few = [0u16; 840];
         return explain_read(sheet, charter, names, &mut few, &mut nodes, line);
     }
-    let mut table = [0u16; 35104];
+    let mut table = [0u16; 6720];
     explain_read(sheet, charter, names, &mut table, &mut nodes, line)
 }

@@ -1,5 +1,5 @@
--- What an entry of a table lacks, found by its flags and then by its groups; it is covered where it lacks nothing. And the first
--- question that any entry fails is the least of those of the entries.
+-- What an entry of a table lacks, found by its flags and then by the groups of its component, place by place; it is covered where it
+-- lacks nothing. And the first question that any entry fails is the least of those of the entries.
 use Prim.Native.Nat.{ℕ, zero, suc, _+_, _-_, _<_, _≤_, min}
 use mathlib.Core.Path.{_≡_, refl, sym, ap, ap₂, _∙_}
 use mathlib.Core.List.{List, [], _∷_, _++_, map}
@@ -8,18 +8,33 @@ use mathlib.Core.Option.{Option, some, none}
 use native.Mathlib.Omega.{arith}
 use lib.ListN.{length, take, getD}
 use lib.Dec.{ltb}
-use borrow.Author.Tests.{lt-ltb, le-ltb, ne-eqb}
+use borrow.Author.Needs.{needs}
+use borrow.Author.Tests.{lt-ltb, le-ltb, ne-eqb, not-true, not-false}
 use Rattle.inference.specs.Lists.{every, any, only, gather, rising}
 use Rattle.inference.specs.Counts.{Count, atMost, isZero}
-use Rattle.inference.specs.Interface.{Disclosure, Entry, Permission, reading, writing, accessing, disclosing, flagged, permissions, holdsAny, Required}
-use Rattle.inference.specs.Rows.{isSet, cell, countOf, extentAt, pathAt, disclosuresAt, entryAt, rowEntries, tableEntries, tableRequired}
+use Rattle.inference.specs.Interface.{Disclosure, Entry, Permission, reading, writing, accessing, disclosing, flagged, permissions, holdsAny, mapOf, Required}
+use Rattle.inference.specs.Rows.{
+  Orderly,
+  isSet,
+  cell,
+  countOf,
+  groupCount,
+  groupAt,
+  pathAt,
+  disclosuresAt,
+  entryAt,
+  usedKinds,
+  rowEntries,
+  tableEntries,
+  tableRequired,
+}
 use Rattle.inference.proofs.RequiredLaws.{needed-cells}
-use Rattle.interface.proofs.InterfaceLaws.{set-count}
+use Rattle.interface.proofs.InterfaceLaws.{set-count, map-none, map-some}
 use Rattle.interface.proofs.WriteLaws.{rising-next, rising-done}
 use Rattle.policy.specs.Syntax.{Tree}
-use Rattle.fit.specs.Satisfies.{hasTree, pathReached, grantsOne, covered}
+use Rattle.fit.specs.Satisfies.{pathReached, grantsOne, covered}
 use Rattle.policy.specs.declared.Trees.{Trees}
-use Rattle.policy.specs.Loads.{AllHeld, startOf}
+use Rattle.policy.specs.Loads.{AllHeld, Bounded, startOf}
 use Rattle.fit.specs.Givers.{joinedAt, giversIn, indexOf}
 use Rattle.fit.specs.Uncovered.{first, firstMissing}
 use Rattle.fit.specs.Covers.{allGiven, flagGiven, flagCovers, countCovers, missingFlag, orNone, missingFrom, missingAt, permissionAt, missingOf, rowsFault}
@@ -83,26 +98,26 @@ module _ (policy : List Tree) (required : Required) (table : List ℕ) (n k : �
   lacks q = not (grantsOne policy required (entryAt table n k) q)
 
   item : ℕ → Disclosure
-  item g = record { group = g; count = countOf (cell table n k g) }
+  item i = record { group = groupAt table n i; count = countOf (cell table n k i) }
 
-  -- the groups that are disclosed to among some
+  -- the groups that are disclosed to among those at some places
   groupsOf : List ℕ → List Permission
-  groupsOf gs = map (λ d. disclosing (d .group)) (only (λ d. not (isZero (d .count))) (map item gs))
+  groupsOf places = map (λ d. disclosing (d .group)) (only (λ d. not (isZero (d .count))) (map item places))
 
   missing-parts : firstMissing policy required (entryAt table n k)
-      ≡ cond (not (isSet (cell table n k 64)) || not (lacks reading))
-      (cond (not (isSet (cell table n k 65)) || not (lacks writing))
-      (cond (not (isSet (cell table n k 66)) || not (lacks accessing)) (first lacks (groupsOf (rising 0 (extentAt table n k)))) (some accessing))
+      ≡ cond (not (isSet (cell table n k 8)) || not (lacks reading))
+      (cond (not (isSet (cell table n k 9)) || not (lacks writing))
+      (cond (not (isSet (cell table n k 10)) || not (lacks accessing)) (first lacks (groupsOf (rising 0 (groupCount table n)))) (some accessing))
       (some writing)) (some reading)
   unfolding firstMissing permissions entryAt lacks groupsOf disclosuresAt item
   missing-parts =
-      first-flagged lacks (isSet (cell table n k 64)) reading _
-      ∙ ap (λ (x : Option Permission). cond (not (isSet (cell table n k 64)) || not (lacks reading)) x (some reading))
-      (first-flagged lacks (isSet (cell table n k 65)) writing _
-      ∙ ap (λ (x : Option Permission). cond (not (isSet (cell table n k 65)) || not (lacks writing)) x (some writing))
-      (first-flagged lacks (isSet (cell table n k 66)) accessing _))
+      first-flagged lacks (isSet (cell table n k 8)) reading _
+      ∙ ap (λ (x : Option Permission). cond (not (isSet (cell table n k 8)) || not (lacks reading)) x (some reading))
+      (first-flagged lacks (isSet (cell table n k 9)) writing _
+      ∙ ap (λ (x : Option Permission). cond (not (isSet (cell table n k 9)) || not (lacks writing)) x (some writing))
+      (first-flagged lacks (isSet (cell table n k 10)) accessing _))
 
-  module _ (c nodes rows : List ℕ) (gives : Gives c nodes policy k (pathAt table n) rows) where
+  module _ (c nodes rows : List ℕ) (gives : Gives c nodes policy k (pathAt table n) rows) (up : Orderly table n) where
     -- a flag that is not lacking is covered by the rows
     flag-rows : (col : ℕ) (q : Permission) (v : ℕ) → grantsOne policy required (entryAt table n k) q ≡ flagGiven v c nodes rows
         → (not (isSet (cell table n k col)) || not (lacks q)) ≡ flagCovers v c nodes rows (cell table n k col)
@@ -114,57 +129,58 @@ module _ (policy : List Tree) (required : Required) (table : List ℕ) (n k : �
         twice false = refl
 
     -- so is a count
-    group-rows : (g : ℕ) → g < extentAt table n k → lacks (disclosing g) ≡ not (atMost (countOf (cell table n k g)) (joinedAt g c nodes rows))
+    group-rows : (i : ℕ) → i < groupCount table n
+        → lacks (disclosing (groupAt table n i)) ≡ not (atMost (countOf (cell table n k i)) (joinedAt (groupAt table n i) c nodes rows))
     unfolding lacks
-    group-rows g l =
-        ap not (entry-disclosing gives required (entryAt table n k) (unfold entryAt in refl) (unfold entryAt in refl) g
-        ∙ ap (λ (x : Count). atMost x (joinedAt g c nodes rows)) (needed-cells required table n k g l))
+    group-rows i l =
+        ap not (entry-disclosing gives required (entryAt table n k) (unfold entryAt in refl) (unfold entryAt in refl) (groupAt table n i)
+        ∙ ap (λ (x : Count). atMost x (joinedAt (groupAt table n i) c nodes rows)) (needed-cells required table n k i l up))
 
-    groups-rows : (from m : ℕ) → from + m ≤ extentAt table n k → from + m ≤ 64
+    groups-rows : (from m : ℕ) → from + m ≤ groupCount table n
         → first lacks (groupsOf (rising from m)) ≡ missingOf (missingFrom from m c nodes rows table n k)
     unfolding rising groupsOf missingFrom first only item countCovers isSet
-    groups-rows from zero l w = unfold missingOf orNone in refl
-    groups-rows from (suc m) l w =
-        go (isSet (cell table n k from)) (atMost (countOf (cell table n k from)) (joinedAt from c nodes rows))
-        (set-count (cell table n k from)) (group-rows from (omega arith)) (groups-rows (suc from) m (omega arith) (omega arith))
+    groups-rows from zero l = unfold missingOf orNone in refl
+    groups-rows from (suc m) l =
+        go (isSet (cell table n k from)) (atMost (countOf (cell table n k from)) (joinedAt (groupAt table n from) c nodes rows))
+        (set-count (cell table n k from)) (group-rows from (omega arith)) (groups-rows (suc from) m (omega arith))
       where
         later : List Disclosure
         later = only (λ d. not (isZero (d .count))) (map item (rising (suc from) m))
 
         found : Option ℕ
-        found = first (λ g. not (countCovers g c nodes rows (cell table n k g))) (rising (suc from) m)
+        found = first (λ i. not (countCovers (groupAt table n i) c nodes rows (cell table n k i))) (rising (suc from) m)
 
-        go : (b a : Bool) → not (isZero (countOf (cell table n k from))) ≡ b → lacks (disclosing from) ≡ not a
-            → first lacks (map (λ d. disclosing (d .group)) later) ≡ missingOf (orNone found)
+        go : (b a : Bool) → not (isZero (countOf (cell table n k from))) ≡ b → lacks (disclosing (groupAt table n from)) ≡ not a
+            → first lacks (map (λ d. disclosing (d .group)) later) ≡ missingOf (orNone table n found)
             → first lacks (map (λ d. disclosing (d .group)) (cond (not (isZero (countOf (cell table n k from)))) (item from ∷ later) later))
-            ≡ missingOf (orNone (cond (not (not b || a)) (some from) found))
+            ≡ missingOf (orNone table n (cond (not (not b || a)) (some from) found))
         go false a e f rest = rw e rest
         go true true e f rest = rw (e, f) rest
-        go true false e f rest = rw (e, f) (unfold orNone in sym (group-at from (omega arith)))
+        go true false e f rest = rw (e, f) (unfold orNone in sym (group-at (groupAt table n from) (up .low from (omega arith))))
 
     -- the first permission that an entry lacks, found among the rows that give to its path
     pub missing-rows : firstMissing policy required (entryAt table n k) ≡ missingOf (missingAt c nodes rows table n k)
     unfolding missingAt missingFlag flagGiven any
     missing-rows =
         missing-parts
-        ∙ three (missingFrom 0 (extentAt table n k) c nodes rows table n k)
-        (flag-rows 64 reading 1 (entry-reading gives required (entryAt table n k) (unfold entryAt in refl) (unfold entryAt in refl)))
-        (flag-rows 65 writing 2 (entry-writing gives required (entryAt table n k) (unfold entryAt in refl) (unfold entryAt in refl)))
-        (flag-rows 66 accessing 4 (entry-accessing gives required (entryAt table n k) (unfold entryAt in refl) (unfold entryAt in refl)))
-        (groups-rows 0 (extentAt table n k) (omega arith) (unfold extentAt in omega arith))
+        ∙ three (missingFrom 0 (groupCount table n) c nodes rows table n k)
+        (flag-rows 8 reading 1 (entry-reading gives required (entryAt table n k) (unfold entryAt in refl) (unfold entryAt in refl)))
+        (flag-rows 9 writing 2 (entry-writing gives required (entryAt table n k) (unfold entryAt in refl) (unfold entryAt in refl)))
+        (flag-rows 10 accessing 4 (entry-accessing gives required (entryAt table n k) (unfold entryAt in refl) (unfold entryAt in refl)))
+        (groups-rows 0 (groupCount table n) (omega arith))
 
     pub covered-rows : covered policy required (entryAt table n k) ≡ not (ltb (missingAt c nodes rows table n k) 67)
     covered-rows = covered-first policy required (entryAt table n k) ∙ ap isNone missing-rows ∙ none-missing (missingAt c nodes rows table n k)
 
   -- questions 17 and 18 of an entry, asked of the rows that give to its path
   module _ (c nodes : List ℕ) (start end : ℕ) (tree : TreeRows c nodes policy k start end)
-      (rows : List ℕ) (given : rows ≡ giversIn c nodes (pathAt table n) start (end - start)) where
+      (rows : List ℕ) (given : rows ≡ giversIn c nodes (pathAt table n) start (end - start)) (up : Orderly table n) where
     pub fault-rows : cond (pathReached policy (entryAt table n k)) (cond (covered policy required (entryAt table n k)) 19 18) 17 ≡ rowsFault c nodes rows table n k
     unfolding rowsFault allGiven
     fault-rows =
         ap₂ (λ (a b : Bool). cond a (cond b 19 18) 17)
         (entry-reached c nodes policy k start end tree (pathAt table n) rows given (entryAt table n k) (unfold entryAt in refl) (unfold entryAt in refl))
-        (covered-rows c nodes rows (tree-gives c nodes policy k start end tree (pathAt table n) rows given))
+        (covered-rows c nodes rows (tree-gives c nodes policy k start end tree (pathAt table n) rows given) up)
         ∙ split (every (λ row. ltb row 64) rows) (ltb (missingAt c nodes rows table n k) 67)
       where
         split : (a b : Bool) → _≡_ {A = ℕ} (cond a (cond (not b) 19 18) 17) (cond a (cond b 18 19) 17)
@@ -172,37 +188,48 @@ module _ (policy : List Tree) (required : Required) (table : List ℕ) (n k : �
         split true false = refl
         split false b = refl
 
--- The first question that an entry fails, by the tree of its kind.
-module _ (policy : List Tree) (required : Required) (c nodes : List ℕ) (trees : Trees) (held : AllHeld c nodes trees 0 policy) (few : trees .len ≤ 16)
-    (kinds : length (trees .kinds) ≡ 16) (table : List ℕ) (n k t : ℕ) (at : t ≡ indexOf k (take (trees .len) (trees .kinds))) where
-  pub no-tree : holdsAny (entryAt table n k) ≡ true → trees .len ≤ t → 16 ≡ entryFault policy required (entryAt table n k)
-  unfolding entryFault
-  no-tree h absent = rw (h, entry-tree c nodes trees policy held few kinds k t at (entryAt table n k) (unfold entryAt in refl), le-ltb t (trees .len) absent) refl
+-- The first question that an entry fails; a kind that is not marked has no entry.
+abbrev pub kindFault : List Tree → Required → List ℕ → ℕ → ℕ → ℕ
+kindFault policy required table n k = cond (isSet (cell table n k 11)) (entryFault policy required (entryAt table n k)) 19
 
-  pub in-tree : holdsAny (entryAt table n k) ≡ true → t < trees .len → (start end r : ℕ) → start ≡ startOf trees t → end ≡ getD (trees .ends) t 0
-      → r ≡ rowsFault c nodes (giversIn c nodes (pathAt table n) start (end - start)) table n k → r ≡ entryFault policy required (entryAt table n k)
-  unfolding entryFault
-  in-tree h here start end r p q e =
-      rw (h, entry-tree c nodes trees policy held few kinds k t at (entryAt table n k) (unfold entryAt in refl), lt-ltb t (trees .len) here)
-      (e ∙ sym (fault-rows policy required table n k c nodes start end (tree-rows c nodes trees policy held few kinds k t at here start end p q)
-      (giversIn c nodes (pathAt table n) start (end - start)) refl))
-
-pub no-entry : (policy : List Tree) (required : Required) (e : Entry) → holdsAny e ≡ false → 19 ≡ entryFault policy required e
+no-fault : (policy : List Tree) (required : Required) (e : Entry) → holdsAny e ≡ false → 19 ≡ entryFault policy required e
 unfolding entryFault
-no-entry policy required e h = rw h refl
+no-fault policy required e h = rw h refl
+
+module _ (c nodes : List ℕ) (trees : Trees) (table : List ℕ) (n k : ℕ) (u : Bool) (is : u ≡ isSet (cell table n k 11)) where
+  pub unmarked : not u ≡ true → (policy : List Tree) → AllHeld c nodes trees 0 policy → Orderly table n → (required : Required)
+      → 19 ≡ kindFault policy required table n k
+  unmarked h policy held up required = rw (← is, not-true u h) refl
+
+  module _ (marked : not u ≡ false) (m : ℕ) (map : m ≡ mapOf (entryAt table n k)) where
+    pub no-entry : m ≡ 0 → (policy : List Tree) → AllHeld c nodes trees 0 policy → Orderly table n → (required : Required)
+        → 19 ≡ kindFault policy required table n k
+    no-entry h policy held up required = rw (← is, not-false u marked) (no-fault policy required (entryAt table n k) (map-none (entryAt table n k) (sym map ∙ h)))
+
+    -- by the tree of the kind
+    module _ (any : m ≡ 0 → ⊥) (bounded : Bounded trees) (kinds : length (trees .kinds) ≡ 16) (t : ℕ) (at : t ≡ indexOf k (take (trees .len) (trees .kinds))) where
+      holds : holdsAny (entryAt table n k) ≡ true
+      holds = map-some (entryAt table n k) (λ e. any (map ∙ e))
+
+      pub no-tree : trees .len ≤ t → (policy : List Tree) → AllHeld c nodes trees 0 policy → Orderly table n → (required : Required)
+          → 16 ≡ kindFault policy required table n k
+      unfolding entryFault
+      no-tree absent policy held up required =
+          rw (← is, not-false u marked, holds, entry-tree c nodes trees policy held (bounded .few) kinds k t at (entryAt table n k) (unfold entryAt in refl), le-ltb t (trees .len) absent) refl
+
+      pub in-tree : t < trees .len → (start end r : ℕ) → start ≡ startOf trees t → end ≡ getD (trees .ends) t 0
+          → r ≡ rowsFault c nodes (giversIn c nodes (pathAt table n) start (end - start)) table n k
+          → (policy : List Tree) → AllHeld c nodes trees 0 policy → Orderly table n → (required : Required) → r ≡ kindFault policy required table n k
+      unfolding entryFault
+      in-tree here start end r p q e policy held up required =
+          rw (← is, not-false u marked, holds, entry-tree c nodes trees policy held (bounded .few) kinds k t at (entryAt table n k) (unfold entryAt in refl), lt-ltb t (trees .len) here)
+          (e ∙ sym (fault-rows policy required table n k c nodes start end (tree-rows c nodes trees policy held (bounded .few) kinds k t at here start end p q)
+          (giversIn c nodes (pathAt table n) start (end - start)) refl up))
+
+pub tree-bounded : (trees : Trees) (t end : ℕ) → Bounded trees → end ≡ getD (trees .ends) t 0 → end ≤ 64
+tree-bounded trees t end bounded e = rw e (bounded .rows t)
 
 -- The least of what entries fail.
-entry-most : (policy : List Tree) (required : Required) (e : Entry) → entryFault policy required e ≤ 19
-unfolding entryFault
-entry-most policy required e = go (holdsAny e) (hasTree policy e) (pathReached policy e) (covered policy required e)
-  where
-    go : (a b d f : Bool) → cond a (cond b (cond d (cond f 19 18) 17) 16) 19 ≤ 19
-    go false b d f = omega arith
-    go true false d f = omega arith
-    go true true false f = omega arith
-    go true true true false = omega arith
-    go true true true true = omega arith
-
 faults-most : (policy : List Tree) (required : Required) (es : List Entry) → entriesFault policy required es ≤ 19
 unfolding entriesFault
 faults-most policy required [] = omega arith
@@ -221,27 +248,34 @@ faults-only policy required (e ∷ rest) = go (holdsAny e) refl (faults-only pol
     go : (b : Bool) → holdsAny e ≡ b → entriesFault policy required (only holdsAny rest) ≡ entriesFault policy required rest
         → entriesFault policy required (cond b (e ∷ only holdsAny rest) (only holdsAny rest)) ≡ min (entryFault policy required e) (entriesFault policy required rest)
     go true h i = unfold entriesFault in ap (min (entryFault policy required e)) i
-    go false h i = omega (arith, i, no-entry policy required e h, faults-most policy required rest)
+    go false h i = omega (arith, i, no-fault policy required e h, faults-most policy required rest)
 
--- What is left of a loop over kinds, and over components.
+-- What is left of a loop over kinds, of which those that are marked count, and over components.
 abbrev pub kindsFault : List Tree → Required → List ℕ → ℕ → ℕ → ℕ → ℕ
-kindsFault policy required table n start m = entriesFault policy required (map (entryAt table n) (rising start m))
+kindsFault policy required table n start m = entriesFault policy required (map (entryAt table n) (only (λ k. isSet (cell table n k 11)) (rising start m)))
 
 abbrev pub rowsFrom : List Tree → Required → List ℕ → ℕ → ℕ → ℕ
 rowsFrom policy required table start m = entriesFault policy required (gather (rowEntries table) (rising start m))
 
-pub row-all : (policy : List Tree) (required : Required) (table : List ℕ) (n : ℕ) → entriesFault policy required (rowEntries table n) ≡ kindsFault policy required table n 0 16
-unfolding rowEntries
-row-all policy required table n = faults-only policy required (map (entryAt table n) (rising 0 16))
+row-all : (policy : List Tree) (required : Required) (table : List ℕ) (n : ℕ) → entriesFault policy required (rowEntries table n) ≡ kindsFault policy required table n 0 16
+unfolding rowEntries usedKinds
+row-all policy required table n = faults-only policy required (map (entryAt table n) (usedKinds table n))
 
 -- One step of a loop over what is left.
 least-next : (first fault next left rest all : ℕ) → min first left ≡ all → left ≡ min fault rest → next ≡ min first fault → min next rest ≡ all
 least-next first fault next left rest all e f g = omega arith
 
 kind-first : (policy : List Tree) (required : Required) (table : List ℕ) (n kind : ℕ) → kind < 16
-    → kindsFault policy required table n kind (16 - kind) ≡ min (entryFault policy required (entryAt table n kind)) (kindsFault policy required table n (kind + 1) (16 - (kind + 1)))
-unfolding entriesFault
-kind-first policy required table n kind here = ap (λ (l : List ℕ). entriesFault policy required (map (entryAt table n) l)) (rising-next kind 16 here)
+    → kindsFault policy required table n kind (16 - kind) ≡ min (kindFault policy required table n kind) (kindsFault policy required table n (kind + 1) (16 - (kind + 1)))
+unfolding only
+kind-first policy required table n kind here =
+    ap (λ (l : List ℕ). entriesFault policy required (map (entryAt table n) (only (λ k. isSet (cell table n k 11)) l))) (rising-next kind 16 here)
+    ∙ go (isSet (cell table n kind 11)) (only (λ k. isSet (cell table n k 11)) (rising (kind + 1) (16 - (kind + 1))))
+  where
+    go : (b : Bool) (rest : List ℕ) → entriesFault policy required (map (entryAt table n) (cond b (kind ∷ rest) rest))
+        ≡ min (cond b (entryFault policy required (entryAt table n kind)) 19) (entriesFault policy required (map (entryAt table n) rest))
+    go true rest = unfold entriesFault in refl
+    go false rest = omega (arith, faults-most policy required (map (entryAt table n) rest))
 
 row-first : (policy : List Tree) (required : Required) (table : List ℕ) (i m : ℕ) → i < m
     → rowsFrom policy required table i (m - i) ≡ min (entriesFault policy required (rowEntries table i)) (rowsFrom policy required table (i + 1) (m - (i + 1)))
@@ -254,36 +288,41 @@ row-first policy required table i m here =
 pub record KindsSoFar (c nodes : List ℕ) (trees : Trees) (table : List ℕ) (n first kind : ℕ) : Type 0 where
   pub within : kind ≤ 16
   pub most : first ≤ 19
-  pub whole : (policy : List Tree) → AllHeld c nodes trees 0 policy → (required : Required) → min first (kindsFault policy required table n kind (16 - kind)) ≡ kindsFault policy required table n 0 16
+  pub whole : (policy : List Tree) → AllHeld c nodes trees 0 policy → Orderly table n → (required : Required)
+      → min first (kindsFault policy required table n kind (16 - kind)) ≡ kindsFault policy required table n 0 16
 
 pub kinds-start : (c nodes : List ℕ) (trees : Trees) (table : List ℕ) (n : ℕ) → KindsSoFar c nodes trees table n 19 0
 kinds-start c nodes trees table n = record {
   within = omega arith;
   most = omega arith;
-  whole = λ policy held required. omega (arith, faults-most policy required (map (entryAt table n) (rising 0 16)));
+  whole = λ policy held up required. omega (arith, faults-most policy required (map (entryAt table n) (only (λ k. isSet (cell table n k 11)) (rising 0 16))));
 }
 
 module _ (c nodes : List ℕ) (trees : Trees) (table : List ℕ) (n first kind : ℕ) (so : KindsSoFar c nodes trees table n first kind) where
-  pub kinds-next : kind < 16 → (fault next : ℕ) → ((policy : List Tree) → AllHeld c nodes trees 0 policy → (required : Required) → fault ≡ entryFault policy required (entryAt table n kind))
+  pub kinds-next : kind < 16 → (fault next : ℕ)
+      → ((policy : List Tree) → AllHeld c nodes trees 0 policy → Orderly table n → (required : Required) → fault ≡ kindFault policy required table n kind)
       → next ≡ min first fault → KindsSoFar c nodes trees table n next (kind + 1)
   kinds-next here fault next e f = record {
     within = omega arith;
     most = omega (arith, so .most);
-    whole = λ policy held required. least-next first fault next _ _ _ (so .whole policy held required)
-        (kind-first policy required table n kind here ∙ ap (λ (v : ℕ). min v (kindsFault policy required table n (kind + 1) (16 - (kind + 1)))) (sym (e policy held required))) f;
+    whole = λ policy held up required. least-next first fault next _ _ _ (so .whole policy held up required)
+        (kind-first policy required table n kind here ∙ ap (λ (v : ℕ). min v (kindsFault policy required table n (kind + 1) (16 - (kind + 1)))) (sym (e policy held up required))) f;
   }
 
-  pub kinds-end : 16 ≤ kind → (policy : List Tree) → AllHeld c nodes trees 0 policy → (required : Required) → first ≡ entriesFault policy required (rowEntries table n)
-  unfolding entriesFault
-  kinds-end done policy held required =
-      let u : kindsFault policy required table n kind (16 - kind) ≡ 19 = ap (λ (l : List ℕ). entriesFault policy required (map (entryAt table n) l)) (rising-done kind 16 done) in
-      omega (arith, so .most, so .whole policy held required, u, row-all policy required table n)
+  pub kinds-end : 16 ≤ kind → (policy : List Tree) → AllHeld c nodes trees 0 policy → Orderly table n → (required : Required)
+      → first ≡ entriesFault policy required (rowEntries table n)
+  unfolding entriesFault only
+  kinds-end done policy held up required =
+      let u : kindsFault policy required table n kind (16 - kind) ≡ 19 =
+      ap (λ (l : List ℕ). entriesFault policy required (map (entryAt table n) (only (λ k. isSet (cell table n k 11)) l))) (rising-done kind 16 done) in
+      omega (arith, so .most, so .whole policy held up required, u, row-all policy required table n)
 
 -- The same of components.
 pub record RowsSoFar (c nodes : List ℕ) (trees : Trees) (table : List ℕ) (m first i : ℕ) : Type 0 where
   pub within : i ≤ m
   pub most : first ≤ 19
-  pub whole : (policy : List Tree) → AllHeld c nodes trees 0 policy → min first (rowsFrom policy (tableRequired table m) table i (m - i)) ≡ rowsFrom policy (tableRequired table m) table 0 m
+  pub whole : (policy : List Tree) → AllHeld c nodes trees 0 policy → ((n : ℕ) → n < m → Orderly table n)
+      → min first (rowsFrom policy (tableRequired table m) table i (m - i)) ≡ rowsFrom policy (tableRequired table m) table 0 m
 
 pub rows-start : (c nodes : List ℕ) (trees : Trees) (table : List ℕ) (m : ℕ) → RowsSoFar c nodes trees table m 19 0
 rows-start c nodes trees table m =
@@ -291,21 +330,39 @@ rows-start c nodes trees table m =
     record {
       within = omega arith;
       most = omega arith;
-      whole = λ policy held. rw z (omega (arith, faults-most policy (tableRequired table m) (gather (rowEntries table) (rising 0 m))));
+      whole = λ policy held up. rw z (omega (arith, faults-most policy (tableRequired table m) (gather (rowEntries table) (rising 0 m))));
     }
 
 module _ (c nodes : List ℕ) (trees : Trees) (table : List ℕ) (m first i : ℕ) (so : RowsSoFar c nodes trees table m first i) where
-  pub rows-next : i < m → (fault next : ℕ) → ((policy : List Tree) → AllHeld c nodes trees 0 policy → (required : Required) → fault ≡ entriesFault policy required (rowEntries table i))
+  pub rows-next : i < m → (fault next : ℕ)
+      → ((policy : List Tree) → AllHeld c nodes trees 0 policy → Orderly table i → (required : Required) → fault ≡ entriesFault policy required (rowEntries table i))
       → next ≡ min first fault → RowsSoFar c nodes trees table m next (i + 1)
   rows-next here fault next e f = record {
     within = omega arith;
     most = omega (arith, so .most);
-    whole = λ policy held. least-next first fault next _ _ _ (so .whole policy held)
-        (row-first policy (tableRequired table m) table i m here ∙ ap (λ (v : ℕ). min v (rowsFrom policy (tableRequired table m) table (i + 1) (m - (i + 1)))) (sym (e policy held (tableRequired table m)))) f;
+    whole = λ policy held up. least-next first fault next _ _ _ (so .whole policy held up)
+        (row-first policy (tableRequired table m) table i m here
+        ∙ ap (λ (v : ℕ). min v (rowsFrom policy (tableRequired table m) table (i + 1) (m - (i + 1)))) (sym (e policy held (up i here) (tableRequired table m)))) f;
   }
 
-  pub rows-end : m ≤ i → (policy : List Tree) → AllHeld c nodes trees 0 policy → first ≡ entriesFault policy (tableRequired table m) (tableEntries table m)
+  pub rows-end : m ≤ i → (policy : List Tree) → AllHeld c nodes trees 0 policy → ((n : ℕ) → n < m → Orderly table n)
+      → first ≡ entriesFault policy (tableRequired table m) (tableEntries table m)
   unfolding entriesFault gather tableEntries
-  rows-end done policy held =
+  rows-end done policy held up =
       let u : rowsFrom policy (tableRequired table m) table i (m - i) ≡ 19 = ap (λ (l : List ℕ). entriesFault policy (tableRequired table m) (gather (rowEntries table) l)) (rising-done i m done) in
-      omega (arith, so .most, so .whole policy held, u)
+      omega (arith, so .most, so .whole policy held up, u)
+
+pub ruleset fault-steps = (
+  needs,
+  unmarked,
+  no-entry,
+  no-tree,
+  in-tree,
+  tree-bounded,
+  kinds-start,
+  kinds-next,
+  kinds-end,
+  rows-start,
+  rows-next,
+  rows-end,
+)

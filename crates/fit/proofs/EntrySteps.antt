@@ -11,7 +11,7 @@ use borrow.Author.Needs.{needs}
 use borrow.Author.Tests.{eq-eqb, ne-eqb, lt-ltb, le-ltb, not-true, not-false}
 use Rattle.inference.specs.Lists.{every, any, rising}
 use Rattle.inference.specs.Counts.{fin, unlimited, atMost}
-use Rattle.inference.specs.Rows.{isSet, cell, countOf, extentAt}
+use Rattle.inference.specs.Rows.{isSet, cell, countOf, groupCount, groupAt}
 use Rattle.interface.proofs.WriteLaws.{rising-next, rising-done}
 use Rattle.policy.specs.Syntax.{hasBit}
 use Rattle.fit.specs.declared.Covering.{Covering}
@@ -67,70 +67,69 @@ module _ (h : ℕ) (c nodes rows : List ℕ) (needed : ℕ) where
   count-asked b t e f g = rw (set needed e) (g ∙ ap (atMost (countOf needed)) f)
 
 module _ (nodes rows table : List ℕ) (n k : ℕ) where
-  flag-of : ℕ → ℕ → List ℕ → Bool
-  flag-of value column c = flagCovers value c nodes rows (cell table n k column)
-
   is-flag : (value column needed : ℕ) (b : Bool) → needed ≡ cell table n k column → ((c : List ℕ) → b ≡ flagCovers value c nodes rows needed)
       → (c : List ℕ) → flagCovers value c nodes rows (cell table n k column) ≡ b
   is-flag value column needed b e h c = ap (flagCovers value c nodes rows) (sym e) ∙ sym (h c)
 
-  pub read-missing : (x : ℕ) (a : Bool) → x ≡ cell table n k 64 → ((c : List ℕ) → a ≡ flagCovers 1 c nodes rows x) → not a ≡ true
+  pub read-missing : (x : ℕ) (a : Bool) → x ≡ cell table n k 8 → ((c : List ℕ) → a ≡ flagCovers 1 c nodes rows x) → not a ≡ true
       → (c : List ℕ) → 64 ≡ missingFlag c nodes rows table n k
   unfolding missingFlag
-  read-missing x a e h f c = rw (is-flag 1 64 x a e h c, not-true a f) refl
+  read-missing x a e h f c = rw (is-flag 1 8 x a e h c, not-true a f) refl
 
-  pub write-missing : (x y : ℕ) (a b : Bool) → x ≡ cell table n k 64 → ((c : List ℕ) → a ≡ flagCovers 1 c nodes rows x) → not a ≡ false
-      → y ≡ cell table n k 65 → ((c : List ℕ) → b ≡ flagCovers 2 c nodes rows y) → not b ≡ true
+  pub write-missing : (x y : ℕ) (a b : Bool) → x ≡ cell table n k 8 → ((c : List ℕ) → a ≡ flagCovers 1 c nodes rows x) → not a ≡ false
+      → y ≡ cell table n k 9 → ((c : List ℕ) → b ≡ flagCovers 2 c nodes rows y) → not b ≡ true
       → (c : List ℕ) → 65 ≡ missingFlag c nodes rows table n k
   unfolding missingFlag
-  write-missing x y a b e h f e′ h′ f′ c = rw (is-flag 1 64 x a e h c, is-flag 2 65 y b e′ h′ c, not-false a f, not-true b f′) refl
+  write-missing x y a b e h f e′ h′ f′ c = rw (is-flag 1 8 x a e h c, is-flag 2 9 y b e′ h′ c, not-false a f, not-true b f′) refl
 
-  module _ (x y z : ℕ) (a b d : Bool) (e : x ≡ cell table n k 64) (h : (c : List ℕ) → a ≡ flagCovers 1 c nodes rows x) (f : not a ≡ false)
-      (e′ : y ≡ cell table n k 65) (h′ : (c : List ℕ) → b ≡ flagCovers 2 c nodes rows y) (f′ : not b ≡ false)
-      (e″ : z ≡ cell table n k 66) (h″ : (c : List ℕ) → d ≡ flagCovers 4 c nodes rows z) where
+  module _ (x y z : ℕ) (a b d : Bool) (e : x ≡ cell table n k 8) (h : (c : List ℕ) → a ≡ flagCovers 1 c nodes rows x) (f : not a ≡ false)
+      (e′ : y ≡ cell table n k 9) (h′ : (c : List ℕ) → b ≡ flagCovers 2 c nodes rows y) (f′ : not b ≡ false)
+      (e″ : z ≡ cell table n k 10) (h″ : (c : List ℕ) → d ≡ flagCovers 4 c nodes rows z) where
     pub access-missing : not d ≡ true → (c : List ℕ) → 66 ≡ missingFlag c nodes rows table n k
     unfolding missingFlag
     access-missing g c =
-        rw (is-flag 1 64 x a e h c, is-flag 2 65 y b e′ h′ c, is-flag 4 66 z d e″ h″ c, not-false a f, not-false b f′, not-true d g) refl
+        rw (is-flag 1 8 x a e h c, is-flag 2 9 y b e′ h′ c, is-flag 4 10 z d e″ h″ c, not-false a f, not-false b f′, not-true d g) refl
 
     pub no-flag-missing : not d ≡ false → (c : List ℕ) → 67 ≡ missingFlag c nodes rows table n k
     unfolding missingFlag
     no-flag-missing g c =
-        rw (is-flag 1 64 x a e h c, is-flag 2 65 y b e′ h′ c, is-flag 4 66 z d e″ h″ c, not-false a f, not-false b f′, not-false d g) refl
+        rw (is-flag 1 8 x a e h c, is-flag 2 9 y b e′ h′ c, is-flag 4 10 z d e″ h″ c, not-false a f, not-false b f′, not-false d g) refl
 
--- The groups passed so far are covered, and those left decide.
-pub record GroupsSoFar (c nodes rows table : List ℕ) (n k m group : ℕ) : Type 0 where
-  pub within : group ≤ m
-  pub same : missingFrom 0 m c nodes rows table n k ≡ missingFrom group (m - group) c nodes rows table n k
+-- The places passed so far are covered, and those left decide.
+pub record PlacesSoFar (c nodes rows table : List ℕ) (n k m place : ℕ) : Type 0 where
+  pub within : place ≤ m
+  pub same : missingFrom 0 m c nodes rows table n k ≡ missingFrom place (m - place) c nodes rows table n k
 
-pub groups-start : (c nodes rows table : List ℕ) (n k m : ℕ) → GroupsSoFar c nodes rows table n k m 0
-groups-start c nodes rows table n k m = record { within = omega arith; same = let z : m - 0 ≡ m = omega arith in rw z refl }
+pub places-start : (c nodes rows table : List ℕ) (n k m : ℕ) → PlacesSoFar c nodes rows table n k m 0
+places-start c nodes rows table n k m = record { within = omega arith; same = let z : m - 0 ≡ m = omega arith in rw z refl }
 
-module _ (c nodes rows table : List ℕ) (n k m group : ℕ) (so : GroupsSoFar c nodes rows table n k m group) where
-  turn : group < m → missingFrom 0 m c nodes rows table n k
-      ≡ orNone (cond (not (countCovers group c nodes rows (cell table n k group))) (some group)
-      (first (λ g. not (countCovers g c nodes rows (cell table n k g))) (rising (group + 1) (m - (group + 1)))))
-  unfolding missingFrom first
-  turn here = so .same ∙ ap (λ (l : List ℕ). orNone (first (λ g. not (countCovers g c nodes rows (cell table n k g))) l)) (rising-next group m here)
+module _ (c nodes rows table : List ℕ) (n k m place : ℕ) (so : PlacesSoFar c nodes rows table n k m place) where
+  lacking : ℕ → Bool
+  lacking i = not (countCovers (groupAt table n i) c nodes rows (cell table n k i))
 
-  is-count : (x : ℕ) (b : Bool) → x ≡ cell table n k group → b ≡ countCovers group c nodes rows x
-      → countCovers group c nodes rows (cell table n k group) ≡ b
-  is-count x b e f = ap (countCovers group c nodes rows) (sym e) ∙ sym f
+  turn : place < m → missingFrom 0 m c nodes rows table n k
+      ≡ orNone table n (cond (lacking place) (some place) (first lacking (rising (place + 1) (m - (place + 1)))))
+  unfolding missingFrom first lacking
+  turn here = so .same ∙ ap (λ (l : List ℕ). orNone table n (first lacking l)) (rising-next place m here)
 
-  pub group-missing : m ≡ extentAt table n k → (x : ℕ) (b : Bool) → group < m → x ≡ cell table n k group → b ≡ countCovers group c nodes rows x
-      → not b ≡ true → group ≡ missingFrom 0 (extentAt table n k) c nodes rows table n k
-  unfolding orNone
-  group-missing is x b here e f g = rw (← is) (sym (turn here ∙ rw (is-count x b e f, g) refl))
+  module _ (group x : ℕ) (b : Bool) (here : place < m) (at : group ≡ groupAt table n place) (e : x ≡ cell table n k place)
+      (f : b ≡ countCovers group c nodes rows x) where
+    is-count : lacking place ≡ not b
+    unfolding lacking
+    is-count = rw (← at, ← e, ← f) refl
 
-  pub group-passes : (x : ℕ) (b : Bool) → group < m → x ≡ cell table n k group → b ≡ countCovers group c nodes rows x → not b ≡ false
-      → GroupsSoFar c nodes rows table n k m (group + 1)
-  unfolding missingFrom
-  group-passes x b here e f g = record { within = omega arith; same = turn here ∙ rw (is-count x b e f, g) refl }
+    pub group-missing : m ≡ groupCount table n → not b ≡ true → group ≡ missingFrom 0 (groupCount table n) c nodes rows table n k
+    unfolding orNone
+    group-missing is g = rw (← is) (at ∙ sym (turn here ∙ rw (is-count, g) refl))
 
-  pub no-group-missing : m ≡ extentAt table n k → m ≤ group → 67 ≡ missingFrom 0 (extentAt table n k) c nodes rows table n k
-  unfolding missingFrom first orNone
+    pub place-passes : not b ≡ false → PlacesSoFar c nodes rows table n k m (place + 1)
+    unfolding missingFrom lacking
+    place-passes g = record { within = omega arith; same = turn here ∙ rw (is-count, g) refl }
+
+  pub no-group-missing : m ≡ groupCount table n → m ≤ place → 67 ≡ missingFrom 0 (groupCount table n) c nodes rows table n k
+  unfolding missingFrom first orNone lacking
   no-group-missing is done =
-      rw (← is) (sym (so .same ∙ ap (λ (l : List ℕ). orNone (first (λ g. not (countCovers g c nodes rows (cell table n k g))) l)) (rising-done group m done)))
+      rw (← is) (sym (so .same ∙ ap (λ (l : List ℕ). orNone table n (first lacking l)) (rising-done place m done)))
 
 -- Flags before groups.
 module _ (c nodes rows table : List ℕ) (n k flag : ℕ) (is : (b : List ℕ) → flag ≡ missingFlag b nodes rows table n k) where
@@ -138,7 +137,7 @@ module _ (c nodes rows table : List ℕ) (n k flag : ℕ) (is : (b : List ℕ) �
   unfolding missingAt
   flag-first h = rw (← is c, lt-ltb flag 67 h) refl
 
-  pub group-then : (group : ℕ) → 67 ≤ flag → group ≡ missingFrom 0 (extentAt table n k) c nodes rows table n k → group ≡ missingAt c nodes rows table n k
+  pub group-then : (group : ℕ) → 67 ≤ flag → group ≡ missingFrom 0 (groupCount table n) c nodes rows table n k → group ≡ missingAt c nodes rows table n k
   unfolding missingAt
   group-then group h e = rw (← is c, le-ltb flag 67 h) e
 
@@ -155,9 +154,9 @@ pub ruleset entry-steps = (
   write-missing,
   access-missing,
   no-flag-missing,
-  groups-start,
+  places-start,
   group-missing,
-  group-passes,
+  place-passes,
   no-group-missing,
   flag-first,
   group-then,
@@ -174,7 +173,7 @@ module _ (c nodes rows path path′ table : List ℕ) (n k start len : ℕ) (is 
     unfolding allGiven
     flag-lacks h = record { reached = rw (← found-here) e; column = rw (← found-here) (flag-first c nodes rows table n k flag is-flag h) }
 
-    pub group-lacks : (group : ℕ) → 67 ≤ flag → group ≡ missingFrom 0 (extentAt table n k) c nodes rows table n k
+    pub group-lacks : (group : ℕ) → 67 ≤ flag → group ≡ missingFrom 0 (groupCount table n) c nodes rows table n k
         → CoveringIs c nodes (giversIn c nodes path′ start len) table n k (record { reached = a; column = group })
     unfolding allGiven
     group-lacks group h g =

@@ -8,10 +8,10 @@ use mathlib.Core.Option.{Option, some, none}
 use native.Mathlib.Omega.{arith}
 use lib.ListN.{length, take, getD}
 use borrow.Author.Needs.{needs}
-use borrow.Author.Tests.{lt-ltb, le-ltb}
+use borrow.Author.Tests.{lt-ltb, le-ltb, not-true, not-false}
 use Rattle.inference.specs.Lists.{every, only, gather, rising}
 use Rattle.inference.specs.Interface.{Disclosure, Entry, Permission, reading, writing, accessing, disclosing, isEmpty, flagged, permissions, holdsAny, Required}
-use Rattle.inference.specs.Rows.{pathAt, entryAt, rowEntries, tableEntries, tableRequired}
+use Rattle.inference.specs.Rows.{Orderly, isSet, cell, pathAt, entryAt, usedKinds, rowEntries, tableEntries, tableRequired}
 use Rattle.interface.proofs.WriteLaws.{rising-next, rising-done}
 use Rattle.policy.specs.Syntax.{Tree}
 use Rattle.policy.specs.Loads.{AllHeld, startOf}
@@ -104,69 +104,98 @@ module _ (trees : Trees) (few : trees .len ≤ 16) (kinds : length (trees .kinds
   present-gives h start end p q given =
       tree-gives c nodes policy kind start end (tree-rows c nodes trees policy held few kinds kind t at h start end p q) path rows given
 
--- what `covering` finds for an entry in the rows of its kind
-pub lacks-at : (c nodes : List ℕ) (trees : Trees) (table : List ℕ) (n k start end : ℕ) (r : Covering)
-    → ((b ns : List ℕ) (policy : List Tree) → AllHeld b ns trees 0 policy → (path rows : List ℕ)
-    → rows ≡ giversIn b ns path start (end - start) → Gives b ns policy k path rows)
-    → CoveringIs c nodes (giversIn c nodes (pathAt table n) start (end - start)) table n k r
-    → (policy : List Tree) → AllHeld c nodes trees 0 policy → (required : Required) → firstMissing policy required (entryAt table n k) ≡ missingOf (r .column)
-lacks-at c nodes trees table n k start end r gives is policy held required =
-    missing-rows policy required table n k c nodes (giversIn c nodes (pathAt table n) start (end - start))
-    (gives c nodes policy held (pathAt table n) (giversIn c nodes (pathAt table n) start (end - start)) refl)
-    ∙ ap missingOf (sym (is .column))
+-- What an entry lacks; a kind that is not marked has no entry.
+abbrev pub kindMissing : List Tree → Required → List ℕ → ℕ → ℕ → Option Permission
+kindMissing policy required table n k = cond (isSet (cell table n k 11)) (firstMissing policy required (entryAt table n k)) none
 
--- The kinds passed so far lack nothing, so that those left decide.
+module _ (c nodes : List ℕ) (trees : Trees) (table : List ℕ) (n k : ℕ) (u : Bool) (is : u ≡ isSet (cell table n k 11)) where
+  pub none-marked : not u ≡ true → (policy : List Tree) → AllHeld c nodes trees 0 policy → Orderly table n → (required : Required)
+      → kindMissing policy required table n k ≡ missingOf 67
+  unfolding missingOf
+  none-marked h policy held up required = rw (← is, not-true u h) refl
+
+  -- what `covering` finds for an entry in the rows of its kind
+  pub lacks-at : not u ≡ false → (start end : ℕ) (r : Covering)
+      → ((b ns : List ℕ) (policy : List Tree) → AllHeld b ns trees 0 policy → (path rows : List ℕ)
+      → rows ≡ giversIn b ns path start (end - start) → Gives b ns policy k path rows)
+      → CoveringIs c nodes (giversIn c nodes (pathAt table n) start (end - start)) table n k r
+      → (policy : List Tree) → AllHeld c nodes trees 0 policy → Orderly table n → (required : Required)
+      → kindMissing policy required table n k ≡ missingOf (r .column)
+  lacks-at h start end r gives found policy held up required =
+      rw (← is, not-false u h)
+      (missing-rows policy required table n k c nodes (giversIn c nodes (pathAt table n) start (end - start))
+      (gives c nodes policy held (pathAt table n) (giversIn c nodes (pathAt table n) start (end - start)) refl) up
+      ∙ ap missingOf (sym (found .column)))
+
+-- The kinds passed so far lack nothing, so that those left decide, of which those that are marked count.
+abbrev kindsFrom : List ℕ → ℕ → ℕ → ℕ → List Entry
+kindsFrom table n start m = map (entryAt table n) (only (λ k. isSet (cell table n k 11)) (rising start m))
+
 pub record KindsLeft (c nodes : List ℕ) (trees : Trees) (table : List ℕ) (n kind : ℕ) : Type 0 where
   pub within : kind ≤ 16
-  pub same : (policy : List Tree) → AllHeld c nodes trees 0 policy → (required : Required)
-      → firstUncovered policy required (rowEntries table n) ≡ firstUncovered policy required (map (entryAt table n) (rising kind (16 - kind)))
+  pub same : (policy : List Tree) → AllHeld c nodes trees 0 policy → Orderly table n → (required : Required)
+      → firstUncovered policy required (rowEntries table n) ≡ firstUncovered policy required (kindsFrom table n kind (16 - kind))
 
 pub kinds-left : (c nodes : List ℕ) (trees : Trees) (table : List ℕ) (n : ℕ) → KindsLeft c nodes trees table n 0
 kinds-left c nodes trees table n = record {
   within = omega arith;
-  same = λ policy held required. unfold rowEntries in uncovered-only policy required (map (entryAt table n) (rising 0 16));
+  same = λ policy held up required. unfold rowEntries usedKinds in uncovered-only policy required (map (entryAt table n) (usedKinds table n));
 }
+
+-- a kind, then those after it
+kind-then : (policy : List Tree) (required : Required) (table : List ℕ) (n kind : ℕ) → kind < 16
+    → firstUncovered policy required (kindsFrom table n kind (16 - kind))
+    ≡ orFurther (entryAt table n kind) (kindMissing policy required table n kind) (firstUncovered policy required (kindsFrom table n (kind + 1) (16 - (kind + 1))))
+unfolding only
+kind-then policy required table n kind here =
+    ap (λ (l : List ℕ). firstUncovered policy required (map (entryAt table n) (only (λ k. isSet (cell table n k 11)) l))) (rising-next kind 16 here)
+    ∙ go (isSet (cell table n kind 11)) (only (λ k. isSet (cell table n k 11)) (rising (kind + 1) (16 - (kind + 1))))
+  where
+    go : (b : Bool) (rest : List ℕ) → firstUncovered policy required (map (entryAt table n) (cond b (kind ∷ rest) rest))
+        ≡ orFurther (entryAt table n kind) (cond b (firstMissing policy required (entryAt table n kind)) none) (firstUncovered policy required (map (entryAt table n) rest))
+    go true rest = unfold firstUncovered in refl
+    go false rest = unfold orFurther in refl
 
 module _ (c nodes : List ℕ) (trees : Trees) (table : List ℕ) (n kind column : ℕ) (left : KindsLeft c nodes trees table n kind) where
   abbrev Lacks : Type 0
-  Lacks = (policy : List Tree) → AllHeld c nodes trees 0 policy → (required : Required) → firstMissing policy required (entryAt table n kind) ≡ missingOf column
+  Lacks = (policy : List Tree) → AllHeld c nodes trees 0 policy → Orderly table n → (required : Required)
+      → kindMissing policy required table n kind ≡ missingOf column
 
-  kind-turn : kind < 16 → Lacks → (policy : List Tree) → AllHeld c nodes trees 0 policy → (required : Required)
+  kind-turn : kind < 16 → Lacks → (policy : List Tree) → AllHeld c nodes trees 0 policy → Orderly table n → (required : Required)
       → firstUncovered policy required (rowEntries table n)
-      ≡ orFurther (entryAt table n kind) (missingOf column) (firstUncovered policy required (map (entryAt table n) (rising (kind + 1) (16 - (kind + 1)))))
-  unfolding firstUncovered
-  kind-turn here lacks policy held required =
-      left .same policy held required
-      ∙ ap (λ (l : List ℕ). firstUncovered policy required (map (entryAt table n) l)) (rising-next kind 16 here)
-      ∙ ap (λ (m : Option Permission). orFurther (entryAt table n kind) m (firstUncovered policy required (map (entryAt table n) (rising (kind + 1) (16 - (kind + 1))))))
-      (lacks policy held required)
+      ≡ orFurther (entryAt table n kind) (missingOf column) (firstUncovered policy required (kindsFrom table n (kind + 1) (16 - (kind + 1))))
+  kind-turn here lacks policy held up required =
+      left .same policy held up required
+      ∙ kind-then policy required table n kind here
+      ∙ ap (λ (m : Option Permission). orFurther (entryAt table n kind) m (firstUncovered policy required (kindsFrom table n (kind + 1) (16 - (kind + 1)))))
+      (lacks policy held up required)
 
-  pub kind-lacks : kind < 16 → Lacks → column < 67 → (policy : List Tree) → AllHeld c nodes trees 0 policy → (required : Required)
+  pub kind-lacks : kind < 16 → Lacks → column < 67 → (policy : List Tree) → AllHeld c nodes trees 0 policy → Orderly table n → (required : Required)
       → firstUncovered policy required (rowEntries table n) ≡ uncoveredAt table (record { component = n; kind = kind; column = column })
   unfolding missingOf uncoveredAt
-  kind-lacks here lacks h policy held required =
-      kind-turn here lacks policy held required ∙ rw (lt-ltb column 67 h) (unfold orFurther entryAt in refl)
+  kind-lacks here lacks h policy held up required =
+      kind-turn here lacks policy held up required ∙ rw (lt-ltb column 67 h) (unfold orFurther entryAt in refl)
 
   pub kind-covered : kind < 16 → Lacks → 67 ≤ column → KindsLeft c nodes trees table n (kind + 1)
   unfolding missingOf
   kind-covered here lacks h = record {
     within = omega arith;
-    same = λ policy held required. kind-turn here lacks policy held required ∙ rw (le-ltb column 67 h) (unfold orFurther in refl);
+    same = λ policy held up required. kind-turn here lacks policy held up required ∙ rw (le-ltb column 67 h) (unfold orFurther in refl);
   }
 
 pub kinds-covered : (c nodes : List ℕ) (trees : Trees) (table : List ℕ) (n kind : ℕ) → KindsLeft c nodes trees table n kind → 16 ≤ kind
-    → (policy : List Tree) → AllHeld c nodes trees 0 policy → (required : Required)
+    → (policy : List Tree) → AllHeld c nodes trees 0 policy → Orderly table n → (required : Required)
     → firstUncovered policy required (rowEntries table n) ≡ uncoveredAt table (record { component = n; kind = kind; column = 67 })
-unfolding firstUncovered
-kinds-covered c nodes trees table n kind left done policy held required =
-    left .same policy held required
-    ∙ ap (λ (l : List ℕ). firstUncovered policy required (map (entryAt table n) l)) (rising-done kind 16 done)
+unfolding firstUncovered only
+kinds-covered c nodes trees table n kind left done policy held up required =
+    left .same policy held up required
+    ∙ ap (λ (l : List ℕ). firstUncovered policy required (map (entryAt table n) (only (λ k. isSet (cell table n k 11)) l))) (rising-done kind 16 done)
     ∙ none-at table (record { component = n; kind = kind; column = 67 }) (omega arith)
 
 -- The same of components.
 pub record RowsLeft (c nodes : List ℕ) (trees : Trees) (table : List ℕ) (m i : ℕ) : Type 0 where
   pub within : i ≤ m
-  pub same : (policy : List Tree) → AllHeld c nodes trees 0 policy
+  pub same : (policy : List Tree) → AllHeld c nodes trees 0 policy → ((n : ℕ) → n < m → Orderly table n)
       → firstUncovered policy (tableRequired table m) (tableEntries table m)
       ≡ firstUncovered policy (tableRequired table m) (gather (rowEntries table) (rising i (m - i)))
 
@@ -174,42 +203,42 @@ pub rows-left : (c nodes : List ℕ) (trees : Trees) (table : List ℕ) (m : ℕ
 unfolding tableEntries
 rows-left c nodes trees table m = record {
   within = omega arith;
-  same = λ policy held. ap (λ (k : ℕ). firstUncovered policy (tableRequired table m) (gather (rowEntries table) (rising 0 k))) (omega arith);
+  same = λ policy held up. ap (λ (k : ℕ). firstUncovered policy (tableRequired table m) (gather (rowEntries table) (rising 0 k))) (omega arith);
 }
 
 module _ (c nodes : List ℕ) (trees : Trees) (table : List ℕ) (m i : ℕ) (left : RowsLeft c nodes trees table m i) (found : Missing) where
   abbrev Finds : Type 0
-  Finds = (policy : List Tree) → AllHeld c nodes trees 0 policy → (required : Required)
+  Finds = (policy : List Tree) → AllHeld c nodes trees 0 policy → Orderly table i → (required : Required)
       → firstUncovered policy required (rowEntries table i) ≡ uncoveredAt table found
 
-  row-turn : i < m → Finds → (policy : List Tree) → AllHeld c nodes trees 0 policy
+  row-turn : i < m → Finds → (policy : List Tree) → AllHeld c nodes trees 0 policy → ((n : ℕ) → n < m → Orderly table n)
       → firstUncovered policy (tableRequired table m) (tableEntries table m)
       ≡ orElse (uncoveredAt table found) (firstUncovered policy (tableRequired table m) (gather (rowEntries table) (rising (i + 1) (m - (i + 1)))))
   unfolding gather
-  row-turn here finds policy held =
-      left .same policy held
+  row-turn here finds policy held up =
+      left .same policy held up
       ∙ ap (λ (l : List ℕ). firstUncovered policy (tableRequired table m) (gather (rowEntries table) l)) (rising-next i m here)
       ∙ uncovered-append policy (tableRequired table m) (rowEntries table i) (gather (rowEntries table) (rising (i + 1) (m - (i + 1))))
       ∙ ap (λ (u : Option Uncovered). orElse u (firstUncovered policy (tableRequired table m) (gather (rowEntries table) (rising (i + 1) (m - (i + 1))))))
-      (finds policy held (tableRequired table m))
+      (finds policy held (up i here) (tableRequired table m))
 
-  pub row-lacks : i < m → Finds → found .column < 67 → (policy : List Tree) → AllHeld c nodes trees 0 policy
+  pub row-lacks : i < m → Finds → found .column < 67 → (policy : List Tree) → AllHeld c nodes trees 0 policy → ((n : ℕ) → n < m → Orderly table n)
       → firstUncovered policy (tableRequired table m) (tableEntries table m) ≡ uncoveredAt table found
-  row-lacks here finds h policy held = row-turn here finds policy held ∙ some-at table found _ h
+  row-lacks here finds h policy held up = row-turn here finds policy held up ∙ some-at table found _ h
 
   pub row-covered : i < m → Finds → 67 ≤ found .column → RowsLeft c nodes trees table m (i + 1)
   row-covered here finds h = record {
     within = omega arith;
-    same = λ policy held. row-turn here finds policy held ∙ rw (← none-at table found h) (unfold orElse in refl);
+    same = λ policy held up. row-turn here finds policy held up ∙ rw (← none-at table found h) (unfold orElse in refl);
   }
 
 pub rows-covered : (c nodes : List ℕ) (trees : Trees) (table : List ℕ) (m i : ℕ) → RowsLeft c nodes trees table m i → m ≤ i
-    → (policy : List Tree) → AllHeld c nodes trees 0 policy
+    → (policy : List Tree) → AllHeld c nodes trees 0 policy → ((n : ℕ) → n < m → Orderly table n)
     → firstUncovered policy (tableRequired table m) (tableEntries table m) ≡ uncoveredAt table (record { component = 0; kind = 0; column = 67 })
 unfolding firstUncovered gather
-rows-covered c nodes trees table m i left done policy held =
-    left .same policy held
+rows-covered c nodes trees table m i left done policy held up =
+    left .same policy held up
     ∙ ap (λ (l : List ℕ). firstUncovered policy (tableRequired table m) (gather (rowEntries table) l)) (rising-done i m done)
     ∙ none-at table (record { component = 0; kind = 0; column = 67 }) (omega arith)
 
-pub ruleset search-steps = (needs, lacks-at, kinds-left, kind-lacks, kind-covered, kinds-covered, rows-left, row-lacks, row-covered, rows-covered)
+pub ruleset search-steps = (needs, none-marked, lacks-at, kinds-left, kind-lacks, kind-covered, kinds-covered, rows-left, row-lacks, row-covered, rows-covered)

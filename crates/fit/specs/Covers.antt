@@ -8,7 +8,7 @@ use lib.Dec.{ltb, eqb}
 use Rattle.inference.specs.Lists.{every, any, rising}
 use Rattle.inference.specs.Counts.{atMost}
 use Rattle.inference.specs.Interface.{Permission, reading, writing, accessing, disclosing}
-use Rattle.inference.specs.Rows.{isSet, cell, countOf, extentAt}
+use Rattle.inference.specs.Rows.{isSet, cell, countOf, groupCount, groupAt}
 use Rattle.policy.specs.Syntax.{hasBit}
 use Rattle.fit.specs.Uncovered.{first}
 use Rattle.fit.specs.Givers.{givenAt, joinedAt}
@@ -30,35 +30,36 @@ flagCovers value c nodes rows needed = not (isSet needed) || flagGiven value c n
 unfoldable pub countCovers : ℕ → List ℕ → List ℕ → List ℕ → ℕ → Bool
 countCovers h c nodes rows needed = not (isSet needed) || atMost (countOf needed) (joinedAt h c nodes rows)
 
--- the column of the first flag that is not covered, or 67
+-- the first flag that is not covered: 64 read, 65 write, 66 access; or 67
 unfoldable pub missingFlag : List ℕ → List ℕ → List ℕ → List ℕ → ℕ → ℕ → ℕ
 missingFlag c nodes rows table component kind =
-    cond (flagCovers 1 c nodes rows (cell table component kind 64))
-    (cond (flagCovers 2 c nodes rows (cell table component kind 65))
-    (cond (flagCovers 4 c nodes rows (cell table component kind 66)) 67 66) 65) 64
+    cond (flagCovers 1 c nodes rows (cell table component kind 8))
+    (cond (flagCovers 2 c nodes rows (cell table component kind 9))
+    (cond (flagCovers 4 c nodes rows (cell table component kind 10)) 67 66) 65) 64
 
--- a column, or 67 where there is none
-unfoldable pub orNone : Option ℕ → ℕ
-orNone none = 67
-orNone (some column) = column
+-- the group at a place, or 67 where there is none
+unfoldable pub orNone : List ℕ → ℕ → Option ℕ → ℕ
+orNone table component none = 67
+orNone table component (some place) = groupAt table component place
 
--- the first of n groups from one on that is not covered, or 67
+-- the group at the first of n places from one on whose count is not covered, or 67
 unfoldable pub missingFrom : ℕ → ℕ → List ℕ → List ℕ → List ℕ → List ℕ → ℕ → ℕ → ℕ
 missingFrom start n c nodes rows table component kind =
-    orNone (first (λ g. not (countCovers g c nodes rows (cell table component kind g))) (rising start n))
+    orNone table component
+    (first (λ i. not (countCovers (groupAt table component i) c nodes rows (cell table component kind i))) (rising start n))
 
--- the column of the first permission that is not covered, flags before groups; or 67
+-- the number of the first permission that is not covered, flags before groups; or 67
 unfoldable pub missingAt : List ℕ → List ℕ → List ℕ → List ℕ → ℕ → ℕ → ℕ
 missingAt c nodes rows table component kind =
     cond (ltb (missingFlag c nodes rows table component kind) 67) (missingFlag c nodes rows table component kind)
-    (missingFrom 0 (extentAt table component kind) c nodes rows table component kind)
+    (missingFrom 0 (groupCount table component) c nodes rows table component kind)
 
--- what the code answers of an entry: is each group of its path at a reached node, and the first column that is not covered
+-- what the code answers of an entry: is each group of its path at a reached node, and the first permission that is not covered
 pub record CoveringIs (c nodes rows table : List ℕ) (component kind : ℕ) (r : Covering) : Type 0 where
   pub reached : r .reached ≡ allGiven rows
   pub column : r .column ≡ missingAt c nodes rows table component kind
 
--- the permission of a column, none at 67
+-- the permission of a number, none at 67
 unfoldable pub permissionAt : ℕ → Permission
 permissionAt column = cond (eqb column 64) reading (cond (eqb column 65) writing (cond (eqb column 66) accessing (disclosing column)))
 

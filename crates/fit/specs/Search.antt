@@ -20,7 +20,7 @@ pub record Gives (c nodes : List ℕ) (policy : List Tree) (kind : ℕ) (path ro
   pub flag : (v : ℕ) (o : Component) → o .path ≡ path → flagGranted v policy kind o ≡ any (λ row. hasBit v (givenAt c nodes row .map)) rows
   pub count : (h : ℕ) (o : Component) → o .path ≡ path → countGranted h policy kind o ≡ joinedAt h c nodes rows
 
--- The uncovered permission of a component, a kind and a column; none at 67.
+-- The uncovered permission of a component, a kind and a number; none at 67.
 unfoldable pub uncoveredAt : List ℕ → Missing → Option Uncovered
 uncoveredAt table m =
     cond (ltb (m .column) 67) (some (record { path = pathAt table (m .component); permission = permissionAt (m .column); kind = m .kind })) none

@@ -1,11 +1,23 @@
 // Questions 16 to 18: does the policy satisfy the interface that a table of components holds?
 ghost use mathlib.Core.Path.{_≡_};
 ghost use mathlib.Core.List.{List};
+ghost use mathlib.Core.Bool.{cond};
 ghost use Prim.Native.Nat.{ℕ, _<_, _≤_, _-_, min};
 ghost use lib.ListN.{length};
 ghost use Rattle.inference.specs.Counts.{atMost};
 ghost use Rattle.inference.specs.Interface.{Required};
-ghost use Rattle.inference.specs.Rows.{countOf, extentAt, pathAt, entryAt, rowEntries, tableEntries, tableRequired};
+ghost use Rattle.inference.specs.Rows.{
+  countOf,
+  groupCount,
+  Orderly,
+  isSet,
+  cell,
+  pathAt,
+  entryAt,
+  rowEntries,
+  tableEntries,
+  tableRequired,
+};
 ghost use Rattle.policy.specs.Syntax.{Tree};
 ghost use Rattle.policy.specs.Loads.{Bounded, AllHeld};
 ghost use Rattle.fit.specs.Givers.{givenRows, totalOf, giversIn};
@@ -19,9 +31,12 @@ use crate::grants::count_granted;
 use crate::grants::flag_granted;
 use crate::grants::givers;
 use crate::grants::tree_for;
+use inference::rows::group_at;
+use inference::rows::group_count;
 use inference::rows::path_of;
 use interface::count_at;
-use interface::extent_at;
+use interface::disclosed_groups;
+use interface::is_used;
 use interface::map_at;
 use policy::Span;
 use policy::Trees;
@@ -51,7 +66,7 @@ fn flag_covered(needed: usize, nodes: &[usize], givers: Givers, value: usize) ->
     flag_granted(nodes, givers, value)
 }
 
-// The column of the first flag of an entry that is needed and not granted, or 67.
+// The first flag of an entry that is needed and not granted: 64 read, 65 write, 66 access; or 67.
 fn missing_flag(
     table: &[u16],
     component: usize,
@@ -62,13 +77,13 @@ fn missing_flag(
     requires { ⌜ (component < 32) × (kind < 16) ⌝ }
     ensures { λ r. ⌜ ((c : List ℕ) → r ≡ missingFlag c (now (nodes .entry)) (givenRows givers) (now (table .entry)) component kind) ⌝ }
 {
-    if !flag_covered(count_at(table, component, kind, 64), nodes, givers, 1) {
+    if !flag_covered(count_at(table, component, kind, 8), nodes, givers, 1) {
         return 64;
     }
-    if !flag_covered(count_at(table, component, kind, 65), nodes, givers, 2) {
+    if !flag_covered(count_at(table, component, kind, 9), nodes, givers, 2) {
         return 65;
     }
-    if !flag_covered(count_at(table, component, kind, 66), nodes, givers, 4) {
+    if !flag_covered(count_at(table, component, kind, 10), nodes, givers, 4) {
         return 66;
     }
     67
@@ -84,7 +99,7 @@ fn count_covered(needed: usize, c: &[u8], nodes: &[usize], givers: Givers, group
     within(needed, count_granted(c, nodes, givers, group))
 }
 
-// The first group that an entry needs to disclose to more often than is granted, or 67.
+// The first group, by its place in the component's row, that an entry needs to disclose to more often than is granted, or 67.
 fn missing_group(
     c: &[u8],
     table: &[u16],
@@ -94,14 +109,15 @@ fn missing_group(
     givers: Givers,
 ) -> usize
     requires { ⌜ (component < 32) × (kind < 16) ⌝ }
-    ensures { λ r. ⌜ r ≡ missingFrom 0 (extentAt (now (table .entry)) component kind) (now (c .entry)) (now (nodes .entry))
+    ensures { λ r. ⌜ r ≡ missingFrom 0 (groupCount (now (table .entry)) component) (now (c .entry)) (now (nodes .entry))
         (givenRows givers) (now (table .entry)) component kind ⌝ }
 {
-    let extent = extent_at(table, component, kind);
-    let mut group: usize = 0;
-    while group < extent {
+    let count = group_count(table, component);
+    let mut place: usize = 0;
+    while place < count {
+        let group = group_at(table, component, place);
         if !count_covered(
-            count_at(table, component, kind, group),
+            count_at(table, component, kind, place),
             c,
             nodes,
             givers,
@@ -109,12 +125,12 @@ fn missing_group(
         ) {
             return group;
         }
-        group += 1;
+        place += 1;
     }
     67
 }
 
-// What an entry comes to in the tree of its kind: is each group of its path at a reached node, and the column of the first permission
+// What an entry comes to in the tree of its kind: is each group of its path at a reached node, and the number of the first permission
 // that is not covered, in the order read, write, access, then groups; or 67.
 pub fn covering(
     c: &[u8],
@@ -175,7 +191,7 @@ fn tree_fault(
     19
 }
 
-// The first of questions 16 to 18 that the entry of a component and a kind fails, or 19.
+// The first of questions 16 to 18 that the entry of a component and a kind fails, or 19; a kind that is not marked has no entry.
 fn entry_fault(
     c: &[u8],
     nodes: &[usize],
@@ -186,9 +202,14 @@ fn entry_fault(
 ) -> usize
     requires { ⌜ (component < 32) × (kind < 16) × Bounded trees × (length (now nodes) ≡ 320) ⌝ }
     ensures { λ r. ⌜ ((policy : List Tree) → AllHeld (now (c .entry)) (now (nodes .entry)) trees 0 policy
-        → (required : Required) → r ≡ entryFault policy required (entryAt (now (table .entry)) component kind)) ⌝ }
+        → Orderly (now (table .entry)) component → (required : Required)
+        → r ≡ cond (isSet (cell (now (table .entry)) component kind 11)) (entryFault policy required (entryAt (now (table .entry)) component kind)) 19) ⌝ }
 {
-    if map_at(table, component, kind) == 0 {
+    if !is_used(table, component, kind) {
+        return 19;
+    }
+    let groups = disclosed_groups(table, component, kind);
+    if map_at(table, component, kind, groups) == 0 {
         return 19;
     }
     let t = tree_for(trees, kind);
@@ -208,7 +229,8 @@ fn least(a: usize, b: usize) -> usize
 fn row_fault(c: &[u8], nodes: &[usize], trees: Trees, table: &[u16], component: usize) -> usize
     requires { ⌜ (component < 32) × Bounded trees × (length (now nodes) ≡ 320) ⌝ }
     ensures { λ r. ⌜ ((policy : List Tree) → AllHeld (now (c .entry)) (now (nodes .entry)) trees 0 policy
-        → (required : Required) → r ≡ entriesFault policy required (rowEntries (now (table .entry)) component)) ⌝ }
+        → Orderly (now (table .entry)) component → (required : Required)
+        → r ≡ entriesFault policy required (rowEntries (now (table .entry)) component)) ⌝ }
 {
     let mut first: usize = 19;
     let mut kind: usize = 0;
@@ -223,6 +245,7 @@ fn row_fault(c: &[u8], nodes: &[usize], trees: Trees, table: &[u16], component: 
 pub fn fit(c: &[u8], nodes: &[usize], trees: Trees, table: &[u16], components: usize) -> usize
     requires { ⌜ (components ≤ 32) × Bounded trees × (length (now nodes) ≡ 320) ⌝ }
     ensures { λ r. ⌜ ((policy : List Tree) → AllHeld (now (c .entry)) (now (nodes .entry)) trees 0 policy
+        → ((n : ℕ) → n < components → Orderly (now (table .entry)) n)
         → r ≡ entriesFault policy (tableRequired (now (table .entry)) components) (tableEntries (now (table .entry)) components)) ⌝ }
 {
     let mut first: usize = 19;

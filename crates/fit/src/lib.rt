@@ -16,15 +16,15 @@ pub struct Givers {
     pub len: usize,
 }
 
-// What an entry comes to in the tree of its kind: is each group of its path at a reached node, and the column of the first permission
-// that is not covered, or 67.
+// What an entry comes to in the tree of its kind: is each group of its path at a reached node, and the number of the first permission
+// that is not covered (see Missing), or 67.
 pub struct Covering {
     pub reached: bool,
     pub column: usize,
 }
 
-// A permission of the entry of a component and a kind by its column in the table: 64 read, 65 write, 66 access, below 64 the group
-// disclosed to; 67 is none.
+// A permission of the entry of a component and a kind by its number: 64 read, 65 write, 66 access, below 64 the group disclosed to;
+// 67 is none.
 pub struct Missing {
     pub component: usize,
     pub kind: usize,

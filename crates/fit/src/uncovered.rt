@@ -2,10 +2,12 @@
 // disclose by group.
 ghost use mathlib.Core.Path.{_≡_};
 ghost use mathlib.Core.List.{List};
+ghost use mathlib.Core.Bool.{cond};
+ghost use mathlib.Core.Option.{none};
 ghost use Prim.Native.Nat.{ℕ, _<_, _≤_, _-_};
 ghost use lib.ListN.{length};
 ghost use Rattle.inference.specs.Interface.{Required};
-ghost use Rattle.inference.specs.Rows.{entryAt, rowEntries, tableEntries, tableRequired};
+ghost use Rattle.inference.specs.Rows.{Orderly, isSet, cell, entryAt, rowEntries, tableEntries, tableRequired};
 ghost use Rattle.policy.specs.Syntax.{Tree};
 ghost use Rattle.policy.specs.Loads.{Bounded, AllHeld};
 ghost use Rattle.fit.specs.Givers.{giversIn};
@@ -15,6 +17,7 @@ ghost use Rattle.fit.specs.Search.{Gives, uncoveredAt};
 use crate::Missing;
 use crate::entries::covering;
 use crate::grants::tree_for;
+use interface::is_used;
 use policy::Span;
 use policy::Trees;
 use policy::nodes::span_of;
@@ -33,7 +36,7 @@ fn rows_of(trees: Trees, kind: usize) -> Span
     span_of(trees, t)
 }
 
-// The column of the first permission of an entry that is not covered, or 67.
+// The number of the first permission of an entry that is not covered, or 67; a kind that is not marked has no entry.
 fn entry_missing(
     c: &[u8],
     nodes: &[usize],
@@ -44,8 +47,13 @@ fn entry_missing(
 ) -> usize
     requires { ⌜ (component < 32) × (kind < 16) × Bounded trees × (length (now nodes) ≡ 320) ⌝ }
     ensures { λ r. ⌜ ((policy : List Tree) → AllHeld (now (c .entry)) (now (nodes .entry)) trees 0 policy
-        → (required : Required) → firstMissing policy required (entryAt (now (table .entry)) component kind) ≡ missingOf r) ⌝ }
+        → Orderly (now (table .entry)) component → (required : Required)
+        → cond (isSet (cell (now (table .entry)) component kind 11)) (firstMissing policy required (entryAt (now (table .entry)) component kind)) none
+        ≡ missingOf r) ⌝ }
 {
+    if !is_used(table, component, kind) {
+        return 67;
+    }
     let found = covering(c, nodes, rows_of(trees, kind), table, component, kind);
     found.column
 }
@@ -54,7 +62,8 @@ fn entry_missing(
 fn row_missing(c: &[u8], nodes: &[usize], trees: Trees, table: &[u16], component: usize) -> Missing
     requires { ⌜ (component < 32) × Bounded trees × (length (now nodes) ≡ 320) ⌝ }
     ensures { λ r. ⌜ ((policy : List Tree) → AllHeld (now (c .entry)) (now (nodes .entry)) trees 0 policy
-        → (required : Required) → firstUncovered policy required (rowEntries (now (table .entry)) component) ≡ uncoveredAt (now (table .entry)) r) ⌝ }
+        → Orderly (now (table .entry)) component → (required : Required)
+        → firstUncovered policy required (rowEntries (now (table .entry)) component) ≡ uncoveredAt (now (table .entry)) r) ⌝ }
     ensures few { λ r. ⌜ r .component < 32 ⌝ }
 {
     let mut kind: usize = 0;
@@ -86,6 +95,7 @@ pub fn first_uncovered(
 ) -> Missing
     requires { ⌜ (components ≤ 32) × Bounded trees × (length (now nodes) ≡ 320) ⌝ }
     ensures { λ r. ⌜ ((policy : List Tree) → AllHeld (now (c .entry)) (now (nodes .entry)) trees 0 policy
+        → ((n : ℕ) → n < components → Orderly (now (table .entry)) n)
         → firstUncovered policy (tableRequired (now (table .entry)) components) (tableEntries (now (table .entry)) components)
         ≡ uncoveredAt (now (table .entry)) r) ⌝ }
     ensures few { λ r. ⌜ r .component < 32 ⌝ }

@@ -3,6 +3,7 @@ pub mod NeedLaws
 pub mod NeedSteps
 pub mod RowSteps
 pub mod PathRows
+pub mod GroupRows
 pub mod WalkLaws
 pub mod WalkSteps
 pub mod SystemSteps

@@ -10,7 +10,7 @@ use lib.ListN.{length, take, drop, getD, set, length-take, length-drop, length-s
 use lib.Seq.{drop-cons, getD-take, getD-drop, getD-set-same, getD-set-other, ext-getD}
 use Rattle.reading.specs.Told.{pathOf}
 use Rattle.reading.specs.declared.Path.{Path}
-use Rattle.inference.specs.Rows.{stored, withPath, pathAt}
+use Rattle.inference.specs.Rows.{stored, pathAt}
 
 -- Storing: what is left to store makes of the table now what all of it makes of the table at first.
 pub record Storing (row len : ℕ) (groups first table : List ℕ) (i : ℕ) : Type 0 where
@@ -45,21 +45,21 @@ take-own zero l = refl
 take-own (suc n) [] = refl
 take-own (suc n) (x ∷ l) = ap (λ (m : List ℕ). x ∷ m) (take-own n l)
 
-pub store-last : (c len i : ℕ) (p : Path) (t first u : List ℕ) → Storing (c * 1097) len (p .groups) first u i → len ≤ i
-    → first ≡ set t (c * 1097) (len % 65536) → len ≡ length (pathOf p) → u ≡ withPath t c (pathOf p)
-unfolding stored withPath
-store-last c len i p t first u s h e f = cut at-end (s .left) ∙ ap (λ (l : List ℕ). stored first (c * 1097 + 1) l) whole ∙ begun
+pub store-last : (c len i : ℕ) (p : Path) (t first u : List ℕ) → Storing (c * 210) len (p .groups) first u i → len ≤ i
+    → first ≡ set t (c * 210) (len % 65536) → len ≡ length (pathOf p) → u ≡ stored t (c * 210) (length (pathOf p) ∷ pathOf p)
+unfolding stored
+store-last c len i p t first u s h e f = cut at-end (s .left) ∙ ap (λ (l : List ℕ). stored first (c * 210 + 1) l) whole ∙ begun
   where
     at-end : drop i (take len (p .groups)) ≡ []
     at-end = drop-of-length-le (take len (p .groups)) {i = i} (omega (arith, length-take len (p .groups)))
 
-    cut : {l m : List ℕ} → l ≡ [] → stored u (c * 1097 + 1 + i) l ≡ m → u ≡ m
+    cut : {l m : List ℕ} → l ≡ [] → stored u (c * 210 + 1 + i) l ≡ m → u ≡ m
     cut q r = rw q at r
 
     whole : take len (p .groups) ≡ pathOf p
     whole = rw f (take-own (p .len) (p .groups))
 
-    begun : stored first (c * 1097 + 1) (pathOf p) ≡ stored (set t (c * 1097) (length (pathOf p) % 65536)) (c * 1097 + 1) (pathOf p)
+    begun : stored first (c * 210 + 1) (pathOf p) ≡ stored (set t (c * 210) (length (pathOf p) % 65536)) (c * 210 + 1) (pathOf p)
     begun = rw (e, f)
 
 -- Reading: each place passed holds what stands in the row.
@@ -99,9 +99,9 @@ copied row len i table groups s h e =
     (omega (arith, length-take len groups)) (omega (arith, length-take len groups)) (omega (arith, length-take len groups, s .full))
     (s .same j (omega (arith, length-take len groups, s .full))))
 
-pub copy-last : (c len i : ℕ) (table groups : List ℕ) → Copied (c * 1097) table groups i → 8 ≤ i
-    → len ≡ min (getD table (c * 1097) 0) (length table - (c * 1097 + 1)) → pathOf (record { groups = groups; len = len }) ≡ pathAt table c
+pub copy-last : (c len i : ℕ) (table groups : List ℕ) → Copied (c * 210) table groups i → 8 ≤ i
+    → len ≡ min (getD table (c * 210) 0) (length table - (c * 210 + 1)) → pathOf (record { groups = groups; len = len }) ≡ pathAt table c
 unfolding pathAt
-copy-last c len i table groups s h e = copied (c * 1097) len i table groups s h e
+copy-last c len i table groups s h e = copied (c * 210) len i table groups s h e
 
 pub ruleset path-rows = (needs, store-first, store-next, store-last, copy-first, copy-next, copy-last)

@@ -6,7 +6,8 @@ use mathlib.Core.List.{List, [], _∷_}
 use mathlib.Core.Option.{some, none}
 use mathlib.Core.Path.{_≡_, refl, sym}
 use native.Mathlib.Omega.{arith}
-use borrow.Author.Tests.{lt-ltb, le-ltb}
+use native.Mathlib.Numerals.{add-one}
+use borrow.Author.Tests.{lt-ltb, le-ltb, eq-eqb, ne-eqb}
 use lib.ListN.{length, take, getD, set, getElem?, length-take}
 use lib.Seq.{set-out, getD-take}
 use Rattle.reading.proofs.Tests.{tests}
@@ -15,7 +16,7 @@ use Rattle.reading.specs.Told.{pathOf}
 use Rattle.reading.specs.declared.Path.{Path}
 use Rattle.needs.specs.declared.Need.{Need}
 use Rattle.needs.specs.declared.Need.the-variants as need-case
-use Rattle.inference.specs.Rows.{bumped, chargeAt, cellOf, chargeCell, widenedAt, widened, charge}
+use Rattle.inference.specs.Rows.{bumped, chargeAt, cellOf, chargeCell, marked, chargeColumn, groupAt, groupCount, placeFrom, candidate, charge}
 
 -- What stands at a place of a list, and that nothing stands past its end.
 pub elem-in : (l : List ℕ) (i : ℕ) → i < length l → some (getD l i 0) ≡ getElem? l i
@@ -59,68 +60,96 @@ pub charge-out : (l : List ℕ) (i : ℕ) (b : Bool) → length l ≤ i → l �
 unfolding chargeAt
 charge-out l i b h = sym (set-out l i (bumped (getD l i 0) b) h)
 
-pub cell-place : (c k j : ℕ) → c * 1097 + (9 + (k * 68 + j)) ≡ cellOf c k j
+pub cell-place : (c k j : ℕ) → c * 210 + (18 + (k * 12 + j)) ≡ cellOf c k j
 unfolding cellOf
 cell-place c k j = refl
 
 module _ (l : List ℕ) (c k j : ℕ) (b : Bool) where
-  pub charge-in-row : {y : List ℕ} (at : ℕ) → k < 16 → j < 67 → at ≡ cellOf c k j → y ≡ chargeAt l at b → y ≡ chargeCell l c k j b
+  pub charge-in-row : {y : List ℕ} (at : ℕ) → k < 16 → j < 11 → at ≡ cellOf c k j → y ≡ chargeAt l at b → y ≡ chargeCell l c k j b
   unfolding chargeCell
-  charge-in-row at h i e f = rw (lt-ltb k 16 h, lt-ltb j 67 i, ← e) f
+  charge-in-row at h i e f = rw (lt-ltb k 16 h, lt-ltb j 11 i, ← e) f
 
   pub no-such-kind : 16 ≤ k → l ≡ chargeCell l c k j b
   unfolding chargeCell
   no-such-kind h = rw (le-ltb k 16 h)
 
-  pub no-such-column : k < 16 → 67 ≤ j → l ≡ chargeCell l c k j b
+  pub no-such-column : k < 16 → 11 ≤ j → l ≡ chargeCell l c k j b
   unfolding chargeCell
-  no-such-column h i = rw (lt-ltb k 16 h, le-ltb j 67 i)
+  no-such-column h i = rw (lt-ltb k 16 h, le-ltb j 11 i)
 
--- The extent of a kind's groups.
-module _ (l : List ℕ) (i e v : ℕ) (is : v ≡ getD l i 0) where
-  pub widen-cell : {y : List ℕ} → v < e → y ≡ set l i (e % 65536) → y ≡ widenedAt l i e
-  unfolding widenedAt
-  widen-cell h f = rw (← is, lt-ltb v e h) f
+-- The mark of a kind.
+module _ (l : List ℕ) (c k : ℕ) where
+  pub mark-in-row : {y : List ℕ} (at : ℕ) → k < 16 → at ≡ cellOf c k 11 → y ≡ set l at (1 % 65536) → y ≡ marked l c k
+  unfolding marked
+  mark-in-row at h e f = rw (lt-ltb k 16 h, ← e) f
 
-  pub wide-enough : e ≤ v → l ≡ widenedAt l i e
-  unfolding widenedAt
-  wide-enough h = rw (← is, le-ltb v e h)
+  pub no-kind-to-mark : 16 ≤ k → l ≡ marked l c k
+  unfolding marked
+  no-kind-to-mark h = rw (le-ltb k 16 h)
 
-module _ (l : List ℕ) (c k g : ℕ) where
-  pub widen-in-row : {y : List ℕ} (at : ℕ) → k < 16 → g < 64 → at ≡ cellOf c k 67 → y ≡ widenedAt l at (g + 1) → y ≡ widened l c k g
-  unfolding widened
-  widen-in-row at h i e f = rw (lt-ltb k 16 h, lt-ltb g 64 i, ← e) f
+  pub column-charged : (j : ℕ) (b : Bool) (l′ : List ℕ) {y : List ℕ} → l′ ≡ marked l c k → y ≡ chargeCell l′ c k j b → y ≡ chargeColumn l c k j b
+  unfolding chargeColumn
+  column-charged j b l′ e f = rw (← e) f
 
-  pub no-kind-to-widen : 16 ≤ k → l ≡ widened l c k g
-  unfolding widened
-  no-kind-to-widen h = rw (le-ltb k 16 h)
+-- The groups of a component's path.
+pub few-groups : (l : List ℕ) (c n : ℕ) → n ≡ getD l (c * 210 + 9) 0 → n < 8 → n ≡ groupCount l c
+unfolding groupCount
+few-groups l c n e h = rw (← e) (omega arith)
 
-  pub no-group-to-widen : k < 16 → 64 ≤ g → l ≡ widened l c k g
-  unfolding widened
-  no-group-to-widen h i = rw (lt-ltb k 16 h, le-ltb g 64 i)
+pub eight-groups : (l : List ℕ) (c n : ℕ) → n ≡ getD l (c * 210 + 9) 0 → 8 ≤ n → 8 ≡ groupCount l c
+unfolding groupCount
+eight-groups l c n e h = rw (← e) (omega arith)
 
-  pub disclosure-charged : (l′ : List ℕ) (b : Bool) {y : List ℕ} → l′ ≡ widened l c k g → y ≡ chargeCell l′ c k g b
-      → y ≡ chargeCell (widened l c k g) c k g b
-  disclosure-charged l′ b e f = rw (← e) f
+pub group-read : (l : List ℕ) (c i r : ℕ) → r ≡ getD l (c * 210 + (10 + i)) 0 → r ≡ groupAt l c i
+unfolding groupAt
+group-read l c i r e = e
+
+-- The search for a group has come to a place.
+pub record Searching (l : List ℕ) (c g n i : ℕ) : Type 0 where
+  pub same : placeFrom l c g 0 n ≡ placeFrom l c g i (n - i)
+  pub within : i ≤ n
+
+pub search-first : (l : List ℕ) (c g n : ℕ) → Searching l c g n 0
+search-first l c g n = record { same = let e : n - 0 ≡ n = omega arith in rw e; within = omega arith }
+
+module _ (l : List ℕ) (c g n i v : ℕ) (s : Searching l c g n i) where
+  left : i < n → n - i ≡ suc (n - suc i)
+  left h = omega arith
+
+  pub search-found : n ≡ groupCount l c → i < n → v ≡ groupAt l c i → v ≡ g → i ≡ placeFrom l c g 0 (groupCount l c)
+  unfolding placeFrom
+  search-found m h e f = rw (← m) (sym (rw (left h, ← e, eq-eqb v g f) at (s .same)))
+
+  pub search-next : i < n → v ≡ groupAt l c i → (v ≡ g → ⊥) → Searching l c g n (i + 1)
+  unfolding placeFrom
+  search-next h e f = record { same = rw add-one (rw (left h, ← e, ne-eqb v g f) at (s .same)); within = omega arith }
+
+pub search-none : (l : List ℕ) (c g n i : ℕ) → Searching l c g n i → n ≡ groupCount l c → n ≤ i → 11 ≡ placeFrom l c g 0 (groupCount l c)
+unfolding placeFrom
+search-none l c g n i s m h = rw (← m) (let e : n - i ≡ 0 = omega arith in sym (rw e at (s .same)))
+
+pub place-charged : (l : List ℕ) (c k p q : ℕ) (b : Bool) {y : List ℕ} → p ≡ q → y ≡ chargeColumn l c k p b → y ≡ chargeColumn l c k q b
+place-charged l c k p q b e f = rw (← e) f
 
 module _ (l : List ℕ) (c : ℕ) (n : Need) (b : Bool) where
   pub charge-nothing : n ≡ need-case.Nothing → l ≡ charge l c n b
   unfolding charge
   charge-nothing e = rw e
 
-  pub charge-read : {y : List ℕ} (k : ℕ) → n ≡ need-case.Read k → y ≡ chargeCell l c k 64 b → y ≡ charge l c n b
+  pub charge-read : {y : List ℕ} (k : ℕ) → n ≡ need-case.Read k → y ≡ chargeColumn l c k 8 b → y ≡ charge l c n b
   unfolding charge
   charge-read k e h = rw e h
 
-  pub charge-write : {y : List ℕ} (k : ℕ) → n ≡ need-case.Write k → y ≡ chargeCell l c k 65 b → y ≡ charge l c n b
+  pub charge-write : {y : List ℕ} (k : ℕ) → n ≡ need-case.Write k → y ≡ chargeColumn l c k 9 b → y ≡ charge l c n b
   unfolding charge
   charge-write k e h = rw e h
 
-  pub charge-access : {y : List ℕ} (k : ℕ) → n ≡ need-case.Access k → y ≡ chargeCell l c k 66 b → y ≡ charge l c n b
+  pub charge-access : {y : List ℕ} (k : ℕ) → n ≡ need-case.Access k → y ≡ chargeColumn l c k 10 b → y ≡ charge l c n b
   unfolding charge
   charge-access k e h = rw e h
 
-  pub charge-disclose : {y : List ℕ} (k g : ℕ) → n ≡ need-case.Disclose k g → y ≡ chargeCell (widened l c k g) c k g b → y ≡ charge l c n b
+  pub charge-disclose : {y : List ℕ} (k g : ℕ) → n ≡ need-case.Disclose k g → y ≡ chargeColumn l c k (placeFrom l c g 0 (groupCount l c)) b
+      → y ≡ charge l c n b
   unfolding charge
   charge-disclose k g e h = rw e h
 
@@ -134,6 +163,20 @@ module _ (p : Path) (h : length (p .groups) ≡ 8) where
 
 pub no-row : (l : List ℕ) (r : ℕ) → length l ≤ r → 0 ≡ min (getD l r 0) (length l - (r + 1))
 no-row l r h = omega arith
+
+-- The nearer of two groups.
+module _ (best g from : ℕ) where
+  pub nearer-before : best ≤ 64 → g < from → best ≡ min best (candidate g from)
+  unfolding candidate
+  nearer-before h k = rw (lt-ltb g from k) (omega arith)
+
+  pub nearer-this : from ≤ g → g < best → g ≡ min best (candidate g from)
+  unfolding candidate
+  nearer-this h k = rw (le-ltb g from h) (omega arith)
+
+  pub nearer-best : from ≤ g → best ≤ g → best ≡ min best (candidate g from)
+  unfolding candidate
+  nearer-best h k = rw (le-ltb g from h) (omega arith)
 
 pub ruleset row-steps = (
   tests,
@@ -151,12 +194,20 @@ pub ruleset row-steps = (
   charge-in-row,
   no-such-kind,
   no-such-column,
-  widen-cell,
-  wide-enough,
-  widen-in-row,
-  no-kind-to-widen,
-  no-group-to-widen,
-  disclosure-charged,
+  mark-in-row,
+  no-kind-to-mark,
+  column-charged,
+  few-groups,
+  eight-groups,
+  group-read,
+  search-first,
+  search-found,
+  search-next,
+  search-none,
+  place-charged,
+  nearer-before,
+  nearer-this,
+  nearer-best,
   charge-nothing,
   charge-read,
   charge-write,

@@ -1,12 +1,13 @@
--- The table of what components need: rows of 1,097 cells (src/rows.rt). Its cells are the counts that acts need together
+-- The table of what components need: rows of 210 cells (src/rows.rt). Its cells are the counts that acts need together
 -- (`charged-count` of the crate interface's proofs/CellLaws.antt).
-use Prim.Native.Nat.{ℕ, zero, suc, _+_, _*_, _%_, min}
+use Prim.Native.Nat.{ℕ, zero, suc, _+_, _*_, _%_, _<_, min}
 use mathlib.Core.List.{List, [], _∷_, map}
 use mathlib.Core.Bool.{Bool, true, false, cond, not, _&&_}
 use lib.ListN.{length, getD, set, take, drop}
 use lib.Dec.{ltb, eqb}
 use Rattle.needs.specs.declared.Need.{Need}
 use Rattle.needs.specs.declared.Need.the-variants.{Nothing, Read, Write, Access, Disclose}
+use Rattle.reading.specs.Forms.{member}
 use Rattle.inference.specs.Lists.{only, gather, rising}
 use Rattle.inference.specs.Counts.{Count, fin, unlimited, isZero}
 use Rattle.inference.specs.Interface.{Disclosure, Entry, holdsAny, Required}
@@ -20,40 +21,74 @@ unfoldable pub chargeAt : List ℕ → ℕ → Bool → List ℕ
 chargeAt table at repeated = set table at (bumped (getD table at 0) repeated)
 
 unfoldable pub cellOf : ℕ → ℕ → ℕ → ℕ
-cellOf component kind column = component * 1097 + (9 + (kind * 68 + column))
+cellOf component kind column = component * 210 + (18 + (kind * 12 + column))
 
 unfoldable pub chargeCell : List ℕ → ℕ → ℕ → ℕ → Bool → List ℕ
 chargeCell table component kind column repeated =
-    cond (ltb kind 16 && ltb column 67) (chargeAt table (cellOf component kind column) repeated) table
+    cond (ltb kind 16 && ltb column 11) (chargeAt table (cellOf component kind column) repeated) table
 
--- at least so much in a cell
-unfoldable pub widenedAt : List ℕ → ℕ → ℕ → List ℕ
-widenedAt table at extent = cond (ltb (getD table at 0) extent) (set table at (extent % 65536)) table
+-- a kind that is marked as one that the component needs something of
+unfoldable pub marked : List ℕ → ℕ → ℕ → List ℕ
+marked table component kind = cond (ltb kind 16) (set table (cellOf component kind 11) 1) table
 
--- the extent of a component and a kind reaches past a group
-unfoldable pub widened : List ℕ → ℕ → ℕ → ℕ → List ℕ
-widened table component kind group =
-    cond (ltb kind 16 && ltb group 64) (widenedAt table (cellOf component kind 67) (group + 1)) table
+unfoldable pub chargeColumn : List ℕ → ℕ → ℕ → ℕ → Bool → List ℕ
+chargeColumn table component kind column repeated = chargeCell (marked table component kind) component kind column repeated
+
+-- the groups of a component's path, rising: how many, and each
+unfoldable pub groupCount : List ℕ → ℕ → ℕ
+groupCount table component = min (getD table (component * 210 + 9) 0) 8
+
+unfoldable pub groupAt : List ℕ → ℕ → ℕ → ℕ
+groupAt table component place = getD table (component * 210 + (10 + place)) 0
+
+-- A row whose groups are groups, and rise.
+pub record Orderly (table : List ℕ) (component : ℕ) : Type 0 where
+  pub low : (i : ℕ) → i < groupCount table component → groupAt table component i < 64
+  pub rises : (i j : ℕ) → i < j → j < groupCount table component → groupAt table component i < groupAt table component j
+
+-- the place of a group among so many from a place on, or 11, which is no count's column
+unfoldable pub placeFrom : List ℕ → ℕ → ℕ → ℕ → ℕ → ℕ
+placeFrom table component group place zero = 11
+placeFrom table component group place (suc left) =
+    cond (eqb (groupAt table component place) group) place (placeFrom table component group (suc place) left)
 
 -- what an act needs, counted in its component's row
 unfoldable pub charge : List ℕ → ℕ → Need → Bool → List ℕ
 charge table component Nothing repeated = table
-charge table component (Read kind) repeated = chargeCell table component kind 64 repeated
-charge table component (Write kind) repeated = chargeCell table component kind 65 repeated
-charge table component (Access kind) repeated = chargeCell table component kind 66 repeated
-charge table component (Disclose kind group) repeated = chargeCell (widened table component kind group) component kind group repeated
+charge table component (Read kind) repeated = chargeColumn table component kind 8 repeated
+charge table component (Write kind) repeated = chargeColumn table component kind 9 repeated
+charge table component (Access kind) repeated = chargeColumn table component kind 10 repeated
+charge table component (Disclose kind group) repeated =
+    chargeColumn table component kind (placeFrom table component group 0 (groupCount table component)) repeated
 
 -- numbers stored one after another
 unfoldable pub stored : List ℕ → ℕ → List ℕ → List ℕ
 stored table at [] = table
 stored table at (x ∷ xs) = stored (set table at (x % 65536)) (at + 1) xs
 
--- a path in its component's row: its length, then its groups
+-- the groups of a path, rising
+unfoldable pub risingGroups : List ℕ → List ℕ
+risingGroups path = only (λ g. member g path) (rising 0 64)
+
+-- a group, if it is one from a group on, else 64; and the first such of a path
+unfoldable pub candidate : ℕ → ℕ → ℕ
+candidate g from = cond (ltb g from) 64 g
+
+unfoldable pub nextGroup : List ℕ → ℕ → ℕ
+nextGroup [] from = 64
+nextGroup (g ∷ path) from = min (candidate g from) (nextGroup path from)
+
+-- groups in a component's row, and how many they are
+unfoldable pub withGroups : List ℕ → ℕ → List ℕ → List ℕ
+withGroups table component groups =
+    set (stored table (component * 210 + 10) groups) (component * 210 + 9) (length groups % 65536)
+
+-- a path in its component's row: its length, its groups, and its groups rising
 unfoldable pub withPath : List ℕ → ℕ → List ℕ → List ℕ
-withPath table component path = stored table (component * 1097) (length path ∷ path)
+withPath table component path = withGroups (stored table (component * 210) (length path ∷ path)) component (risingGroups path)
 
 unfoldable pub pathAt : List ℕ → ℕ → List ℕ
-pathAt table component = take (getD table (component * 1097) 0) (take 8 (drop (component * 1097 + 1) table))
+pathAt table component = take (getD table (component * 210) 0) (take 8 (drop (component * 210 + 1) table))
 
 unfoldable pub cell : List ℕ → ℕ → ℕ → ℕ → ℕ
 cell table component kind column = getD table (cellOf component kind column) 0
@@ -65,29 +100,29 @@ countOf n = cond (eqb n 65535) unlimited (fin n)
 unfoldable pub isSet : ℕ → Bool
 isSet n = not (eqb n 0)
 
--- the groups that a component may disclose data of a kind to are below its extent
-unfoldable pub extentAt : List ℕ → ℕ → ℕ → ℕ
-extentAt table component kind = min (cell table component kind 67) 64
-
 unfoldable pub disclosuresAt : List ℕ → ℕ → ℕ → List Disclosure
 disclosuresAt table component kind =
     only (λ d. not (isZero (d .count)))
-    (map (λ g. record { group = g; count = countOf (cell table component kind g) }) (rising 0 (extentAt table component kind)))
+    (map (λ i. record { group = groupAt table component i; count = countOf (cell table component kind i) }) (rising 0 (groupCount table component)))
 
 -- the entry of a component and a kind that a table holds
 unfoldable pub entryAt : List ℕ → ℕ → ℕ → Entry
 entryAt table component kind = record {
   component = record { number = component; path = pathAt table component };
   kind = kind;
-  read = isSet (cell table component kind 64);
-  write = isSet (cell table component kind 65);
-  access = isSet (cell table component kind 66);
+  read = isSet (cell table component kind 8);
+  write = isSet (cell table component kind 9);
+  access = isSet (cell table component kind 10);
   disclose = disclosuresAt table component kind;
 }
 
+-- the kinds that are marked in a component's row
+unfoldable pub usedKinds : List ℕ → ℕ → List ℕ
+usedKinds table component = only (λ k. isSet (cell table component k 11)) (rising 0 16)
+
 -- the entries of a component that a table holds
 unfoldable pub rowEntries : List ℕ → ℕ → List Entry
-rowEntries table component = only holdsAny (map (entryAt table component) (rising 0 16))
+rowEntries table component = only holdsAny (map (entryAt table component) (usedKinds table component))
 
 -- the interface that a table of `count` components holds
 unfoldable pub tableEntries : List ℕ → ℕ → List Entry

@@ -1,19 +1,29 @@
-// The table of what components need, in lent memory: a row of 1,097 cells for each component. Cell 0 is the length of its
-// path, cells 1 to 8 its path, and from cell 9 on for each kind 67 counts: of disclosures into groups 0 to 63, of reads, of
-// writes and of accesses; then its extent, one more than the highest group disclosed to. 65,535 is unlimited.
+// The table of what components need, in lent memory: a row of 210 cells for each component. Cell 0 is the length of its path, cells 1
+// to 8 its path; cell 9 is the number of its path's groups, cells 10 to 17 these groups, rising; and from cell 18 on for each kind 11
+// counts, of disclosures into these groups, of reads, of writes and of accesses, then a mark: 1 where anything of the kind is
+// needed. Question 10 lets a component disclose into the groups of its path alone. 65,535 is unlimited.
 ghost use mathlib.Core.Path.{_≡_};
-ghost use Prim.Native.Nat.{_+_, _-_, _%_, _<_, min};
+ghost use mathlib.Core.List.{_∷_};
+ghost use Prim.Native.Nat.{_+_, _-_, _*_, _%_, _<_, _≤_, min};
 ghost use Rattle.reading.specs.Told.{pathOf};
 ghost use lib.ListN.{length, getD, set};
 ghost use Rattle.inference.specs.Rows.{
   bumped,
+  candidate,
   cellOf,
   charge,
   chargeAt,
   chargeCell,
+  chargeColumn,
+  groupAt,
+  groupCount,
+  marked,
+  nextGroup,
   pathAt,
-  widened,
-  widenedAt,
+  placeFrom,
+  risingGroups,
+  stored,
+  withGroups,
   withPath,
 };
 use needs::Need;
@@ -32,10 +42,10 @@ pub fn bump(count: u16, repeated: bool) -> u16
 
 // The place of the cell of a component, a kind and a column.
 pub fn cell_of(component: usize, kind: usize, column: usize) -> usize
-    requires { ⌜ (component < 32) × (kind < 16) × (column < 68) ⌝ }
+    requires { ⌜ (component < 32) × (kind < 16) × (column < 12) ⌝ }
     ensures { λ r. ⌜ r ≡ cellOf component kind column ⌝ }
 {
-    component * 1097 + (9 + (kind * 68 + column))
+    component * 210 + (18 + (kind * 12 + column))
 }
 
 fn charge_at(table: &mut [u16], at: usize, repeated: bool)
@@ -52,40 +62,73 @@ fn charge_cell(table: &mut [u16], component: usize, kind: usize, column: usize, 
     ensures { λ r. ⌜ now (table .exit) ≡ chargeCell (now (table .entry)) component kind column repeated ⌝ }
 {
     if kind < 16 {
-        if column < 67 {
+        if column < 11 {
             charge_at(table, cell_of(component, kind, column), repeated);
         }
     }
 }
 
-// Makes a cell hold at least so much.
-fn widen_at(table: &mut [u16], at: usize, extent: usize)
-    ensures { λ r. ⌜ now (table .exit) ≡ widenedAt (now (table .entry)) at extent ⌝ }
+// Marks a kind as one that a component needs something of.
+fn mark(table: &mut [u16], component: usize, kind: usize)
+    requires { ⌜ component < 32 ⌝ }
+    ensures { λ r. ⌜ now (table .exit) ≡ marked (now (table .entry)) component kind ⌝ }
 {
-    if cell_at(table, at) < extent {
-        put(table, at, extent);
+    if kind < 16 {
+        put(table, cell_of(component, kind, 11), 1);
     }
 }
 
-// Makes the extent of a component and a kind reach past a group.
-fn widen(table: &mut [u16], component: usize, kind: usize, group: usize)
+// Counts once in a column of a kind, and marks the kind.
+fn charge_column(table: &mut [u16], component: usize, kind: usize, column: usize, repeated: bool)
     requires { ⌜ component < 32 ⌝ }
-    ensures { λ r. ⌜ now (table .exit) ≡ widened (now (table .entry)) component kind group ⌝ }
+    ensures { λ r. ⌜ now (table .exit) ≡ chargeColumn (now (table .entry)) component kind column repeated ⌝ }
 {
-    if kind < 16 {
-        if group < 64 {
-            widen_at(table, cell_of(component, kind, 67), group + 1);
+    mark(table, component, kind);
+    charge_cell(table, component, kind, column, repeated);
+}
+
+// How many groups a component's path has.
+pub fn group_count(table: &[u16], component: usize) -> usize
+    requires { ⌜ component < 32 ⌝ }
+    ensures { λ r. ⌜ r ≡ groupCount (now (table .entry)) component ⌝ }
+    ensures few { λ r. ⌜ r ≤ 8 ⌝ }
+{
+    let count = cell_at(table, component * 210 + 9);
+    if count < 8 { count } else { 8 }
+}
+
+// The group at a place among these groups, which rise.
+pub fn group_at(table: &[u16], component: usize, place: usize) -> usize
+    requires { ⌜ (component < 32) × (place < 8) ⌝ }
+    ensures { λ r. ⌜ r ≡ groupAt (now (table .entry)) component place ⌝ }
+{
+    cell_at(table, component * 210 + (10 + place))
+}
+
+// The place of a group among them, or 11.
+fn place_of(table: &[u16], component: usize, group: usize) -> usize
+    requires { ⌜ component < 32 ⌝ }
+    ensures { λ r. ⌜ r ≡ placeFrom (now (table .entry)) component group 0 (groupCount (now (table .entry)) component) ⌝ }
+{
+    let count = group_count(table, component);
+    let mut place: usize = 0;
+    while place < count {
+        if group_at(table, component, place) == group {
+            return place;
         }
+        place += 1;
     }
+    11
 }
 
 // Counts a disclosure into a group.
 fn charge_disclosure(table: &mut [u16], component: usize, kind: usize, group: usize, repeated: bool)
     requires { ⌜ component < 32 ⌝ }
-    ensures { λ r. ⌜ now (table .exit) ≡ chargeCell (widened (now (table .entry)) component kind group) component kind group repeated ⌝ }
+    ensures { λ r. ⌜ now (table .exit) ≡ chargeColumn (now (table .entry)) component kind
+        (placeFrom (now (table .entry)) component group 0 (groupCount (now (table .entry)) component)) repeated ⌝ }
 {
-    widen(table, component, kind, group);
-    charge_cell(table, component, kind, group, repeated);
+    let place = place_of(table, component, group);
+    charge_column(table, component, kind, place, repeated);
 }
 
 // Counts what an act needs in its component's row.
@@ -95,9 +138,9 @@ pub fn charge_need(table: &mut [u16], component: usize, need: Need, repeated: bo
 {
     match need {
         Need::Nothing => {}
-        Need::Read(kind) => charge_cell(table, component, kind, 64, repeated),
-        Need::Write(kind) => charge_cell(table, component, kind, 65, repeated),
-        Need::Access(kind) => charge_cell(table, component, kind, 66, repeated),
+        Need::Read(kind) => charge_column(table, component, kind, 8, repeated),
+        Need::Write(kind) => charge_column(table, component, kind, 9, repeated),
+        Need::Access(kind) => charge_column(table, component, kind, 10, repeated),
         Need::Disclose { kind, group } => {
             charge_disclosure(table, component, kind, group, repeated)
         }
@@ -111,13 +154,59 @@ pub fn path_len(path: Path) -> usize
     if path.len < 8 { path.len } else { 8 }
 }
 
-// Stores a component's path in its row.
-pub fn store_path(table: &mut [u16], component: usize, path: Path)
+// The nearer of the group found so far and one more group, of those from a group on.
+fn nearer(best: usize, group: usize, from: usize) -> usize
+    requires { ⌜ best ≤ 64 ⌝ }
+    ensures { λ r. ⌜ r ≡ min best (candidate group from) ⌝ }
+{
+    if group < from {
+        return best;
+    }
+    if group < best { group } else { best }
+}
+
+// The first group of a path from a group on, or 64.
+fn next_group(path: Path, from: usize) -> usize
+    ensures { λ r. ⌜ r ≡ nextGroup (pathOf path) from ⌝ }
+    ensures few { λ r. ⌜ r ≤ 64 ⌝ }
+{
+    let groups = path.groups;
+    let len = path.len;
+    let mut best: usize = 64;
+    let mut i: usize = 0;
+    while i < 8 {
+        if len <= i {
+            return best;
+        }
+        best = nearer(best, groups[i], from);
+        i += 1;
+    }
+    best
+}
+
+// Stores the groups of a component's path, rising, in its row.
+fn store_groups(table: &mut [u16], component: usize, path: Path)
     requires { ⌜ component < 32 ⌝ }
-    ensures { λ r. ⌜ now (table .exit) ≡ withPath (now (table .entry)) component (pathOf path) ⌝ }
+    ensures { λ r. ⌜ now (table .exit) ≡ withGroups (now (table .entry)) component (risingGroups (pathOf path)) ⌝ }
+{
+    let row = component * 210;
+    let mut count: usize = 0;
+    let mut group = next_group(path, 0);
+    while group < 64 {
+        put(table, row + 10 + count, group);
+        count += 1;
+        group = next_group(path, group + 1);
+    }
+    put(table, row + 9, count);
+}
+
+// Stores a component's path in its row, group by group as it stands.
+fn store_steps(table: &mut [u16], component: usize, path: Path)
+    requires { ⌜ component < 32 ⌝ }
+    ensures { λ r. ⌜ now (table .exit) ≡ stored (now (table .entry)) (component * 210) (length (pathOf path) ∷ pathOf path) ⌝ }
 {
     let len = path_len(path);
-    let row = component * 1097;
+    let row = component * 210;
     put(table, row, len);
     let groups = path.groups;
     let mut i: usize = 0;
@@ -125,6 +214,15 @@ pub fn store_path(table: &mut [u16], component: usize, path: Path)
         put(table, row + 1 + i, groups[i]);
         i += 1;
     }
+}
+
+// Stores a component's path in its row, as it stands and rising.
+pub fn store_path(table: &mut [u16], component: usize, path: Path)
+    requires { ⌜ component < 32 ⌝ }
+    ensures { λ r. ⌜ now (table .exit) ≡ withPath (now (table .entry)) component (pathOf path) ⌝ }
+{
+    store_steps(table, component, path);
+    store_groups(table, component, path);
 }
 
 // What stands in a cell, 0 past the table's end.
@@ -165,7 +263,7 @@ pub fn path_of(table: &[u16], component: usize) -> Path
     requires { ⌜ component < 32 ⌝ }
     ensures { λ r. ⌜ pathOf r ≡ pathAt (now (table .entry)) component ⌝ }
 {
-    let row = component * 1097;
+    let row = component * 210;
     let len = stored_len(table, row);
     let mut groups = [0usize; 8];
     let mut i: usize = 0;

@@ -1,6 +1,6 @@
 -- The table's cells: which cell a charge changes, and that acts charged one after another leave in each cell of their
 -- component's row the count that they need together.
-use Prim.Native.Nat.{ℕ, zero, suc, _+_, _*_, _%_, _<_, _≤_}
+use Prim.Native.Nat.{ℕ, zero, suc, _+_, _*_, _<_, _≤_}
 use mathlib.Core.Path.{_≡_, refl, sym, ap, _∙_}
 use mathlib.Core.List.{List, [], _∷_}
 use mathlib.Core.Bool.{Bool, true, false, cond, _&&_}
@@ -16,7 +16,7 @@ use Rattle.needs.specs.declared.Need.the-variants.{Nothing, Read, Write, Access
 use Rattle.inference.specs.Counts.{Count, fin, unlimited, _⊕_, repeatedly, countNumber}
 use Rattle.inference.specs.Acts.{Act}
 use Rattle.inference.specs.Needs.{needOf, weigh, total}
-use Rattle.inference.specs.Rows.{bumped, chargeAt, cellOf, chargeCell, widenedAt, widened, charge}
+use Rattle.inference.specs.Rows.{bumped, chargeAt, cellOf, chargeCell, marked, chargeColumn, groupCount, groupAt, placeFrom, charge}
 use Rattle.inference.specs.Walks.{charged}
 use Rattle.inference.proofs.CountLaws.{join-assoc, join-nothing}
 
@@ -24,23 +24,24 @@ use Rattle.inference.proofs.CountLaws.{join-assoc, join-nothing}
 unfoldable pub landsIn : ℕ → ℕ → ℕ → ℕ → ℕ
 landsIn kind column k c = cond (eqb kind k && eqb column c) 1 0
 
-unfoldable pub lands : ℕ → ℕ → Need → ℕ
-lands k c Nothing = 0
-lands k c (Read t) = landsIn t 64 k c
-lands k c (Write t) = landsIn t 65 k c
-lands k c (Access t) = landsIn t 66 k c
-lands k c (Disclose t g) = landsIn t g k c
+-- `at` tells the column of a group.
+unfoldable pub lands : (ℕ → ℕ) → ℕ → ℕ → Need → ℕ
+lands at k c Nothing = 0
+lands at k c (Read t) = landsIn t 8 k c
+lands at k c (Write t) = landsIn t 9 k c
+lands at k c (Access t) = landsIn t 10 k c
+lands at k c (Disclose t g) = landsIn t (at g) k c
+
+-- The columns of groups in a component's row.
+unfoldable pub Places : List ℕ → ℕ → (ℕ → ℕ) → Type 0
+Places table n at = (g : ℕ) → placeFrom table n g 0 (groupCount table n) ≡ at g
 
 -- `times` more in a cell: not at all, or once
 unfoldable pub raised : ℕ → ℕ → Bool → ℕ
 raised v zero repeated = v
 raised v (suc n) repeated = bumped v repeated
 
-pub cell-inj-component : (n m k j c d : ℕ) → k < 16 → j < 16 → c < 68 → d < 68 → cellOf n k c ≡ cellOf m j d → n ≡ m
-unfolding cellOf
-cell-inj-component n m k j c d p q r s e = omega arith
-
-pub cell-inj-kind : (n k j c d : ℕ) → c < 68 → d < 68 → cellOf n k c ≡ cellOf n j d → k ≡ j
+pub cell-inj-kind : (n k j c d : ℕ) → c < 12 → d < 12 → cellOf n k c ≡ cellOf n j d → k ≡ j
 unfolding cellOf
 cell-inj-kind n k j c d r s e = omega arith
 
@@ -48,7 +49,7 @@ pub cell-inj-column : (n k c d : ℕ) → cellOf n k c ≡ cellOf n k d → c �
 unfolding cellOf
 cell-inj-column n k c d e = omega arith
 
-pub cell-below : {rows : ℕ} (n k c : ℕ) → n < rows → k < 16 → c < 68 → cellOf n k c < rows * 1097
+pub cell-below : {rows : ℕ} (n k c : ℕ) → n < rows → k < 16 → c < 12 → cellOf n k c < rows * 210
 unfolding cellOf
 cell-below n k c p q r = omega arith
 
@@ -68,36 +69,32 @@ lands-off-column kind column k c p = rw (ne-eqb column c p) (go (eqb kind k))
     go true = refl
     go false = refl
 
--- Widening an extent changes no other cell, nor the table's length.
-pub widen-other : (table : List ℕ) (n kind group i : ℕ) → (kind < 16 → i ≡ cellOf n kind 67 → ⊥) → getD (widened table n kind group) i 0 ≡ getD table i 0
-unfolding widened widenedAt
-widen-other table n kind group i off = go (ltb kind 16) (ltb group 64) (ltb (getD table (cellOf n kind 67) 0) (group + 1)) refl
+-- Marking a kind changes no other cell, nor the table's length.
+pub mark-other : (table : List ℕ) (n kind i : ℕ) → (kind < 16 → i ≡ cellOf n kind 11 → ⊥) → getD (marked table n kind) i 0 ≡ getD table i 0
+unfolding marked
+mark-other table n kind i off = go (ltb kind 16) refl
   where
-    go : (a b d : Bool) → ltb kind 16 ≡ a
-        → getD (cond (a && b) (cond d (set table (cellOf n kind 67) ((group + 1) % 65536)) table) table) i 0 ≡ getD table i 0
-    go true true true e = getD-set-other table (cellOf n kind 67) i ((group + 1) % 65536) 0 (off (ltb-true kind 16 e))
-    go true true false e = refl
-    go true false d e = refl
-    go false b d e = refl
+    go : (a : Bool) → ltb kind 16 ≡ a → getD (cond a (set table (cellOf n kind 11) 1) table) i 0 ≡ getD table i 0
+    go true e = getD-set-other table (cellOf n kind 11) i 1 0 (off (ltb-true kind 16 e))
+    go false e = refl
 
-length-widened : (table : List ℕ) (n kind group : ℕ) → length (widened table n kind group) ≡ length table
-unfolding widened widenedAt
-length-widened table n kind group = go (ltb kind 16 && ltb group 64) (ltb (getD table (cellOf n kind 67) 0) (group + 1))
+length-marked : (table : List ℕ) (n kind : ℕ) → length (marked table n kind) ≡ length table
+unfolding marked
+length-marked table n kind = go (ltb kind 16)
   where
-    go : (a d : Bool) → length (cond a (cond d (set table (cellOf n kind 67) ((group + 1) % 65536)) table) table) ≡ length table
-    go true true = length-set table (cellOf n kind 67) ((group + 1) % 65536)
-    go true false = refl
-    go false d = refl
+    go : (a : Bool) → length (cond a (set table (cellOf n kind 11) 1) table) ≡ length table
+    go true = length-set table (cellOf n kind 11) 1
+    go false = refl
 
-widen-count : (table : List ℕ) (n kind group k c : ℕ) → c < 67 → getD (widened table n kind group) (cellOf n k c) 0 ≡ getD table (cellOf n k c) 0
-widen-count table n kind group k c q =
-    widen-other table n kind group (cellOf n k c) (λ p e. not-extent (cell-inj-kind n k kind c 67 (omega arith) (omega arith) e) e)
+mark-count : (table : List ℕ) (n kind k c : ℕ) → c < 11 → getD (marked table n kind) (cellOf n k c) 0 ≡ getD table (cellOf n k c) 0
+mark-count table n kind k c q =
+    mark-other table n kind (cellOf n k c) (λ p e. not-mark (cell-inj-kind n k kind c 11 (omega arith) (omega arith) e) e)
   where
-    not-extent : k ≡ kind → cellOf n k c ≡ cellOf n kind 67 → ⊥
-    not-extent f e = omega (arith, cell-inj-column n k c 67 (e ∙ ap (λ (x : ℕ). cellOf n x 67) (sym f)))
+    not-mark : k ≡ kind → cellOf n k c ≡ cellOf n kind 11 → ⊥
+    not-mark f e = omega (arith, cell-inj-column n k c 11 (e ∙ ap (λ (x : ℕ). cellOf n x 11) (sym f)))
 
-module _ {rows : ℕ} (table : List ℕ) (n : ℕ) (small : n < rows) (long : length table ≡ rows * 1097) (repeated : Bool) where
-  charge-in : (kind column k c : ℕ) → k < 16 → c < 67 → kind < 16 → column < 67
+module _ {rows : ℕ} (table : List ℕ) (n : ℕ) (small : n < rows) (long : length table ≡ rows * 210) (repeated : Bool) where
+  charge-in : (kind column k c : ℕ) → k < 16 → c < 11 → kind < 16 → column < 11
       → getD (chargeAt table (cellOf n kind column) repeated) (cellOf n k c) 0
       ≡ raised (getD table (cellOf n k c) 0) (landsIn kind column k c) repeated
   unfolding chargeAt raised
@@ -118,81 +115,121 @@ module _ {rows : ℕ} (table : List ℕ) (n : ℕ) (small : n < rows) (long : le
           (getD-set-other table (cellOf n kind column) (cellOf n k c) (bumped (getD table (cellOf n kind column) 0) repeated) 0
           (λ h. e (sym (cell-inj-kind n k kind c column (omega arith) (omega arith) h))))
 
-  charge-cell : (kind column k c : ℕ) → k < 16 → c < 67
+  charge-cell : (kind column k c : ℕ) → k < 16 → c < 11
       → getD (chargeCell table n kind column repeated) (cellOf n k c) 0
       ≡ raised (getD table (cellOf n k c) 0) (landsIn kind column k c) repeated
   unfolding chargeCell raised
-  charge-cell kind column k c p q = go (ltb kind 16) (ltb column 67) refl refl
+  charge-cell kind column k c p q = go (ltb kind 16) (ltb column 11) refl refl
     where
-      go : (a b : Bool) → ltb kind 16 ≡ a → ltb column 67 ≡ b
+      go : (a b : Bool) → ltb kind 16 ≡ a → ltb column 11 ≡ b
           → getD (cond (a && b) (chargeAt table (cellOf n kind column) repeated) table) (cellOf n k c) 0
           ≡ raised (getD table (cellOf n k c) 0) (landsIn kind column k c) repeated
-      go true true e f = charge-in kind column k c p q (ltb-true kind 16 e) (ltb-true column 67 f)
-      go true false e f = rw (lands-off-column kind column k c (λ h. absurd (omega (arith, ltb-false column 67 f)))) refl
+      go true true e f = charge-in kind column k c p q (ltb-true kind 16 e) (ltb-true column 11 f)
+      go true false e f = rw (lands-off-column kind column k c (λ h. absurd (omega (arith, ltb-false column 11 f)))) refl
       go false b e f = rw (lands-off-kind kind column k c (λ h. absurd (omega (arith, ltb-false kind 16 e)))) refl
 
-module _ {rows : ℕ} (table : List ℕ) (n : ℕ) (small : n < rows) (long : length table ≡ rows * 1097) (repeated : Bool) where
+module _ {rows : ℕ} (table : List ℕ) (n : ℕ) (small : n < rows) (long : length table ≡ rows * 210) (repeated : Bool) where
+  charge-column : (kind column k c : ℕ) → k < 16 → c < 11
+      → getD (chargeColumn table n kind column repeated) (cellOf n k c) 0
+      ≡ raised (getD table (cellOf n k c) 0) (landsIn kind column k c) repeated
+  unfolding chargeColumn
+  charge-column kind column k c p q =
+      charge-cell (marked table n kind) n small (length-marked table n kind ∙ long) repeated kind column k c p q
+      ∙ ap (λ (v : ℕ). raised v (landsIn kind column k c) repeated) (mark-count table n kind k c q)
+
   -- a charge raises the cell of the component's row in which it lands
-  pub charge-lands : (need : Need) (k c : ℕ) → k < 16 → c < 67
-      → getD (charge table n need repeated) (cellOf n k c) 0 ≡ raised (getD table (cellOf n k c) 0) (lands k c need) repeated
-  unfolding charge lands raised
-  charge-lands Nothing k c p q = refl
-  charge-lands (Read t) k c p q = charge-cell table n small long repeated t 64 k c p q
-  charge-lands (Write t) k c p q = charge-cell table n small long repeated t 65 k c p q
-  charge-lands (Access t) k c p q = charge-cell table n small long repeated t 66 k c p q
-  charge-lands (Disclose t g) k c p q =
-      charge-cell (widened table n t g) n small (length-widened table n t g ∙ long) repeated t g k c p q
-      ∙ ap (λ (v : ℕ). raised v (landsIn t g k c) repeated) (widen-count table n t g k c q)
+  pub charge-lands : (at : ℕ → ℕ) → Places table n at → (need : Need) (k c : ℕ) → k < 16 → c < 11
+      → getD (charge table n need repeated) (cellOf n k c) 0 ≡ raised (getD table (cellOf n k c) 0) (lands at k c need) repeated
+  unfolding charge lands raised Places
+  charge-lands at places Nothing k c p q = refl
+  charge-lands at places (Read t) k c p q = charge-column t 8 k c p q
+  charge-lands at places (Write t) k c p q = charge-column t 9 k c p q
+  charge-lands at places (Access t) k c p q = charge-column t 10 k c p q
+  charge-lands at places (Disclose t g) k c p q = rw (places g) (charge-column t (at g) k c p q)
 
--- outside the cells of a component's row from the tenth on
+-- outside the cells of a component's row from the nineteenth on
 unfoldable pub Outside : ℕ → ℕ → Type 0
-Outside n i = (i < n * 1097 + 9) ⊎ (n * 1097 + 1097 ≤ i)
+Outside n i = (i < n * 210 + 18) ⊎ (n * 210 + 210 ≤ i)
 
-outside-cell : (n kind column i : ℕ) → kind < 16 → column < 68 → Outside n i → i ≡ cellOf n kind column → ⊥
+outside-cell : (n kind column i : ℕ) → kind < 16 → column < 12 → Outside n i → i ≡ cellOf n kind column → ⊥
 unfolding Outside cellOf
 outside-cell n kind column i p q o e = ⊎-elim (λ h. omega arith) (λ h. omega arith) o
 
 module _ (n : ℕ) (repeated : Bool) (i : ℕ) (out : Outside n i) (table : List ℕ) where
   charge-cell-kept : (kind column : ℕ) → getD (chargeCell table n kind column repeated) i 0 ≡ getD table i 0
   unfolding chargeCell chargeAt
-  charge-cell-kept kind column = go (ltb kind 16) (ltb column 67) refl refl
+  charge-cell-kept kind column = go (ltb kind 16) (ltb column 11) refl refl
     where
-      go : (a b : Bool) → ltb kind 16 ≡ a → ltb column 67 ≡ b
+      go : (a b : Bool) → ltb kind 16 ≡ a → ltb column 11 ≡ b
           → getD (cond (a && b) (set table (cellOf n kind column) (bumped (getD table (cellOf n kind column) 0) repeated)) table) i 0
           ≡ getD table i 0
       go true true e f =
           getD-set-other table (cellOf n kind column) i (bumped (getD table (cellOf n kind column) 0) repeated) 0
-          (outside-cell n kind column i (ltb-true kind 16 e) (omega (arith, ltb-true column 67 f)) out)
+          (outside-cell n kind column i (ltb-true kind 16 e) (omega (arith, ltb-true column 11 f)) out)
       go true false e f = refl
       go false b e f = refl
 
 module _ (n : ℕ) (repeated : Bool) (i : ℕ) (out : Outside n i) (table : List ℕ) where
+  charge-column-kept : (kind column : ℕ) → getD (chargeColumn table n kind column repeated) i 0 ≡ getD table i 0
+  unfolding chargeColumn
+  charge-column-kept kind column =
+      charge-cell-kept n repeated i out (marked table n kind) kind column
+      ∙ mark-other table n kind i (λ p. outside-cell n kind 11 i p (omega arith) out)
+
   pub charge-kept : (need : Need) → getD (charge table n need repeated) i 0 ≡ getD table i 0
   unfolding charge
   charge-kept Nothing = refl
-  charge-kept (Read t) = charge-cell-kept n repeated i out table t 64
-  charge-kept (Write t) = charge-cell-kept n repeated i out table t 65
-  charge-kept (Access t) = charge-cell-kept n repeated i out table t 66
-  charge-kept (Disclose t g) =
-      charge-cell-kept n repeated i out (widened table n t g) t g
-      ∙ widen-other table n t g i (λ p. outside-cell n t 67 i p (omega arith) out)
+  charge-kept (Read t) = charge-column-kept t 8
+  charge-kept (Write t) = charge-column-kept t 9
+  charge-kept (Access t) = charge-column-kept t 10
+  charge-kept (Disclose t g) = charge-column-kept t (placeFrom table n g 0 (groupCount table n))
+
+-- tables that agree on a row's groups agree on the groups' columns
+pub same-places : (table table′ : List ℕ) (n : ℕ) → ((i : ℕ) → n * 210 ≤ i → i < n * 210 + 18 → getD table′ i 0 ≡ getD table i 0)
+    → (g place left : ℕ) → place + left ≤ 8 → placeFrom table′ n g place left ≡ placeFrom table n g place left
+unfolding placeFrom groupAt
+same-places table table′ n same g place zero h = refl
+same-places table table′ n same g place (suc left) h =
+    rw (same (n * 210 + (10 + place)) (omega arith) (omega arith), same-places table table′ n same g (suc place) left (omega arith))
+
+pub same-count : (table table′ : List ℕ) (n : ℕ) → ((i : ℕ) → n * 210 ≤ i → i < n * 210 + 18 → getD table′ i 0 ≡ getD table i 0)
+    → groupCount table′ n ≡ groupCount table n
+unfolding groupCount
+same-count table table′ n same = rw (same (n * 210 + 9) (omega arith) (omega arith))
+
+count-few : (table : List ℕ) (n : ℕ) → groupCount table n ≤ 8
+unfolding groupCount
+count-few table n = omega arith
+
+places-kept : (table : List ℕ) (n : ℕ) (need : Need) (repeated : Bool) (at : ℕ → ℕ) → Places table n at → Places (charge table n need repeated) n at
+unfolding Places
+places-kept table n need repeated at places g =
+    rw (same-count table (charge table n need repeated) n same)
+    (same-places table (charge table n need repeated) n same g 0 (groupCount table n) (omega (arith, count-few table n)) ∙ places g)
+  where
+    same : (i : ℕ) → n * 210 ≤ i → i < n * 210 + 18 → getD (charge table n need repeated) i 0 ≡ getD table i 0
+    same i p q = charge-kept n repeated i (unfold Outside in inl q) table need
 
 length-charge-cell : (table : List ℕ) (n kind column : ℕ) (repeated : Bool) → length (chargeCell table n kind column repeated) ≡ length table
 unfolding chargeCell chargeAt
-length-charge-cell table n kind column repeated = go (ltb kind 16 && ltb column 67)
+length-charge-cell table n kind column repeated = go (ltb kind 16 && ltb column 11)
   where
     go : (b : Bool) → length (cond b (set table (cellOf n kind column) (bumped (getD table (cellOf n kind column) 0) repeated)) table) ≡ length table
     go true = length-set table (cellOf n kind column) (bumped (getD table (cellOf n kind column) 0) repeated)
     go false = refl
 
+length-charge-column : (table : List ℕ) (n kind column : ℕ) (repeated : Bool) → length (chargeColumn table n kind column repeated) ≡ length table
+unfolding chargeColumn
+length-charge-column table n kind column repeated =
+    length-charge-cell (marked table n kind) n kind column repeated ∙ length-marked table n kind
+
 pub length-charge : (table : List ℕ) (n : ℕ) (need : Need) (repeated : Bool) → length (charge table n need repeated) ≡ length table
 unfolding charge
 length-charge table n Nothing repeated = refl
-length-charge table n (Read t) repeated = length-charge-cell table n t 64 repeated
-length-charge table n (Write t) repeated = length-charge-cell table n t 65 repeated
-length-charge table n (Access t) repeated = length-charge-cell table n t 66 repeated
-length-charge table n (Disclose t g) repeated =
-    length-charge-cell (widened table n t g) n t g repeated ∙ length-widened table n t g
+length-charge table n (Read t) repeated = length-charge-column table n t 8 repeated
+length-charge table n (Write t) repeated = length-charge-column table n t 9 repeated
+length-charge table n (Access t) repeated = length-charge-column table n t 10 repeated
+length-charge table n (Disclose t g) repeated = length-charge-column table n t (placeFrom table n g 0 (groupCount table n)) repeated
 
 -- All acts are of one component.
 pub data AllOf (n : ℕ) : List Act → Type 0 where
@@ -243,13 +280,13 @@ lands-in-few kind column k c = go (eqb kind k && eqb column c)
     go true = inr refl
     go false = inl refl
 
-pub lands-few : (k c : ℕ) (need : Need) → (lands k c need ≡ 0) ⊎ (lands k c need ≡ 1)
+pub lands-few : (at : ℕ → ℕ) (k c : ℕ) (need : Need) → (lands at k c need ≡ 0) ⊎ (lands at k c need ≡ 1)
 unfolding lands
-lands-few k c Nothing = inl refl
-lands-few k c (Read t) = lands-in-few t 64 k c
-lands-few k c (Write t) = lands-in-few t 65 k c
-lands-few k c (Access t) = lands-in-few t 66 k c
-lands-few k c (Disclose t g) = lands-in-few t g k c
+lands-few at k c Nothing = inl refl
+lands-few at k c (Read t) = lands-in-few t 8 k c
+lands-few at k c (Write t) = lands-in-few t 9 k c
+lands-few at k c (Access t) = lands-in-few t 10 k c
+lands-few at k c (Disclose t g) = lands-in-few t (at g) k c
 
 -- a cell that holds x, raised by a weight of 0 or 1, holds x joined with it
 raise : (x : Count) (more w : ℕ) (repeated : Bool) → (w ≡ 0) ⊎ (w ≡ 1) → Few x (suc more)
@@ -273,19 +310,20 @@ few-weigh unlimited more (suc w) true few h = tt
 few-weigh unlimited more w false few h = tt
 
 -- Acts of one component leave in each cell of its row what stood there joined with what they need.
-pub charged-count : {rows : ℕ} (n : ℕ) → n < rows → (k c : ℕ) → k < 16 → c < 67 → (table : List ℕ) → length table ≡ rows * 1097 → (x : Count)
-    → getD table (cellOf n k c) 0 ≡ countNumber x → {acts : List Act} → AllOf n acts → Few x (length acts)
-    → getD (charged table acts) (cellOf n k c) 0 ≡ countNumber (x ⊕ total (λ a. lands k c (needOf a)) acts)
+pub charged-count : {rows : ℕ} (n : ℕ) → n < rows → (at : ℕ → ℕ) (k c : ℕ) → k < 16 → c < 11 → (table : List ℕ) → length table ≡ rows * 210
+    → Places table n at → (x : Count) → getD table (cellOf n k c) 0 ≡ countNumber x → {acts : List Act} → AllOf n acts → Few x (length acts)
+    → getD (charged table acts) (cellOf n k c) 0 ≡ countNumber (x ⊕ total (λ a. lands at k c (needOf a)) acts)
 unfolding charged total
-charged-count n small k c p q table long x e of-none few = rw (join-nothing x) e
-charged-count n small k c p q table long x e (of-more {a = a} {rest = rest} f more) few =
+charged-count n small at k c p q table long places x e of-none few = rw (join-nothing x) e
+charged-count n small at k c p q table long places x e (of-more {a = a} {rest = rest} f more) few =
     ap (λ (m : ℕ). getD (charged (charge table m (needOf a) (a .repeated)) rest) (cellOf n k c) 0) f
-    ∙ charged-count n small k c p q (charge table n (needOf a) (a .repeated))
+    ∙ charged-count n small at k c p q (charge table n (needOf a) (a .repeated))
     (length-charge table n (needOf a) (a .repeated) ∙ long)
-    (x ⊕ weigh (a .repeated) (lands k c (needOf a)))
-    (charge-lands table n small long (a .repeated) (needOf a) k c p q
-    ∙ ap (λ (v : ℕ). raised v (lands k c (needOf a)) (a .repeated)) e
-    ∙ raise x (length rest) (lands k c (needOf a)) (a .repeated) (lands-few k c (needOf a)) few)
+    (places-kept table n (needOf a) (a .repeated) at places)
+    (x ⊕ weigh (a .repeated) (lands at k c (needOf a)))
+    (charge-lands table n small long (a .repeated) at places (needOf a) k c p q
+    ∙ ap (λ (v : ℕ). raised v (lands at k c (needOf a)) (a .repeated)) e
+    ∙ raise x (length rest) (lands at k c (needOf a)) (a .repeated) (lands-few at k c (needOf a)) few)
     more
-    (few-weigh x (length rest) (lands k c (needOf a)) (a .repeated) (lands-few k c (needOf a)) few)
-    ∙ ap countNumber (join-assoc x (weigh (a .repeated) (lands k c (needOf a))) (total (λ b. lands k c (needOf b)) rest))
+    (few-weigh x (length rest) (lands at k c (needOf a)) (a .repeated) (lands-few at k c (needOf a)) few)
+    ∙ ap countNumber (join-assoc x (weigh (a .repeated) (lands at k c (needOf a))) (total (λ b. lands at k c (needOf b)) rest))

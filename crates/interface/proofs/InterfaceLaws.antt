@@ -12,7 +12,7 @@ use lib.Seq.{drop-cons}
 use Rattle.inference.specs.Lists.{only, gather, rising}
 use Rattle.inference.specs.Counts.{fin, unlimited, isZero, countNumber}
 use Rattle.inference.specs.Interface.{Disclosure, Entry, isEmpty, holdsAny, bit, mapOf, disclosureBytes, listBytes, entryBytes, interfaceBytes}
-use Rattle.inference.specs.Rows.{pathAt, cell, countOf, isSet, extentAt, disclosuresAt, entryAt, rowEntries, tableEntries}
+use Rattle.inference.specs.Rows.{pathAt, cell, countOf, isSet, groupCount, groupAt, disclosuresAt, entryAt, usedKinds, rowEntries, tableEntries}
 use Rattle.interface.specs.Writes.{groupBytes, entryBytesAt}
 use Rattle.interface.proofs.WriteLaws.{partsFrom}
 
@@ -42,6 +42,15 @@ module _ {A B : Type 0} (h : A → List B) where
       go : (b : Bool) (l : List A) {m : List B} → gather h l ≡ m → gather h (cond b (f k ∷ l) l) ≡ cond b (h (f k)) [] ++ m
       go true l e = ap (λ (z : List B). h (f k) ++ z) e
       go false l e = e
+
+pub gather-chosen : {A B : Type 0} (p : A → Bool) (f : A → List B) (xs : List A) → gather f (only p xs) ≡ gather (λ x. cond (p x) (f x) []) xs
+unfolding gather only
+gather-chosen p f [] = refl
+gather-chosen p f (x ∷ xs) = go (p x) (only p xs) (gather-chosen p f xs)
+  where
+    go : (b : Bool) (l : List _) {m : List _} → gather f l ≡ m → gather f (cond b (x ∷ l) l) ≡ cond b (f x) [] ++ m
+    go true l e = ap (λ (z : List _). f x ++ z) e
+    go false l e = e
 
 gather-one : {A : Type 0} (xs : List A) → gather (λ x. x ∷ []) xs ≡ xs
 unfolding gather
@@ -93,43 +102,44 @@ count-number n = go (eqb n 65535) refl
     go true e = sym (eqb-true n 65535 e)
     go false e = refl
 
--- What a component discloses to a group.
+-- What a component discloses to the group at a place.
 module _ (table : List ℕ) (component kind : ℕ) where
   unfoldable pub disclosedTo : ℕ → List Disclosure
-  disclosedTo g = cond (isSet (cell table component kind g)) (record { group = g; count = countOf (cell table component kind g) } ∷ []) []
+  disclosedTo i = cond (isSet (cell table component kind i)) (record { group = groupAt table component i; count = countOf (cell table component kind i) } ∷ []) []
 
   unfoldable pub groupBytesAt : ℕ → List ℕ
-  groupBytesAt g = groupBytes g (cell table component kind g)
+  groupBytesAt i = groupBytes (groupAt table component i) (cell table component kind i)
 
-  pub disclosed-few : (g : ℕ) → length (disclosedTo g) ≤ 1
+  pub disclosed-few : (i : ℕ) → length (disclosedTo i) ≤ 1
   unfolding disclosedTo
-  disclosed-few g = cond-few (isSet (cell table component kind g)) (record { group = g; count = countOf (cell table component kind g) } ∷ []) 1 (omega arith)
+  disclosed-few i =
+      cond-few (isSet (cell table component kind i)) (record { group = groupAt table component i; count = countOf (cell table component kind i) } ∷ []) 1 (omega arith)
 
-  pub group-few : (g : ℕ) → length (groupBytesAt g) ≤ 3
+  pub group-few : (i : ℕ) → length (groupBytesAt i) ≤ 3
   unfolding groupBytesAt groupBytes disclosureBytes
-  group-few g = cond-few (isSet (cell table component kind g)) _ 3 (omega arith)
+  group-few i = cond-few (isSet (cell table component kind i)) _ 3 (omega arith)
 
   disclosed-parts : {B : Type 0} (h : Disclosure → List B) → gather h (disclosuresAt table component kind)
-      ≡ partsFrom (λ g. cond (isSet (cell table component kind g)) (h (record { group = g; count = countOf (cell table component kind g) })) [])
-      (extentAt table component kind) 0
+      ≡ partsFrom (λ i. cond (isSet (cell table component kind i)) (h (record { group = groupAt table component i; count = countOf (cell table component kind i) })) [])
+      (groupCount table component) 0
   unfolding disclosuresAt partsFrom
   disclosed-parts h =
-      let z : extentAt table component kind - 0 ≡ extentAt table component kind = omega arith in
+      let z : groupCount table component - 0 ≡ groupCount table component = omega arith in
       rw z (simp set-count at
-      (gather-only h (λ d. not (isZero (d .count))) (λ g. record { group = g; count = countOf (cell table component kind g) })
-      (rising 0 (extentAt table component kind))))
+      (gather-only h (λ d. not (isZero (d .count))) (λ i. record { group = groupAt table component i; count = countOf (cell table component kind i) })
+      (rising 0 (groupCount table component))))
 
-  pub disclosures-are : disclosuresAt table component kind ≡ partsFrom disclosedTo (extentAt table component kind) 0
+  pub disclosures-are : disclosuresAt table component kind ≡ partsFrom disclosedTo (groupCount table component) 0
   unfolding disclosedTo
   disclosures-are = sym (gather-one (disclosuresAt table component kind)) ∙ disclosed-parts (λ d. d ∷ [])
 
-  pub group-bytes-are : gather disclosureBytes (disclosuresAt table component kind) ≡ partsFrom groupBytesAt (extentAt table component kind) 0
+  pub group-bytes-are : gather disclosureBytes (disclosuresAt table component kind) ≡ partsFrom groupBytesAt (groupCount table component) 0
   unfolding groupBytesAt groupBytes
   group-bytes-are = disclosed-parts disclosureBytes
 
-  pub disclosures-few : length (disclosuresAt table component kind) ≤ 64
-  unfolding extentAt
-  disclosures-few = rw disclosures-are (omega (arith, parts-few disclosedTo 1 (min (cell table component kind 67) 64) disclosed-few))
+  pub disclosures-few : length (disclosuresAt table component kind) ≤ 8
+  unfolding groupCount
+  disclosures-few = rw disclosures-are (omega (arith, parts-few disclosedTo 1 (min (getD table (component * 210 + 9) 0) 8) disclosed-few))
 
 -- A disclose list is as long as its groups make it.
 pub list-bytes : (ds : List Disclosure) → (length ds ≡ 0 → ⊥) → listBytes ds ≡ length ds ∷ gather disclosureBytes ds
@@ -155,7 +165,7 @@ unfolding listBytes
 list-most [] = omega arith
 list-most (d ∷ ds) = omega (arith, three-each (d ∷ ds))
 
-list-few : (ds : List Disclosure) → length ds ≤ 64 → length (listBytes ds) ≤ 193
+list-few : (ds : List Disclosure) → length ds ≤ 8 → length (listBytes ds) ≤ 25
 list-few ds h = omega (arith, list-most ds)
 
 -- Entries: their map is 0 where they hold no permission.
@@ -188,8 +198,8 @@ unfolding pathAt
 path-few table component =
     omega (
       arith,
-      length-take (getD table (component * 1097) 0) (take 8 (drop (component * 1097 + 1) table)),
-      length-take 8 (drop (component * 1097 + 1) table),
+      length-take (getD table (component * 210) 0) (take 8 (drop (component * 210 + 1) table)),
+      length-take 8 (drop (component * 210 + 1) table),
     )
 
 pub entry-length : (e : Entry) → length (entryBytes e) ≡ 3 + (length (e .component .path) + length (listBytes (e .disclose)))
@@ -197,11 +207,13 @@ unfolding entryBytes
 entry-length e = omega (arith, length-append (e .component .path) (mapOf e ∷ listBytes (e .disclose)))
 
 module _ (table : List ℕ) (component : ℕ) where
-  pub entry-few : (kind : ℕ) → length (entryBytesAt table component kind) ≤ 204
+  pub entry-few : (kind : ℕ) → length (entryBytesAt table component kind) ≤ 36
   unfolding entryBytesAt entryAt
-  entry-few kind = cond-few (holdsAny (entryAt table component kind)) (entryBytes (entryAt table component kind)) 204 few
+  entry-few kind =
+      cond-few (isSet (cell table component kind 11)) (cond (holdsAny (entryAt table component kind)) (entryBytes (entryAt table component kind)) []) 36
+      (cond-few (holdsAny (entryAt table component kind)) (entryBytes (entryAt table component kind)) 36 few)
     where
-      few : length (entryBytes (entryAt table component kind)) ≤ 204
+      few : length (entryBytes (entryAt table component kind)) ≤ 36
       few = omega (
         arith,
         entry-length (entryAt table component kind),
@@ -212,10 +224,13 @@ module _ (table : List ℕ) (component : ℕ) where
   -- A component's entries, kind by kind.
   pub row-bytes-are : interfaceBytes (rowEntries table component) ≡ partsFrom (entryBytesAt table component) 16 0
   unfolding interfaceBytes rowEntries partsFrom entryBytesAt
-  row-bytes-are = gather-only entryBytes holdsAny (entryAt table component) (rising 0 16)
+  row-bytes-are =
+      gather-only entryBytes holdsAny (entryAt table component) (usedKinds table component)
+      ∙ unfold usedKinds in gather-chosen (λ k. isSet (cell table component k 11))
+      (λ k. cond (holdsAny (entryAt table component k)) (entryBytes (entryAt table component k)) []) (rising 0 16)
 
-  pub row-few : length (interfaceBytes (rowEntries table component)) ≤ 3264
-  row-few = rw row-bytes-are (parts-few (entryBytesAt table component) 204 16 entry-few)
+  pub row-few : length (interfaceBytes (rowEntries table component)) ≤ 576
+  row-few = rw row-bytes-are (parts-few (entryBytesAt table component) 36 16 entry-few)
 
 -- The interface, component by component.
 abbrev pub rowBytesAt : List ℕ → ℕ → List ℕ

@@ -5,18 +5,18 @@ use mathlib.Core.List.{List, [], _∷_}
 use mathlib.Core.Path.{_≡_, refl, sym, ap, _∙_}
 use native.Mathlib.Nat.{mod-mod}
 use native.Mathlib.Omega.{arith}
-use borrow.Author.Tests.{eq-eqb, ne-eqb}
+use borrow.Author.Tests.{eq-eqb, ne-eqb, not-true, not-false}
 use borrow.Author.Needs.{needs}
 use mir.Syntax.{w64}
 use mir.Val.{Fits}
-use lib.Dec.{eqb·suc-zero}
+use lib.Dec.{eqb, eqb·suc-zero}
 use lib.ListN.{length, take, drop, getD, set, length-take, take-append-drop}
 use lib.Seq.{take-append-seam}
 use Rattle.reading.specs.Told.{pathOf}
 use Rattle.reading.specs.declared.Path.{Path}
 use Rattle.inference.specs.Lists.{gather}
 use Rattle.inference.specs.Interface.{Disclosure, isEmpty, bit, mapOf, disclosureBytes, listBytes, entryBytes, interfaceBytes}
-use Rattle.inference.specs.Rows.{pathAt, cellOf, cell, isSet, extentAt, disclosuresAt, entryAt, rowEntries, tableEntries}
+use Rattle.inference.specs.Rows.{pathAt, cellOf, cell, isSet, groupCount, groupAt, disclosuresAt, entryAt, rowEntries, tableEntries}
 use Rattle.interface.specs.Writes.{storeBytes, Stored, groupBytes, entryBytesAt}
 use Rattle.reading.proofs.Tables.{unset}
 use Rattle.interface.proofs.WriteLaws.{
@@ -61,15 +61,10 @@ pub cell-is : {r : ℕ} (t : List ℕ) (c k j at : ℕ) → at ≡ cellOf c k j 
 unfolding cell
 cell-is t c k j at e f = rw (← e) f
 
--- The extent of a component and a kind.
-module _ (t : List ℕ) (c k x : ℕ) (is : x ≡ cell t c k 67) where
-  pub extent-below : x < 64 → x ≡ extentAt t c k
-  unfolding extentAt
-  extent-below h = omega (arith, is)
-
-  pub extent-full : 64 ≤ x → 64 ≡ extentAt t c k
-  unfolding extentAt
-  extent-full h = omega (arith, is)
+-- A kind that is marked.
+pub used-so : (t : List ℕ) (c k x : ℕ) → x ≡ cell t c k 11 → not (eqb x 0) ≡ isSet (cell t c k 11)
+unfolding isSet
+used-so t c k x e = rw e
 
 -- A flag of a count.
 pub bit-unset : (n v : ℕ) → n ≡ 0 → 0 ≡ bit (isSet n) v
@@ -94,7 +89,7 @@ module _ (t : List ℕ) (c k : ℕ) where
       go true d = refl
       go false d = refl
 
-  pub groups-last : {m n g : ℕ} → Counting (disclosedTo t c k) 1 m n g → m ≤ g → m ≡ extentAt t c k → n ≡ length (disclosuresAt t c k)
+  pub groups-last : {m n g : ℕ} → Counting (disclosedTo t c k) 1 m n g → m ≤ g → m ≡ groupCount t c → n ≡ length (disclosuresAt t c k)
   groups-last w h e = rw (disclosures-are t c k, ← e) (count-last w h)
 
 -- The permission map.
@@ -103,11 +98,18 @@ unfolding isEmpty isSet
 not-empty [] = refl
 not-empty (x ∷ l) = rw (eqb·suc-zero (length l))
 
-pub map-is : (t : List ℕ) (c k x y z n a b d e : ℕ) → x ≡ cell t c k 64 → a ≡ bit (isSet x) 1 → y ≡ cell t c k 65 → b ≡ bit (isSet y) 2
-    → z ≡ cell t c k 66 → d ≡ bit (isSet z) 4 → n ≡ length (disclosuresAt t c k) → e ≡ bit (isSet n) 16
+pub map-is : (t : List ℕ) (c k x y z n a b d e : ℕ) → x ≡ cell t c k 8 → a ≡ bit (isSet x) 1 → y ≡ cell t c k 9 → b ≡ bit (isSet y) 2
+    → z ≡ cell t c k 10 → d ≡ bit (isSet z) 4 → n ≡ length (disclosuresAt t c k) → e ≡ bit (isSet n) 16
     → a + (b + (d + e)) ≡ mapOf (entryAt t c k)
 unfolding mapOf entryAt
 map-is t c k x y z n a b d e p p′ q q′ s s′ u u′ = rw (p′, q′, s′, u′, p, q, s, u, not-empty)
+
+-- The length of a list.
+pub list-len-none : (n : ℕ) → n ≡ 0 → (ds : List Disclosure) → n ≡ length ds → 0 ≡ length (listBytes ds)
+list-len-none n h ds e = rw (no-list ds (sym e ∙ h))
+
+pub list-len-some : (n : ℕ) → (n ≡ 0 → ⊥) → (ds : List Disclosure) → n ≡ length ds → 1 + 3 * n ≡ length (listBytes ds)
+list-len-some n h ds e = rw (list-length ds (λ q. h (e ∙ q)), e)
 
 -- The lengths of an entry's parts and of an entry.
 module _ (t : List ℕ) (c k : ℕ) where
@@ -117,49 +119,53 @@ module _ (t : List ℕ) (c k : ℕ) where
   pub path-size-few : {r : ℕ} (p : Path) → pathOf p ≡ pathAt t c → r ≡ length (pathOf p) → r ≤ 8
   path-size-few p e h = rw (h, e) (path-few t c)
 
-  pub list-len-none : (n : ℕ) → n ≡ length (disclosuresAt t c k) → n ≡ 0 → 0 ≡ length (listBytes (disclosuresAt t c k))
-  list-len-none n e h = rw (no-list (disclosuresAt t c k) (sym e ∙ h))
+  -- A kind that is marked or not.
+  module _ (u : Bool) (is : u ≡ isSet (cell t c k 11)) where
+    pub unused : not u ≡ true → entryBytesAt t c k ≡ []
+    unfolding entryBytesAt
+    unused h = rw (← is, not-true u h)
 
-  pub list-len-some : (n : ℕ) → n ≡ length (disclosuresAt t c k) → (n ≡ 0 → ⊥) → 1 + 3 * n ≡ length (listBytes (disclosuresAt t c k))
-  list-len-some n e h = rw (list-length (disclosuresAt t c k) (λ q. h (e ∙ q)), e)
+    pub entry-none : (m : ℕ) → not u ≡ false → m ≡ mapOf (entryAt t c k) → m ≡ 0 → entryBytesAt t c k ≡ []
+    unfolding entryBytesAt
+    entry-none m i e h = rw (← is, not-false u i, map-none (entryAt t c k) (sym e ∙ h))
 
-  pub entry-none : (m : ℕ) → m ≡ mapOf (entryAt t c k) → m ≡ 0 → entryBytesAt t c k ≡ []
-  unfolding entryBytesAt
-  entry-none m e h = rw (map-none (entryAt t c k) (sym e ∙ h))
+    pub entry-some : (m : ℕ) → not u ≡ false → m ≡ mapOf (entryAt t c k) → (m ≡ 0 → ⊥) → entryBytesAt t c k ≡ entryBytes (entryAt t c k)
+    unfolding entryBytesAt
+    entry-some m i e h = rw (← is, not-false u i, map-some (entryAt t c k) (λ q. h (e ∙ q)))
 
-  pub entry-some : (m : ℕ) → m ≡ mapOf (entryAt t c k) → (m ≡ 0 → ⊥) → entryBytesAt t c k ≡ entryBytes (entryAt t c k)
-  unfolding entryBytesAt
-  entry-some m e h = rw (map-some (entryAt t c k) (λ q. h (e ∙ q)))
+    pub entry-len-unused : not u ≡ true → 0 ≡ length (entryBytesAt t c k)
+    entry-len-unused h = rw (unused h)
 
-  pub entry-len-none : (m : ℕ) → m ≡ mapOf (entryAt t c k) → m ≡ 0 → 0 ≡ length (entryBytesAt t c k)
-  entry-len-none m e h = rw (entry-none m e h)
+    pub entry-len-none : (m : ℕ) → not u ≡ false → m ≡ mapOf (entryAt t c k) → m ≡ 0 → 0 ≡ length (entryBytesAt t c k)
+    entry-len-none m i e h = rw (entry-none m i e h)
 
-  pub entry-len-some : (m p l : ℕ) → m ≡ mapOf (entryAt t c k) → (m ≡ 0 → ⊥) → p ≡ length (pathAt t c)
-      → l ≡ length (listBytes (disclosuresAt t c k)) → 3 + (p + l) ≡ length (entryBytesAt t c k)
-  unfolding entryAt
-  entry-len-some m p l e h f g = rw (entry-some m e h, entry-length (entryAt t c k), f, g)
+    pub entry-len-some : (m n p l : ℕ) → not u ≡ false → m ≡ mapOf (entryAt t c k) → (m ≡ 0 → ⊥) → p ≡ length (pathAt t c)
+        → n ≡ length (disclosuresAt t c k) → ((ds : List Disclosure) → n ≡ length ds → l ≡ length (listBytes ds))
+        → 3 + (p + l) ≡ length (entryBytesAt t c k)
+    unfolding entryAt
+    entry-len-some m n p l i e h f d g = rw (entry-some m i e h, entry-length (entryAt t c k), f, g (disclosuresAt t c k) d)
 
 -- The length of a component's entries.
 module _ (t : List ℕ) (c : ℕ) where
-  pub row-first : Counting (entryBytesAt t c) 204 16 0 0
-  row-first = count-first (entryBytesAt t c) 204 16 (entry-few t c)
+  pub row-first : Counting (entryBytesAt t c) 36 16 0 0
+  row-first = count-first (entryBytesAt t c) 36 16 (entry-few t c)
 
-  pub row-fits : {v n k : ℕ} → Counting (entryBytesAt t c) 204 16 n k → k < 16 → v ≡ length (entryBytesAt t c k) → Fits w64 (n + v)
+  pub row-fits : {v n k : ℕ} → Counting (entryBytesAt t c) 36 16 n k → k < 16 → v ≡ length (entryBytesAt t c k) → Fits w64 (n + v)
   row-fits {v} w h e = count-fits w v h e (omega arith)
 
-  pub row-last : {n k : ℕ} → Counting (entryBytesAt t c) 204 16 n k → 16 ≤ k → n ≡ length (interfaceBytes (rowEntries t c))
+  pub row-last : {n k : ℕ} → Counting (entryBytesAt t c) 36 16 n k → 16 ≤ k → n ≡ length (interfaceBytes (rowEntries t c))
   row-last w h = rw (row-bytes-are t c) (count-last w h)
 
 -- The length of the interface.
 module _ (t : List ℕ) (m : ℕ) where
-  pub table-first : Counting (rowBytesAt t) 3264 m 0 0
-  table-first = count-first (rowBytesAt t) 3264 m (row-few t)
+  pub table-first : Counting (rowBytesAt t) 576 m 0 0
+  table-first = count-first (rowBytesAt t) 576 m (row-few t)
 
-  pub table-fits : {v n c : ℕ} → Counting (rowBytesAt t) 3264 m n c → c < m → v ≡ length (interfaceBytes (rowEntries t c)) → m ≤ 32
+  pub table-fits : {v n c : ℕ} → Counting (rowBytesAt t) 576 m n c → c < m → v ≡ length (interfaceBytes (rowEntries t c)) → m ≤ 32
       → Fits w64 (n + v)
   table-fits {v} w h e l = count-fits w v h e (omega arith)
 
-  pub table-last : {n c : ℕ} → Counting (rowBytesAt t) 3264 m n c → m ≤ c → n ≡ length (interfaceBytes (tableEntries t m))
+  pub table-last : {n c : ℕ} → Counting (rowBytesAt t) 576 m n c → m ≤ c → n ≡ length (interfaceBytes (tableEntries t m))
   table-last w h = rw (table-bytes-are t m) (count-last w h)
 
 -- Bytes stored, one, and those of a path.
@@ -206,12 +212,12 @@ module _ (o : List ℕ) (at : ℕ) where
     pub groups-written-first : (e : ℕ) → Writing (groupBytesAt t c k) 3 e o at o at 0
     groups-written-first e = write-first (groupBytesAt t c k) 3 e o at (group-few t c k)
 
-    pub groups-written-next : {o₁ o₂ : List ℕ} {e m r : ℕ} (g n : ℕ) → Writing (groupBytesAt t c k) 3 e o at o₁ m g → g < e → n ≡ cell t c k g
-        → Stored o₁ o₂ m (groupBytes g n) r → Writing (groupBytesAt t c k) 3 e o at o₂ r (g + 1)
+    pub groups-written-next : {o₁ o₂ : List ℕ} {e m r : ℕ} (i g n : ℕ) → Writing (groupBytesAt t c k) 3 e o at o₁ m i → i < e → g ≡ groupAt t c i
+        → n ≡ cell t c k i → Stored o₁ o₂ m (groupBytes g n) r → Writing (groupBytesAt t c k) 3 e o at o₂ r (i + 1)
     unfolding groupBytesAt
-    groups-written-next g n w h e s = write-next w h (rw e at s)
+    groups-written-next i g n w h f e s = write-next w h (rw (f, e) at s)
 
-    pub groups-written : {o₁ : List ℕ} {e m g : ℕ} → Writing (groupBytesAt t c k) 3 e o at o₁ m g → e ≤ g → e ≡ extentAt t c k
+    pub groups-written : {o₁ : List ℕ} {e m g : ℕ} → Writing (groupBytesAt t c k) 3 e o at o₁ m g → e ≤ g → e ≡ groupCount t c
         → Stored o o₁ at (gather disclosureBytes (disclosuresAt t c k)) m
     groups-written w h e = rw (group-bytes-are t c k, ← e) (write-last w h)
 
@@ -223,29 +229,33 @@ module _ (o : List ℕ) (at : ℕ) where
     list-written n e h s u = rw (list-bytes (disclosuresAt t c k) (λ q. h (e ∙ q)), ← e) (stored-more s u)
 
     -- An entry.
-    pub entry-unwritten : (m : ℕ) → m ≡ mapOf (entryAt t c k) → m ≡ 0 → Stored o o at (entryBytesAt t c k) at
-    entry-unwritten m e h = rw (entry-none t c k m e h) (stored-none o at)
+    module _ (u : Bool) (is : u ≡ isSet (cell t c k 11)) where
+      pub unused-unwritten : not u ≡ true → Stored o o at (entryBytesAt t c k) at
+      unused-unwritten h = rw (unused t c k u is h) (stored-none o at)
 
-    pub entry-written : {o₁ o₂ o₃ o₄ : List ℕ} {a b d r : ℕ} (m : ℕ) → m ≡ mapOf (entryAt t c k) → (m ≡ 0 → ⊥) → Stored o o₁ at (k ∷ []) a
-        → Stored o₁ o₂ a (length (pathAt t c) ∷ pathAt t c) b → Stored o₂ o₃ b (m ∷ []) d
-        → Stored o₃ o₄ d (listBytes (disclosuresAt t c k)) r → Stored o o₄ at (entryBytesAt t c k) r
-    unfolding entryBytes entryAt
-    entry-written m e h s u v w = rw (entry-some t c k m e h) (rw e at (stored-more s (stored-more u (stored-more v w))))
+      pub entry-unwritten : (m : ℕ) → not u ≡ false → m ≡ mapOf (entryAt t c k) → m ≡ 0 → Stored o o at (entryBytesAt t c k) at
+      entry-unwritten m i e h = rw (entry-none t c k u is m i e h) (stored-none o at)
+
+      pub entry-written : {o₁ o₂ o₃ o₄ : List ℕ} {a b d r : ℕ} (m : ℕ) → not u ≡ false → m ≡ mapOf (entryAt t c k) → (m ≡ 0 → ⊥)
+          → Stored o o₁ at (k ∷ []) a → Stored o₁ o₂ a (length (pathAt t c) ∷ pathAt t c) b → Stored o₂ o₃ b (m ∷ []) d
+          → Stored o₃ o₄ d (listBytes (disclosuresAt t c k)) r → Stored o o₄ at (entryBytesAt t c k) r
+      unfolding entryBytes entryAt
+      entry-written m i e h s v w x = rw (entry-some t c k u is m i e h) (rw e at (stored-more s (stored-more v (stored-more w x))))
 
   -- A component's entries, and the interface.
   module _ (t : List ℕ) (c : ℕ) where
-    pub row-written-first : Writing (entryBytesAt t c) 204 16 o at o at 0
-    row-written-first = write-first (entryBytesAt t c) 204 16 o at (entry-few t c)
+    pub row-written-first : Writing (entryBytesAt t c) 36 16 o at o at 0
+    row-written-first = write-first (entryBytesAt t c) 36 16 o at (entry-few t c)
 
-    pub row-written : {o₁ : List ℕ} {m k : ℕ} → Writing (entryBytesAt t c) 204 16 o at o₁ m k → 16 ≤ k
+    pub row-written : {o₁ : List ℕ} {m k : ℕ} → Writing (entryBytesAt t c) 36 16 o at o₁ m k → 16 ≤ k
         → Stored o o₁ at (interfaceBytes (rowEntries t c)) m
     row-written w h = rw (row-bytes-are t c) (write-last w h)
 
   module _ (t : List ℕ) (n : ℕ) where
-    pub table-written-first : Writing (rowBytesAt t) 3264 n o at o at 0
-    table-written-first = write-first (rowBytesAt t) 3264 n o at (row-few t)
+    pub table-written-first : Writing (rowBytesAt t) 576 n o at o at 0
+    table-written-first = write-first (rowBytesAt t) 576 n o at (row-few t)
 
-    pub table-written : {o₁ : List ℕ} {m c : ℕ} → Writing (rowBytesAt t) 3264 n o at o₁ m c → n ≤ c
+    pub table-written : {o₁ : List ℕ} {m c : ℕ} → Writing (rowBytesAt t) 576 n o at o₁ m c → n ≤ c
         → Stored o o₁ at (interfaceBytes (tableEntries t n)) m
     table-written w h = rw (table-bytes-are t n) (write-last w h)
 
@@ -253,8 +263,7 @@ pub ruleset interface-steps = (
   needs,
   unset,
   cell-is,
-  extent-below,
-  extent-full,
+  used-so,
   bit-unset,
   bit-set,
   groups-first,
@@ -265,6 +274,7 @@ pub ruleset interface-steps = (
   path-size-few,
   list-len-none,
   list-len-some,
+  entry-len-unused,
   entry-len-none,
   entry-len-some,
   row-first,
@@ -285,6 +295,7 @@ pub ruleset interface-steps = (
   groups-written,
   list-unwritten,
   list-written,
+  unused-unwritten,
   entry-unwritten,
   entry-written,
   row-written-first,

@@ -1,6 +1,8 @@
 -- The lemmas that the proofs of the functions share, and laws of the table and of the interface.
+pub mod PathLaws
+pub mod GroupLaws
 pub mod CellLaws
-pub mod ExtentLaws
+pub mod MarkLaws
 pub mod RowLaws
 pub mod TableLaws
 pub mod StoreLaws

@@ -1,25 +1,26 @@
 -- A component's row, after its path was stored and its acts were charged, holds the component's entries: each cell is the
 -- count of the acts that land in it, and the entry of a kind is read off the cells as the definition reads it off the acts.
-use Prim.Native.Nat.{ℕ, zero, suc, _+_, _<_, _≤_, min}
+use Prim.Native.Nat.{ℕ, zero, suc, _+_, _-_, _<_, _≤_}
 use mathlib.Core.Path.{_≡_, refl, sym, ap, ap₂, _∙_}
 use mathlib.Core.List.{List, [], _∷_, map}
 use mathlib.Core.Bool.{Bool, true, false, cond, not, _&&_, _||_}
-use mathlib.Core.Logic.{_⊎_}
+use mathlib.Core.Logic.{_⊎_, ⊎-elim}
 use native.Mathlib.Omega.{arith}
-use lib.ListN.{length}
-use lib.Dec.{eqb}
+use lib.ListN.{length, getD}
+use lib.Dec.{eqb, eqb·suc-zero}
 use borrow.Author.Tests.{eq-eqb, ne-eqb}
 use Rattle.needs.specs.declared.Need.{Need}
 use Rattle.needs.specs.declared.Need.the-variants.{Nothing, Read, Write, Access, Disclose}
-use Rattle.needs.proofs.NeedLaws.{NeedRange}
 use Rattle.inference.specs.Lists.{any, only, rising}
 use Rattle.inference.specs.Counts.{Count, fin, unlimited, _⊕_, repeatedly, countNumber, isZero}
 use Rattle.inference.specs.Acts.{Act, Component}
 use Rattle.inference.specs.Needs.{needOf, isRead, isWrite, isAccess, disclosures, weigh, total, disclosed}
-use Rattle.inference.specs.Interface.{disclosuresOf, entryOf, holdsAny}
-use Rattle.inference.specs.Rows.{cell, countOf, isSet, extentAt, disclosuresAt, entryAt, pathAt, stored, rowEntries}
+use Rattle.inference.specs.Interface.{Disclosure, disclosuresOf, entryOf, isEmpty, holdsAny}
+use Rattle.inference.specs.Rows.{Orderly, cell, countOf, isSet, groupCount, groupAt, risingGroups, disclosuresAt, entryAt, pathAt, usedKinds, rowEntries}
 use Rattle.inference.proofs.CountLaws.{join-comm}
-use Rattle.inference.proofs.NeedLaws.{act-range}
+use Rattle.reading.specs.Forms.{member}
+use Rattle.interface.proofs.PathLaws.{Inside}
+use Rattle.interface.proofs.GroupLaws.{group-low, group-rises, groups-few, placeIn, place-column, place-is}
 use Rattle.interface.proofs.CellLaws.{landsIn, lands, lands-off-column, lands-few, Few, few-weigh}
 
 -- which needs land in which column
@@ -31,37 +32,46 @@ lands-on t column k = rw (eq-eqb column column refl) (go (eqb t k))
     go true = refl
     go false = refl
 
-lands-read : (k : ℕ) (n : Need) → NeedRange n → lands k 64 n ≡ cond (isRead k n) 1 0
-unfolding lands isRead NeedRange
-lands-read k Nothing h = refl
-lands-read k (Read t) h = lands-on t 64 k
-lands-read k (Write t) h = lands-off-column t 65 k 64 (λ e. omega arith)
-lands-read k (Access t) h = lands-off-column t 66 k 64 (λ e. omega arith)
-lands-read k (Disclose t g) h = lands-off-column t g k 64 (λ e. omega (arith, h .1))
+-- Columns of groups: 7 at most, or 11.
+unfoldable pub Columns : (ℕ → ℕ) → Type 0
+Columns at = (g : ℕ) → (at g < 8) ⊎ (at g ≡ 11)
 
-lands-write : (k : ℕ) (n : Need) → NeedRange n → lands k 65 n ≡ cond (isWrite k n) 1 0
-unfolding lands isWrite NeedRange
-lands-write k Nothing h = refl
-lands-write k (Read t) h = lands-off-column t 64 k 65 (λ e. omega arith)
-lands-write k (Write t) h = lands-on t 65 k
-lands-write k (Access t) h = lands-off-column t 66 k 65 (λ e. omega arith)
-lands-write k (Disclose t g) h = lands-off-column t g k 65 (λ e. omega (arith, h .1))
+off-column : (at : ℕ → ℕ) → Columns at → (t g k c : ℕ) → 8 ≤ c → c < 11 → landsIn t (at g) k c ≡ 0
+unfolding Columns
+off-column at cols t g k c p q = lands-off-column t (at g) k c (λ e. ⊎-elim (λ h. omega arith) (λ h. omega arith) (cols g))
 
-lands-access : (k : ℕ) (n : Need) → NeedRange n → lands k 66 n ≡ cond (isAccess k n) 1 0
-unfolding lands isAccess NeedRange
-lands-access k Nothing h = refl
-lands-access k (Read t) h = lands-off-column t 64 k 66 (λ e. omega arith)
-lands-access k (Write t) h = lands-off-column t 65 k 66 (λ e. omega arith)
-lands-access k (Access t) h = lands-on t 66 k
-lands-access k (Disclose t g) h = lands-off-column t g k 66 (λ e. omega (arith, h .1))
+module _ (at : ℕ → ℕ) (cols : Columns at) (k : ℕ) where
+  lands-read : (n : Need) → lands at k 8 n ≡ cond (isRead k n) 1 0
+  unfolding lands isRead
+  lands-read Nothing = refl
+  lands-read (Read t) = lands-on t 8 k
+  lands-read (Write t) = lands-off-column t 9 k 8 (λ e. omega arith)
+  lands-read (Access t) = lands-off-column t 10 k 8 (λ e. omega arith)
+  lands-read (Disclose t g) = off-column at cols t g k 8 (omega arith) (omega arith)
 
-lands-disclose : (k h : ℕ) → h < 64 → (n : Need) → lands k h n ≡ disclosures k h n
-unfolding lands disclosures landsIn
-lands-disclose k h p Nothing = refl
-lands-disclose k h p (Read t) = lands-off-column t 64 k h (λ e. omega arith)
-lands-disclose k h p (Write t) = lands-off-column t 65 k h (λ e. omega arith)
-lands-disclose k h p (Access t) = lands-off-column t 66 k h (λ e. omega arith)
-lands-disclose k h p (Disclose t g) = refl
+  lands-write : (n : Need) → lands at k 9 n ≡ cond (isWrite k n) 1 0
+  unfolding lands isWrite
+  lands-write Nothing = refl
+  lands-write (Read t) = lands-off-column t 8 k 9 (λ e. omega arith)
+  lands-write (Write t) = lands-on t 9 k
+  lands-write (Access t) = lands-off-column t 10 k 9 (λ e. omega arith)
+  lands-write (Disclose t g) = off-column at cols t g k 9 (omega arith) (omega arith)
+
+  lands-access : (n : Need) → lands at k 10 n ≡ cond (isAccess k n) 1 0
+  unfolding lands isAccess
+  lands-access Nothing = refl
+  lands-access (Read t) = lands-off-column t 8 k 10 (λ e. omega arith)
+  lands-access (Write t) = lands-off-column t 9 k 10 (λ e. omega arith)
+  lands-access (Access t) = lands-on t 10 k
+  lands-access (Disclose t g) = off-column at cols t g k 10 (omega arith) (omega arith)
+
+  lands-disclose : (i h : ℕ) → i < 8 → ((g : ℕ) → eqb (at g) i ≡ eqb g h) → (n : Need) → lands at k i n ≡ disclosures k h n
+  unfolding lands disclosures landsIn
+  lands-disclose i h p same Nothing = refl
+  lands-disclose i h p same (Read t) = unfold landsIn in lands-off-column t 8 k i (λ e. omega arith)
+  lands-disclose i h p same (Write t) = unfold landsIn in lands-off-column t 9 k i (λ e. omega arith)
+  lands-disclose i h p same (Access t) = unfold landsIn in lands-off-column t 10 k i (λ e. omega arith)
+  lands-disclose i h p same (Disclose t g) = rw (same g)
 
 total-cong : (v w : Act → ℕ) → ((a : Act) → v a ≡ w a) → (acts : List Act) → total v acts ≡ total w acts
 unfolding total
@@ -119,60 +129,135 @@ none-counted : not (isZero (countOf 0)) ≡ false
 unfolding isZero countOf
 none-counted = refl
 
--- what is not chosen past a place can be left out
-only-shorter : {A : Type 0} (q : A → Bool) (f : ℕ → A) (e n start : ℕ) → e ≤ n → ((i : ℕ) → start + e ≤ i → i < start + n → q (f i) ≡ false)
-    → only q (map f (rising start e)) ≡ only q (map f (rising start n))
+no-count : not (isZero (fin 0)) ≡ false
+unfolding isZero
+no-count = refl
+
+unset : (n : ℕ) → isSet n ≡ false → n ≡ 0
+unfolding isSet
+unset zero e = refl
+unset (suc n) e = let f = rw (eqb·suc-zero n) at e in let z : _≡_ {A = ℕ} 0 1 = cc in absurd (omega arith)
+
+-- what is not wanted need not be chosen
+only-chosen : {A : Type 0} (p : ℕ → Bool) (q : A → Bool) (f : ℕ → A) (start n : ℕ)
+    → ((i : ℕ) → start ≤ i → i < start + n → p i ≡ false → q (f i) ≡ false)
+    → only q (map f (only p (rising start n))) ≡ only q (map f (rising start n))
 unfolding only rising
-only-shorter q f zero zero start h off = refl
-only-shorter q f zero (suc n) start h off =
-    rw (off start (omega arith) (omega arith)) (only-shorter q f zero n (suc start) (omega arith) (λ i p r. off i (omega arith) (omega arith)))
-only-shorter q f (suc e) zero start h off = absurd (omega arith)
-only-shorter q f (suc e) (suc n) start h off =
-    ap (λ (l : List _). cond (q (f start)) (f start ∷ l) l) (only-shorter q f e n (suc start) (omega arith) (λ i p r. off i (omega arith) (omega arith)))
+only-chosen p q f start zero off = refl
+only-chosen p q f start (suc n) off =
+    go (p start) refl (only-chosen p q f (suc start) n (λ i a b. off i (omega arith) (omega arith))) (off start (omega arith) (omega arith))
+  where
+    go : (b : Bool) → p start ≡ b → only q (map f (only p (rising (suc start) n))) ≡ only q (map f (rising (suc start) n))
+        → (p start ≡ false → q (f start) ≡ false)
+        → only q (map f (cond b (start ∷ only p (rising (suc start) n)) (only p (rising (suc start) n))))
+        ≡ cond (q (f start)) (f start ∷ only q (map f (rising (suc start) n))) (only q (map f (rising (suc start) n)))
+    go true e rest none = rw rest
+    go false e rest none = rw (none e, rest)
 
--- The cells of a component's row for a kind are the counts of acts, none past the kind's extent.
-pub record Counted (table : List ℕ) (n : ℕ) (acts : List Act) : Type 0 where
+-- a list's elements, place by place
+map-places : {A : Type 0} (f : ℕ → A) (xs : List ℕ) (start : ℕ) → map (λ i. f (getD xs (i - start) 0)) (rising start (length xs)) ≡ map f xs
+unfolding rising
+map-places f [] start = refl
+map-places f (x ∷ xs) start =
+    let z : start - start ≡ 0 = omega arith in
+    ap₂ _∷_ (rw z)
+    (map-rising (λ i. f (getD (x ∷ xs) (i - start) 0)) (λ i. f (getD xs (i - suc start) 0)) (suc start) (length xs)
+    (λ i p q. let e : i - start ≡ suc (i - suc start) = omega arith in rw e)
+    ∙ map-places f xs (suc start))
+
+none-set : {A : Type 0} (q : A → Bool) (f : ℕ → A) (start n : ℕ) → ((i : ℕ) → start ≤ i → i < start + n → q (f i) ≡ false) → only q (map f (rising start n)) ≡ []
+unfolding only rising
+none-set q f start zero off = refl
+none-set q f start (suc n) off = rw (off start (omega arith) (omega arith)) (none-set q f (suc start) n (λ i a b. off i (omega arith) (omega arith)))
+
+-- A component's row holds its path's groups, rising, and its cells are the counts of its acts; a kind that is not marked has none.
+pub record Counted (table : List ℕ) (n : ℕ) (path : List ℕ) (acts : List Act) : Type 0 where
   pub few : length acts ≤ 65000
-  pub cells : (k c : ℕ) → k < 16 → c < 67 → cell table n k c ≡ countNumber (total (λ a. lands k c (needOf a)) acts)
-  pub past : (k g : ℕ) → k < 16 → g < 64 → cell table n k 67 ≤ g → cell table n k g ≡ 0
+  pub short : length path ≤ 8
+  pub inside : Inside path acts
+  pub number : groupCount table n ≡ length (risingGroups path)
+  pub groups : (i : ℕ) → i < length (risingGroups path) → groupAt table n i ≡ getD (risingGroups path) i 0
+  pub cells : (k c : ℕ) → k < 16 → c < 11 → cell table n k c ≡ countNumber (total (λ a. lands (λ g. placeIn (risingGroups path) g 0) k c (needOf a)) acts)
+  pub unmarked : (k c : ℕ) → k < 16 → c < 11 → cell table n k 11 ≡ 0 → cell table n k c ≡ 0
 
-module _ (table : List ℕ) (n : ℕ) (acts : List Act) (h : Counted table n acts) where
-  flag-cell : (k c : ℕ) → k < 16 → c < 67 → (p : Need → Bool) → ((a : Act) → lands k c (needOf a) ≡ cond (p (needOf a)) 1 0)
+module _ (table : List ℕ) (n : ℕ) (path : List ℕ) (acts : List Act) (h : Counted table n path acts) where
+  abbrev at : ℕ → ℕ
+  at g = placeIn (risingGroups path) g 0
+
+  columns : Columns at
+  unfolding Columns
+  columns g = place-column (risingGroups path) g 0 (omega (arith, groups-few path, h .short))
+
+  pub orderly : Orderly table n
+  orderly = record {
+    low = λ i p. rw (h .groups i (omega (arith, h .number))) (group-low path i (omega (arith, h .number)));
+    rises = λ i j p q.
+        rw (h .groups i (omega (arith, h .number)), h .groups j (omega (arith, h .number))) (group-rises path i j p (omega (arith, h .number)));
+  }
+
+  flag-cell : (k c : ℕ) → k < 16 → c < 11 → (p : Need → Bool) → ((a : Act) → lands at k c (needOf a) ≡ cond (p (needOf a)) 1 0)
       → isSet (cell table n k c) ≡ any (λ a. p (needOf a)) acts
   flag-cell k c q r p e =
-      ap isSet (h .cells k c q r) ∙ any-total (λ a. p (needOf a)) (λ a. lands k c (needOf a)) e acts
+      ap isSet (h .cells k c q r) ∙ any-total (λ a. p (needOf a)) (λ a. lands at k c (needOf a)) e acts
 
-  disclosure-cell : (k g : ℕ) → k < 16 → g < 64 → countOf (cell table n k g) ≡ disclosed k g acts
+  disclosure-cell : (k i : ℕ) → k < 16 → i < length (risingGroups path) → countOf (cell table n k i) ≡ disclosed k (getD (risingGroups path) i 0) acts
   unfolding disclosed
-  disclosure-cell k g q r =
-      ap countOf (h .cells k g q (omega arith))
-      ∙ count-back (total (λ a. lands k g (needOf a)) acts)
-      (total-few (λ a. lands k g (needOf a)) (λ a. lands-few k g (needOf a)) acts 0 (omega (arith, h .few)))
-      ∙ total-cong (λ a. lands k g (needOf a)) (λ a. disclosures k g (needOf a)) (λ a. lands-disclose k g r (needOf a)) acts
+  disclosure-cell k i q r =
+      ap countOf (h .cells k i q (omega (arith, groups-few path, h .short)))
+      ∙ count-back (total (λ a. lands at k i (needOf a)) acts)
+      (total-few (λ a. lands at k i (needOf a)) (λ a. lands-few at k i (needOf a)) acts 0 (omega (arith, h .few)))
+      ∙ total-cong (λ a. lands at k i (needOf a)) (λ a. disclosures k (getD (risingGroups path) i 0) (needOf a))
+      (λ a. lands-disclose at columns k i (getD (risingGroups path) i 0) (omega (arith, groups-few path, h .short)) (λ g. place-is path g i (h .short) r) (needOf a)) acts
 
+  abbrev wanted : Disclosure → Bool
+  wanted d = not (isZero (d .count))
+
+  abbrev into : ℕ → ℕ → Disclosure
+  into k g = record { group = g; count = disclosed k g acts }
+
+  nothing : (k g : ℕ) → member g path ≡ false → disclosed k g acts ≡ fin 0
+  nothing = unfold Inside in h .inside
+
+  -- place by place, group by group of the path, and group by group
   disclosures-cells : (k : ℕ) → k < 16 → disclosuresAt table n k ≡ disclosuresOf k acts
-  unfolding disclosuresAt disclosuresOf extentAt
+  unfolding disclosuresAt disclosuresOf
   disclosures-cells k q =
-      only-shorter (λ d. not (isZero (d .count))) (λ g. record { group = g; count = countOf (cell table n k g) }) (min (cell table n k 67) 64) 64 0
-      (omega arith) (λ g p r. rw (h .past k g q (omega arith) (omega arith)) none-counted)
-      ∙ ap (only (λ d. not (isZero (d .count))))
-      (map-rising (λ g. record { group = g; count = countOf (cell table n k g) }) (λ g. record { group = g; count = disclosed k g acts }) 0 64
-      (λ g p r. λ i. record { group = g; count = disclosure-cell k g q (omega arith) i }))
+      ap (λ (m : ℕ). only wanted (map (λ i. record { group = groupAt table n i; count = countOf (cell table n k i) }) (rising 0 m))) (h .number)
+      ∙ ap (only wanted)
+      (map-rising (λ i. record { group = groupAt table n i; count = countOf (cell table n k i) }) (λ i. into k (getD (risingGroups path) (i - 0) 0)) 0
+      (length (risingGroups path))
+      (λ i p r. let z : i - 0 ≡ i = omega arith in rw z (λ j. record { group = h .groups i (omega arith) j; count = disclosure-cell k i q (omega arith) j }))
+      ∙ map-places (into k) (risingGroups path) 0)
+      ∙ unfold risingGroups in only-chosen (λ g. member g path) wanted (into k) 0 64 (λ g p r e. rw (nothing k g e) no-count)
 
   entry-cells : (k : ℕ) → k < 16 → (c : Component) → c .number ≡ n → c .path ≡ pathAt table n → entryAt table n k ≡ entryOf c acts k
   unfolding entryAt entryOf
   entry-cells k q c e f = λ i. record {
     component = record { number = sym e i; path = sym f i };
     kind = k;
-    read = flag-cell k 64 q (omega arith) (isRead k) (λ a. lands-read k (needOf a) (act-range a)) i;
-    write = flag-cell k 65 q (omega arith) (isWrite k) (λ a. lands-write k (needOf a) (act-range a)) i;
-    access = flag-cell k 66 q (omega arith) (isAccess k) (λ a. lands-access k (needOf a) (act-range a)) i;
+    read = flag-cell k 8 q (omega arith) (isRead k) (λ a. lands-read at columns k (needOf a)) i;
+    write = flag-cell k 9 q (omega arith) (isWrite k) (λ a. lands-write at columns k (needOf a)) i;
+    access = flag-cell k 10 q (omega arith) (isAccess k) (λ a. lands-access at columns k (needOf a)) i;
     disclose = disclosures-cells k q i;
   }
+
+  -- a kind that is not marked has no entry
+  unmarked-none : (k : ℕ) → k < 16 → isSet (cell table n k 11) ≡ false → holdsAny (entryAt table n k) ≡ false
+  unfolding holdsAny entryAt disclosuresAt isSet isEmpty
+  unmarked-none k q e =
+      let z = unset (cell table n k 11) e in
+      rw (
+        h .unmarked k 8 q (omega arith) z,
+        h .unmarked k 9 q (omega arith) z,
+        h .unmarked k 10 q (omega arith) z,
+        none-set wanted (λ i. record { group = groupAt table n i; count = countOf (cell table n k i) }) 0 (groupCount table n)
+            (λ i p r. rw (h .unmarked k i q (omega (arith, h .number, groups-few path, h .short)) z) none-counted),
+      )
 
   -- a row whose cells are the counts of acts holds their entries
   pub row-entries : (c : Component) → c .number ≡ n → c .path ≡ pathAt table n
       → rowEntries table n ≡ only holdsAny (map (entryOf c acts) (rising 0 16))
-  unfolding rowEntries
+  unfolding rowEntries usedKinds
   row-entries c e f =
-      ap (only holdsAny) (map-rising (entryAt table n) (entryOf c acts) 0 16 (λ k p q. entry-cells k (omega arith) c e f))
+      only-chosen (λ k. isSet (cell table n k 11)) holdsAny (entryAt table n) 0 16 (λ k p q u. unmarked-none k (omega arith) u)
+      ∙ ap (only holdsAny) (map-rising (entryAt table n) (entryOf c acts) 0 16 (λ k p q. entry-cells k (omega arith) c e f))

@@ -28,10 +28,10 @@ use Rattle.reading.proofs.TreeLaws.{components-few, SheetParts}
 use Rattle.inference.specs.Lists.{gather, rising}
 use Rattle.inference.specs.Acts.{Act, Component as Owner, componentAt, Located, acts, actsOf, locate, located}
 use Rattle.inference.specs.Interface.{interface}
-use Rattle.inference.specs.Rows.{tableEntries, rowEntries}
-use Rattle.inference.specs.Walks.{chargedAll}
+use Rattle.inference.specs.Rows.{Orderly, tableEntries, rowEntries}
+use Rattle.inference.specs.Walks.{chargedAll, worstAll}
 use Rattle.interface.proofs.CellLaws.{AllOf, of-none, of-more}
-use Rattle.interface.proofs.TableLaws.{NoneTwice, twice-none, twice-more, FitsRow, Clear, AllStorable, store-none, store-more, table-from}
+use Rattle.interface.proofs.TableLaws.{NoneTwice, twice-none, twice-more, FitsRow, Clear, AllStorable, store-none, store-more, table-from, table-orderly}
 
 -- How many acts a process has.
 unfoldable pub actCount : Process → ℕ
@@ -288,18 +288,25 @@ pub sheet-components : (s charter : List ℕ) (sheet : Sheet) (k : ℕ) → Shee
 sheet-components s charter sheet k h =
     omega (arith, components-few current 64 s (length (sheet .free)) [] 0 (h .start) (omega arith) (h .body))
 
--- The table that a sheet's walk leaves in clear memory holds the sheet's interface.
-pub sheet-table : (s charter : List ℕ) (sheet : Sheet) (k : ℕ) → SheetParts s charter sheet k
-    → (rows : ℕ) → components (sheet .system) ≤ rows → (table : List ℕ) → length table ≡ rows * 1097 → Clear 0 table
-    → tableEntries (chargedAll table (located sheet)) (components (sheet .system)) ≡ interface sheet
-unfolding tableEntries interface located
-sheet-table s charter sheet k h rows room table long clear =
-    ap (λ (n : ℕ). gather (rowEntries (chargedAll table (locate 0 [] (map some (sheet .free)) (sheet .system)))) (rising 0 n))
-    (sym (located-count 0 [] (map some (sheet .free)) (sheet .system)))
-    ∙ table-from (locate 0 [] (map some (sheet .free)) (sheet .system)) 0
-    (sheet-storable s charter sheet k h)
-    (omega (arith, located-count 0 [] (map some (sheet .free)) (sheet .system), room))
-    table long clear
+-- The table that a sheet's walk leaves in clear memory, where the sheet passes questions 7 to 10.
+module _ (s charter : List ℕ) (sheet : Sheet) (k : ℕ) (h : SheetParts s charter sheet k) (rows : ℕ) (room : components (sheet .system) ≤ rows)
+    (table : List ℕ) (long : length table ≡ rows * 210) (clear : Clear 0 table) (typed : worstAll (located sheet) ≡ 11) where
+  count : length (located sheet) ≡ components (sheet .system)
+  unfolding located
+  count = located-count 0 [] (map some (sheet .free)) (sheet .system)
+
+  -- It holds the sheet's interface.
+  pub sheet-table : tableEntries (chargedAll table (located sheet)) (components (sheet .system)) ≡ interface sheet
+  unfolding tableEntries interface
+  sheet-table =
+      ap (λ (n : ℕ). gather (rowEntries (chargedAll table (located sheet))) (rising 0 n)) (sym count)
+      ∙ table-from (located sheet) 0 (sheet-storable s charter sheet k h) (omega (arith, count, room)) table long clear typed
+
+  -- Its rows have their groups in order.
+  pub sheet-orderly : (n : ℕ) → n < components (sheet .system) → Orderly (chargedAll table (located sheet)) n
+  sheet-orderly n p =
+      table-orderly (located sheet) 0 (sheet-storable s charter sheet k h) (omega (arith, count, room)) table long clear typed n (omega arith)
+      (omega (arith, count))
 
 pub clear-zeros : (n : ℕ) → Clear 0 (replicate n 0)
 unfolding Clear

@@ -6,6 +6,7 @@ use mathlib.Core.List.{List, [], _∷_, _++_}
 use mathlib.Core.Bool.{false}
 use mathlib.Core.Logic.{inl, inr}
 use native.Mathlib.Omega.{arith}
+use native.Mathlib.Decide.{ℕ-discrete}
 use native.Mathlib.Nat.{mod-eq-of-lt}
 use lib.ListN.{length, getD, set, take, drop, length-set, length-take, length-drop}
 use lib.Seq.{getD-set-same, getD-set-other, getD-take, getD-drop, ext-getD}
@@ -15,12 +16,15 @@ use Rattle.inference.specs.Counts.{fin, countNumber}
 use Rattle.inference.specs.Acts.{Located, actsOf}
 use Rattle.inference.specs.Needs.{needOf, total}
 use Rattle.inference.specs.Interface.{entriesOf}
-use Rattle.inference.specs.Rows.{cellOf, cell, pathAt, stored, withPath, rowEntries}
-use Rattle.inference.specs.Walks.{charged, chargedAll}
+use Rattle.inference.specs.Rows.{Orderly, cellOf, cell, groupCount, groupAt, pathAt, stored, risingGroups, withGroups, withPath, rowEntries}
+use Rattle.inference.specs.Walks.{charged, chargedAll, worst, worstAll}
+use Rattle.inference.proofs.WalkLaws.{worst-most, worstAll-most}
 use Rattle.inference.proofs.CountLaws.{nothing-join}
-use Rattle.interface.proofs.CellLaws.{lands, Few, Outside, AllOf, length-charged, charged-kept, charged-count}
-use Rattle.interface.proofs.ExtentLaws.{charged-extent}
-use Rattle.interface.proofs.RowLaws.{Counted, row-entries}
+use Rattle.interface.proofs.CellLaws.{lands, Places, Few, Outside, AllOf, length-charged, charged-kept, charged-count, same-count}
+use Rattle.interface.proofs.MarkLaws.{charged-mark}
+use Rattle.interface.proofs.GroupLaws.{group-low, groups-few, placeIn, place-read}
+use Rattle.interface.proofs.PathLaws.{component-inside}
+use Rattle.interface.proofs.RowLaws.{Counted, orderly, row-entries}
 
 length-stored : (table : List ℕ) (at : ℕ) (xs : List ℕ) → length (stored table at xs) ≡ length table
 unfolding stored
@@ -64,78 +68,125 @@ pub record FitsRow (path : List ℕ) : Type 0 where
   pub once : NoneTwice path
 
 -- Two tables agree on the first nine cells of a row.
-agree-path : {rows : ℕ} (table table′ : List ℕ) (n : ℕ) → n < rows → length table ≡ rows * 1097 → length table′ ≡ rows * 1097
-    → ((i : ℕ) → n * 1097 ≤ i → i < n * 1097 + 9 → getD table i 0 ≡ getD table′ i 0)
+agree-path : {rows : ℕ} (table table′ : List ℕ) (n : ℕ) → n < rows → length table ≡ rows * 210 → length table′ ≡ rows * 210
+    → ((i : ℕ) → n * 210 ≤ i → i < n * 210 + 9 → getD table i 0 ≡ getD table′ i 0)
     → pathAt table n ≡ pathAt table′ n
 unfolding pathAt
 agree-path table table′ n small long long′ same =
-    ap₂ take (same (n * 1097) (omega arith) (omega arith))
-    (ext-getD 0 (take 8 (drop (n * 1097 + 1) table)) (take 8 (drop (n * 1097 + 1) table′))
-    (simp (length-take, length-drop) (ap (λ (k : ℕ). min 8 (k - (n * 1097 + 1))) (long ∙ sym long′)))
+    ap₂ take (same (n * 210) (omega arith) (omega arith))
+    (ext-getD 0 (take 8 (drop (n * 210 + 1) table)) (take 8 (drop (n * 210 + 1) table′))
+    (simp (length-take, length-drop) (ap (λ (k : ℕ). min 8 (k - (n * 210 + 1))) (long ∙ sym long′)))
     (λ i p. each i (len i p)))
   where
-    len : (i : ℕ) → i < length (take 8 (drop (n * 1097 + 1) table)) → i < 8
-    len i p = let e : length (take 8 (drop (n * 1097 + 1) table)) ≡ min 8 (length (drop (n * 1097 + 1) table)) = length-take 8 (drop (n * 1097 + 1) table) in omega arith
+    len : (i : ℕ) → i < length (take 8 (drop (n * 210 + 1) table)) → i < 8
+    len i p = let e : length (take 8 (drop (n * 210 + 1) table)) ≡ min 8 (length (drop (n * 210 + 1) table)) = length-take 8 (drop (n * 210 + 1) table) in omega arith
 
-    each : (i : ℕ) → i < 8 → getD (take 8 (drop (n * 1097 + 1) table)) i 0 ≡ getD (take 8 (drop (n * 1097 + 1) table′)) i 0
+    each : (i : ℕ) → i < 8 → getD (take 8 (drop (n * 210 + 1) table)) i 0 ≡ getD (take 8 (drop (n * 210 + 1) table′)) i 0
     each i p =
-        getD-take 8 (drop (n * 1097 + 1) table) i 0 p ∙ getD-drop (n * 1097 + 1) table i 0
-        ∙ same (n * 1097 + 1 + i) (omega arith) (omega arith)
-        ∙ sym (getD-take 8 (drop (n * 1097 + 1) table′) i 0 p ∙ getD-drop (n * 1097 + 1) table′ i 0)
+        getD-take 8 (drop (n * 210 + 1) table) i 0 p ∙ getD-drop (n * 210 + 1) table i 0
+        ∙ same (n * 210 + 1 + i) (omega arith) (omega arith)
+        ∙ sym (getD-take 8 (drop (n * 210 + 1) table′) i 0 p ∙ getD-drop (n * 210 + 1) table′ i 0)
 
-module _ {rows : ℕ} (table : List ℕ) (n : ℕ) (small : n < rows) (long : length table ≡ rows * 1097) (path : List ℕ) (fits : FitsRow path) where
-  stored-length : getD (withPath table n path) (n * 1097) 0 ≡ length path
-  unfolding withPath
+module _ {rows : ℕ} (table : List ℕ) (n : ℕ) (small : n < rows) (long : length table ≡ rows * 210) (path : List ℕ) (fits : FitsRow path) where
+  abbrev groups : List ℕ
+  groups = risingGroups path
+
+  few-groups : length groups ≤ 8
+  few-groups = omega (arith, groups-few path, fits .short)
+
+  -- the path as it stands
+  abbrev first : List ℕ
+  first = stored table (n * 210) (length path ∷ path)
+
+  length-first : length first ≡ rows * 210
+  length-first = length-stored table (n * 210) (length path ∷ path) ∙ long
+
+  length-with-path : length (withPath table n path) ≡ rows * 210
+  unfolding withPath withGroups
+  length-with-path =
+      length-set (stored first (n * 210 + 10) groups) (n * 210 + 9) (length groups % 65536) ∙ length-stored first (n * 210 + 10) groups ∙ length-first
+
+  with-before : (i : ℕ) → i < n * 210 + 9 → getD (withPath table n path) i 0 ≡ getD first i 0
+  unfolding withPath withGroups
+  with-before i h =
+      getD-set-other (stored first (n * 210 + 10) groups) (n * 210 + 9) i (length groups % 65536) 0 (λ e. omega arith)
+      ∙ stored-before first (n * 210 + 10) i groups (omega arith)
+
+  with-after : (i : ℕ) → n * 210 + 18 ≤ i → getD (withPath table n path) i 0 ≡ getD table i 0
+  unfolding withPath withGroups
+  with-after i h =
+      getD-set-other (stored first (n * 210 + 10) groups) (n * 210 + 9) i (length groups % 65536) 0 (λ e. omega arith)
+      ∙ stored-after first (n * 210 + 10) i groups (omega (arith, few-groups))
+      ∙ stored-after table (n * 210) i (length path ∷ path) (omega (arith, fits .short))
+
+  with-count : groupCount (withPath table n path) n ≡ length groups
+  unfolding withPath withGroups groupCount
+  with-count =
+      rw (getD-set-same (stored first (n * 210 + 10) groups) (n * 210 + 9) (length groups % 65536) 0
+      (rw (length-stored first (n * 210 + 10) groups ∙ length-first) (omega arith)))
+      (omega (arith, few-groups))
+
+  with-group : (i : ℕ) → i < length groups → groupAt (withPath table n path) n i ≡ getD groups i 0
+  unfolding withPath withGroups groupAt
+  with-group i h =
+      getD-set-other (stored first (n * 210 + 10) groups) (n * 210 + 9) (n * 210 + (10 + i)) (length groups % 65536) 0 (λ e. omega arith)
+      ∙ ap (λ (j : ℕ). getD (stored first (n * 210 + 10) groups) j 0) lined
+      ∙ stored-in first (n * 210 + 10) groups i h (rw length-first (omega (arith, few-groups)))
+      ∙ mod-eq-of-lt (omega (arith, group-low path i h))
+    where
+      lined : n * 210 + (10 + i) ≡ n * 210 + 10 + i
+      lined = omega arith
+
+  with-places : Places (withPath table n path) n (λ g. placeIn groups g 0)
+  unfolding Places
+  with-places g = rw with-count (place-read (withPath table n path) n g groups 0 (λ j h. let z : 0 + j ≡ j = omega arith in rw z (with-group j h)))
+
+  stored-length : getD (withPath table n path) (n * 210) 0 ≡ length path
   stored-length =
-      let e : n * 1097 + 0 ≡ n * 1097 = omega arith in
-      let h : getD (stored table (n * 1097) (length path ∷ path)) (n * 1097 + 0) 0 ≡ length path % 65536 =
-      stored-in table (n * 1097) (length path ∷ path) 0 (omega arith) (rw long (omega (arith, fits .short))) in
-      ap (λ (i : ℕ). getD (stored table (n * 1097) (length path ∷ path)) i 0) (sym e) ∙ h
+      let e : n * 210 + 0 ≡ n * 210 = omega arith in
+      let h : getD first (n * 210 + 0) 0 ≡ length path % 65536 =
+      stored-in table (n * 210) (length path ∷ path) 0 (omega arith) (rw long (omega (arith, fits .short))) in
+      with-before (n * 210) (omega arith) ∙ ap (λ (i : ℕ). getD first i 0) (sym e) ∙ h
       ∙ mod-eq-of-lt (omega (arith, fits .short))
 
-  stored-group : (i : ℕ) → i < length path → getD (withPath table n path) (n * 1097 + 1 + i) 0 ≡ getD path i 0
-  unfolding withPath
+  stored-group : (i : ℕ) → i < length path → getD (withPath table n path) (n * 210 + 1 + i) 0 ≡ getD path i 0
   stored-group i p =
-      let e : n * 1097 + 1 + i ≡ n * 1097 + suc i = omega arith in
-      let h : getD (stored table (n * 1097) (length path ∷ path)) (n * 1097 + suc i) 0 ≡ getD path i 0 % 65536 =
-      stored-in table (n * 1097) (length path ∷ path) (suc i) (omega arith) (rw long (omega (arith, fits .short))) in
-      ap (λ (j : ℕ). getD (stored table (n * 1097) (length path ∷ path)) j 0) e ∙ h
+      let e : n * 210 + 1 + i ≡ n * 210 + suc i = omega arith in
+      let h : getD first (n * 210 + suc i) 0 ≡ getD path i 0 % 65536 =
+      stored-in table (n * 210) (length path ∷ path) (suc i) (omega arith) (rw long (omega (arith, fits .short))) in
+      with-before (n * 210 + 1 + i) (omega (arith, fits .short)) ∙ ap (λ (j : ℕ). getD first j 0) e ∙ h
       ∙ mod-eq-of-lt (omega (arith, fits .groups i p))
-
-  length-with-path : length (withPath table n path) ≡ rows * 1097
-  unfolding withPath
-  length-with-path = length-stored table (n * 1097) (length path ∷ path) ∙ long
 
   path-back : pathAt (withPath table n path) n ≡ path
   unfolding pathAt
   path-back =
-      ap (λ (k : ℕ). take k (take 8 (drop (n * 1097 + 1) (withPath table n path)))) stored-length
-      ∙ ext-getD 0 (take (length path) (take 8 (drop (n * 1097 + 1) (withPath table n path)))) path len each
+      ap (λ (k : ℕ). take k (take 8 (drop (n * 210 + 1) (withPath table n path)))) stored-length
+      ∙ ext-getD 0 (take (length path) (take 8 (drop (n * 210 + 1) (withPath table n path)))) path len each
     where
-      l8 : length (drop (n * 1097 + 1) (withPath table n path)) ≡ rows * 1097 - (n * 1097 + 1)
-      l8 = length-drop (n * 1097 + 1) (withPath table n path) ∙ ap (λ (k : ℕ). k - (n * 1097 + 1)) length-with-path
+      l8 : length (drop (n * 210 + 1) (withPath table n path)) ≡ rows * 210 - (n * 210 + 1)
+      l8 = length-drop (n * 210 + 1) (withPath table n path) ∙ ap (λ (k : ℕ). k - (n * 210 + 1)) length-with-path
 
-      len : length (take (length path) (take 8 (drop (n * 1097 + 1) (withPath table n path)))) ≡ length path
+      len : length (take (length path) (take 8 (drop (n * 210 + 1) (withPath table n path)))) ≡ length path
       len =
-          let a : length (take (length path) (take 8 (drop (n * 1097 + 1) (withPath table n path))))
-          ≡ min (length path) (length (take 8 (drop (n * 1097 + 1) (withPath table n path))))
-          = length-take (length path) (take 8 (drop (n * 1097 + 1) (withPath table n path))) in
-          let b : length (take 8 (drop (n * 1097 + 1) (withPath table n path))) ≡ min 8 (length (drop (n * 1097 + 1) (withPath table n path)))
-          = length-take 8 (drop (n * 1097 + 1) (withPath table n path)) in
+          let a : length (take (length path) (take 8 (drop (n * 210 + 1) (withPath table n path))))
+          ≡ min (length path) (length (take 8 (drop (n * 210 + 1) (withPath table n path))))
+          = length-take (length path) (take 8 (drop (n * 210 + 1) (withPath table n path))) in
+          let b : length (take 8 (drop (n * 210 + 1) (withPath table n path))) ≡ min 8 (length (drop (n * 210 + 1) (withPath table n path)))
+          = length-take 8 (drop (n * 210 + 1) (withPath table n path)) in
           omega (arith, l8, fits .short)
 
-      each : (i : ℕ) → i < length (take (length path) (take 8 (drop (n * 1097 + 1) (withPath table n path))))
-          → getD (take (length path) (take 8 (drop (n * 1097 + 1) (withPath table n path)))) i 0 ≡ getD path i 0
+      each : (i : ℕ) → i < length (take (length path) (take 8 (drop (n * 210 + 1) (withPath table n path))))
+          → getD (take (length path) (take 8 (drop (n * 210 + 1) (withPath table n path)))) i 0 ≡ getD path i 0
       each i p =
           let q : i < length path = rw len at p in
-          getD-take (length path) (take 8 (drop (n * 1097 + 1) (withPath table n path))) i 0 q
-          ∙ getD-take 8 (drop (n * 1097 + 1) (withPath table n path)) i 0 (omega (arith, fits .short))
-          ∙ getD-drop (n * 1097 + 1) (withPath table n path) i 0
+          getD-take (length path) (take 8 (drop (n * 210 + 1) (withPath table n path))) i 0 q
+          ∙ getD-take 8 (drop (n * 210 + 1) (withPath table n path)) i 0 (omega (arith, fits .short))
+          ∙ getD-drop (n * 210 + 1) (withPath table n path) i 0
           ∙ stored-group i q
 
 -- Nothing is stored yet from a row on.
 unfoldable pub Clear : ℕ → List ℕ → Type 0
-Clear n table = (i : ℕ) → n * 1097 ≤ i → getD table i 0 ≡ 0
+Clear n table = (i : ℕ) → n * 210 ≤ i → getD table i 0 ≡ 0
 
 -- A component that can be stored: its path fits, its acts are its own and few.
 pub record Storable (n : ℕ) (l : Located) : Type 0 where
@@ -153,8 +204,8 @@ pub data AllStorable : ℕ → List Located → Type 0 where
 unfoldable pub rowOf : List ℕ → ℕ → Located → List ℕ
 rowOf table n l = charged (withPath table n (l .component .path)) (actsOf l)
 
-module _ {rows : ℕ} (table : List ℕ) (n : ℕ) (small : n < rows) (long : length table ≡ rows * 1097) (l : Located) (ok : Storable n l) where
-  length-row : length (rowOf table n l) ≡ rows * 1097
+module _ {rows : ℕ} (table : List ℕ) (n : ℕ) (small : n < rows) (long : length table ≡ rows * 210) (l : Located) (ok : Storable n l) where
+  length-row : length (rowOf table n l) ≡ rows * 210
   unfolding rowOf
   length-row =
       length-charged (withPath table n (l .component .path)) (actsOf l)
@@ -165,52 +216,75 @@ module _ {rows : ℕ} (table : List ℕ) (n : ℕ) (small : n < rows) (long : le
   row-path =
       agree-path (charged (withPath table n (l .component .path)) (actsOf l)) (withPath table n (l .component .path)) n small
       (unfold rowOf in length-row) (length-with-path table n small long (l .component .path) (ok .fits))
-      (λ i p q. charged-kept n i (unfold Outside in inl q) (withPath table n (l .component .path)) (ok .own))
+      (λ i p q. charged-kept n i (unfold Outside in inl (omega arith)) (withPath table n (l .component .path)) (ok .own))
       ∙ path-back table n small long (l .component .path) (ok .fits)
 
   -- the rows before are as they were
-  row-before : (i : ℕ) → i < n * 1097 → getD (rowOf table n l) i 0 ≡ getD table i 0
+  row-before : (i : ℕ) → i < n * 210 → getD (rowOf table n l) i 0 ≡ getD table i 0
   unfolding rowOf
   row-before i p =
       charged-kept n i (unfold Outside in inl (omega arith)) (withPath table n (l .component .path)) (ok .own)
-      ∙ unfold withPath in stored-before table (n * 1097) i (length (l .component .path) ∷ l .component .path) p
+      ∙ with-before table n small long (l .component .path) (ok .fits) i (omega arith)
+      ∙ stored-before table (n * 210) i (length (l .component .path) ∷ l .component .path) p
 
   -- the rows after it are as they were
-  row-after : (i : ℕ) → n * 1097 + 1097 ≤ i → getD (rowOf table n l) i 0 ≡ getD table i 0
+  row-after : (i : ℕ) → n * 210 + 210 ≤ i → getD (rowOf table n l) i 0 ≡ getD table i 0
   unfolding rowOf
   row-after i p =
       charged-kept n i (unfold Outside in inr p) (withPath table n (l .component .path)) (ok .own)
-      ∙ unfold withPath in stored-after table (n * 1097) i (length (l .component .path) ∷ l .component .path) (omega (arith, ok .fits .short))
+      ∙ with-after table n small long (l .component .path) (ok .fits) i (omega arith)
 
-  row-count : Clear n table → (k c : ℕ) → k < 16 → c < 67
-      → getD (rowOf table n l) (cellOf n k c) 0 ≡ countNumber (total (λ a. lands k c (needOf a)) (actsOf l))
+  -- the groups of its path, and their columns
+  abbrev path : List ℕ
+  path = l .component .path
+
+  abbrev at : ℕ → ℕ
+  at g = placeIn (risingGroups path) g 0
+
+  row-head : (i : ℕ) → n * 210 ≤ i → i < n * 210 + 18 → getD (rowOf table n l) i 0 ≡ getD (withPath table n path) i 0
+  unfolding rowOf
+  row-head i p q = charged-kept n i (unfold Outside in inl q) (withPath table n path) (ok .own)
+
+  row-groups : (i : ℕ) → i < length (risingGroups path) → groupAt (rowOf table n l) n i ≡ getD (risingGroups path) i 0
+  unfolding groupAt
+  row-groups i p =
+      row-head (n * 210 + (10 + i)) (omega arith) (omega (arith, few-groups table n small long path (ok .fits)))
+      ∙ unfold groupAt in with-group table n small long path (ok .fits) i p
+
+  row-number : groupCount (rowOf table n l) n ≡ length (risingGroups path)
+  row-number = same-count (withPath table n path) (rowOf table n l) n row-head ∙ with-count table n small long path (ok .fits)
+
+  row-count : Clear n table → (k c : ℕ) → k < 16 → c < 11
+      → getD (rowOf table n l) (cellOf n k c) 0 ≡ countNumber (total (λ a. lands at k c (needOf a)) (actsOf l))
   unfolding rowOf Clear
   row-count clear k c p q =
-      charged-count n small k c p q (withPath table n (l .component .path))
-      (length-with-path table n small long (l .component .path) (ok .fits)) (fin 0)
-      (unfold withPath countNumber in (stored-after table (n * 1097) (cellOf n k c) (length (l .component .path) ∷ l .component .path) past
-      ∙ clear (cellOf n k c) beyond))
+      charged-count n small at k c p q (withPath table n path) (length-with-path table n small long path (ok .fits))
+      (with-places table n small long path (ok .fits)) (fin 0)
+      (unfold countNumber in (with-after table n small long path (ok .fits) (cellOf n k c) past ∙ clear (cellOf n k c) beyond))
       (ok .own) (unfold Few in omega (arith, ok .few))
-      ∙ ap countNumber (nothing-join (total (λ a. lands k c (needOf a)) (actsOf l)))
+      ∙ ap countNumber (nothing-join (total (λ a. lands at k c (needOf a)) (actsOf l)))
     where
-      past : n * 1097 + length (length (l .component .path) ∷ l .component .path) ≤ cellOf n k c
-      past = unfold cellOf in omega (arith, ok .fits .short)
+      past : n * 210 + 18 ≤ cellOf n k c
+      past = unfold cellOf in omega arith
 
-      beyond : n * 1097 ≤ cellOf n k c
+      beyond : n * 210 ≤ cellOf n k c
       beyond = unfold cellOf in omega arith
 
-  row-extent : (k g : ℕ) → k < 16 → g < 64 → getD (rowOf table n l) (cellOf n k 67) 0 ≤ g → total (λ a. lands k g (needOf a)) (actsOf l) ≡ fin 0
+  row-mark : (k c : ℕ) → k < 16 → getD (rowOf table n l) (cellOf n k 11) 0 ≡ 0 → total (λ a. lands at k c (needOf a)) (actsOf l) ≡ fin 0
   unfolding rowOf
-  row-extent k g p q h =
-      charged-extent n small k p (withPath table n (l .component .path))
-      (length-with-path table n small long (l .component .path) (ok .fits)) g q (ok .own) h
+  row-mark k c p h =
+      charged-mark n small k p at c (withPath table n path) (length-with-path table n small long path (ok .fits)) (ok .own) h .0
 
-  row-counted : Clear n table → Counted (rowOf table n l) n (actsOf l)
+  row-counted : Clear n table → worst (actsOf l) ≡ 11 → Counted (rowOf table n l) n path (actsOf l)
   unfolding cell countNumber
-  row-counted clear = record {
+  row-counted clear typed = record {
     few = ok .few;
+    short = ok .fits .short;
+    inside = component-inside l typed;
+    number = row-number;
+    groups = row-groups;
     cells = row-count clear;
-    past = λ k g p q h. row-count clear k g p (omega arith) ∙ ap countNumber (row-extent k g p q h);
+    unmarked = λ k c p q h. row-count clear k c p q ∙ ap countNumber (row-mark k c p h);
   }
 
   row-clear : Clear n table → Clear (suc n) (rowOf table n l)
@@ -224,15 +298,15 @@ charged-row table n l rest e =
     ap (λ (m : ℕ). chargedAll (charged (withPath table m (l .component .path)) (actsOf l)) rest) e
 
 -- the table keeps its length, and later components leave earlier rows as they are
-length-all : {rows : ℕ} (ls : List Located) (n : ℕ) → AllStorable n ls → n + length ls ≤ rows → (table : List ℕ) → length table ≡ rows * 1097
-    → length (chargedAll table ls) ≡ rows * 1097
+length-all : {rows : ℕ} (ls : List Located) (n : ℕ) → AllStorable n ls → n + length ls ≤ rows → (table : List ℕ) → length table ≡ rows * 210
+    → length (chargedAll table ls) ≡ rows * 210
 length-all [] n store-none h table long = unfold chargedAll in long
 length-all (l ∷ rest) n (store-more ok more) h table long =
     rw (charged-row table n l rest (ok .number))
     (length-all rest (suc n) more (omega arith) (rowOf table n l) (length-row table n (omega arith) long l ok))
 
-rows-kept : {rows : ℕ} (ls : List Located) (n : ℕ) → AllStorable n ls → n + length ls ≤ rows → (table : List ℕ) → length table ≡ rows * 1097
-    → (i : ℕ) → i < n * 1097 → getD (chargedAll table ls) i 0 ≡ getD table i 0
+rows-kept : {rows : ℕ} (ls : List Located) (n : ℕ) → AllStorable n ls → n + length ls ≤ rows → (table : List ℕ) → length table ≡ rows * 210
+    → (i : ℕ) → i < n * 210 → getD (chargedAll table ls) i 0 ≡ getD table i 0
 rows-kept [] n store-none h table long i p = unfold chargedAll in refl
 rows-kept (l ∷ rest) n (store-more ok more) h table long i p =
     rw (charged-row table n l rest (ok .number))
@@ -240,48 +314,86 @@ rows-kept (l ∷ rest) n (store-more ok more) h table long i p =
     ∙ row-before table n (omega arith) long l ok i p)
 
 -- one component's row, in the whole table
-row-in-table : {rows : ℕ} (table : List ℕ) (n : ℕ) (l : Located) (rest : List Located) → Storable n l → AllStorable (suc n) rest
-    → suc n + length rest ≤ rows → length table ≡ rows * 1097 → Clear n table
-    → rowEntries (chargedAll (rowOf table n l) rest) n ≡ entriesOf l
-unfolding entriesOf
-row-in-table {rows} table n l rest ok more h long clear =
-    row-entries (chargedAll (rowOf table n l) rest) n (actsOf l) counted (l .component) (ok .number)
-    (sym (agree-path (chargedAll (rowOf table n l) rest) (rowOf table n l) n small
-    (length-all rest (suc n) more h (rowOf table n l) long′) long′
-    (λ i p q. kept i (omega arith)) ∙ row-path table n small long l ok))
-  where
-    small : n < rows
-    small = omega arith
+module _ {rows : ℕ} (table : List ℕ) (n : ℕ) (l : Located) (rest : List Located) (ok : Storable n l) (more : AllStorable (suc n) rest)
+    (h : suc n + length rest ≤ rows) (long : length table ≡ rows * 210) (clear : Clear n table) (typed : worst (actsOf l) ≡ 11) where
+  abbrev whole : List ℕ
+  whole = chargedAll (rowOf table n l) rest
 
-    long′ : length (rowOf table n l) ≡ rows * 1097
-    long′ = length-row table n small long l ok
+  small : n < rows
+  small = omega arith
 
-    kept : (i : ℕ) → i < suc n * 1097 → getD (chargedAll (rowOf table n l) rest) i 0 ≡ getD (rowOf table n l) i 0
-    kept i p = rows-kept rest (suc n) more h (rowOf table n l) long′ i p
+  long′ : length (rowOf table n l) ≡ rows * 210
+  long′ = length-row table n small long l ok
 
-    below : (k c : ℕ) → k < 16 → c < 68 → cellOf n k c < suc n * 1097
-    below k c p q = unfold cellOf in omega arith
+  kept : (i : ℕ) → i < suc n * 210 → getD whole i 0 ≡ getD (rowOf table n l) i 0
+  kept i p = rows-kept rest (suc n) more h (rowOf table n l) long′ i p
 
-    same : (k c : ℕ) → k < 16 → c < 68 → cell (chargedAll (rowOf table n l) rest) n k c ≡ cell (rowOf table n l) n k c
-    same k c p q = unfold cell in kept (cellOf n k c) (below k c p q)
+  head : (i : ℕ) → n * 210 ≤ i → i < n * 210 + 18 → getD whole i 0 ≡ getD (rowOf table n l) i 0
+  head i p q = kept i (omega arith)
 
-    row : Counted (rowOf table n l) n (actsOf l)
-    row = row-counted table n small long l ok clear
+  below : (k c : ℕ) → k < 16 → c < 12 → cellOf n k c < suc n * 210
+  below k c p q = unfold cellOf in omega arith
 
-    counted : Counted (chargedAll (rowOf table n l) rest) n (actsOf l)
-    counted = record {
-      few = ok .few;
-      cells = λ k c p q. same k c p (omega arith) ∙ row .cells k c p q;
-      past = λ k g p q h. same k g p (omega arith) ∙ row .past k g p q (omega (arith, same k 67 p (omega arith)));
-    }
+  same : (k c : ℕ) → k < 16 → c < 12 → cell whole n k c ≡ cell (rowOf table n l) n k c
+  same k c p q = unfold cell in kept (cellOf n k c) (below k c p q)
+
+  row : Counted (rowOf table n l) n (l .component .path) (actsOf l)
+  row = row-counted table n small long l ok clear typed
+
+  counted : Counted whole n (l .component .path) (actsOf l)
+  counted = record {
+    few = row .few;
+    short = row .short;
+    inside = row .inside;
+    number = same-count (rowOf table n l) whole n head ∙ row .number;
+    groups = λ i p. same-group i (omega (arith, groups-few (l .component .path), row .short)) ∙ row .groups i p;
+    cells = λ k c p q. same k c p (omega arith) ∙ row .cells k c p q;
+    unmarked = λ k c p q u. same k c p (omega arith) ∙ row .unmarked k c p q (sym (same k 11 p (omega arith)) ∙ u);
+  }
+    where
+      same-group : (i : ℕ) → i < 8 → groupAt whole n i ≡ groupAt (rowOf table n l) n i
+      same-group i p = unfold groupAt in head (n * 210 + (10 + i)) (omega arith) (omega arith)
+
+  row-in-table : rowEntries whole n ≡ entriesOf l
+  unfolding entriesOf
+  row-in-table =
+      row-entries whole n (l .component .path) (actsOf l) counted (l .component) (ok .number)
+      (sym (agree-path whole (rowOf table n l) n small (length-all rest (suc n) more h (rowOf table n l) long′) long′
+      (λ i p q. kept i (omega arith)) ∙ row-path table n small long l ok))
+
+  row-orderly : Orderly whole n
+  row-orderly = orderly whole n (l .component .path) (actsOf l) counted
+
+-- All pass questions 7 to 10: the first does, and the others do.
+module _ (l : Located) (rest : List Located) (typed : worstAll (l ∷ rest) ≡ 11) where
+  typed-first : worst (actsOf l) ≡ 11
+  typed-first = let e : min (worst (actsOf l)) (worstAll rest) ≡ 11 = unfold worstAll in typed in omega (arith, worst-most (actsOf l))
+
+  typed-rest : worstAll rest ≡ 11
+  typed-rest = let e : min (worst (actsOf l)) (worstAll rest) ≡ 11 = unfold worstAll in typed in omega (arith, worstAll-most rest)
 
 -- The table of components that are stored one after another holds their entries.
-pub table-from : {rows : ℕ} (ls : List Located) (n : ℕ) → AllStorable n ls → n + length ls ≤ rows → (table : List ℕ) → length table ≡ rows * 1097
-    → Clear n table → gather (rowEntries (chargedAll table ls)) (rising n (length ls)) ≡ gather entriesOf ls
+pub table-from : {rows : ℕ} (ls : List Located) (n : ℕ) → AllStorable n ls → n + length ls ≤ rows → (table : List ℕ) → length table ≡ rows * 210
+    → Clear n table → worstAll ls ≡ 11 → gather (rowEntries (chargedAll table ls)) (rising n (length ls)) ≡ gather entriesOf ls
 unfolding gather rising
-table-from [] n store-none h table long clear = refl
-table-from (l ∷ rest) n (store-more ok more) h table long clear =
+table-from [] n store-none h table long clear typed = refl
+table-from (l ∷ rest) n (store-more ok more) h table long clear typed =
     rw (charged-row table n l rest (ok .number))
-    (ap₂ _++_ (row-in-table table n l rest ok more (omega arith) long clear)
+    (ap₂ _++_ (row-in-table table n l rest ok more (omega arith) long clear (typed-first l rest typed))
     (table-from rest (suc n) more (omega arith) (rowOf table n l) (length-row table n (omega arith) long l ok)
-    (row-clear table n (omega arith) long l ok clear)))
+    (row-clear table n (omega arith) long l ok clear) (typed-rest l rest typed)))
+
+-- Its rows have their groups in order.
+pub table-orderly : {rows : ℕ} (ls : List Located) (n : ℕ) → AllStorable n ls → n + length ls ≤ rows → (table : List ℕ) → length table ≡ rows * 210
+    → Clear n table → worstAll ls ≡ 11 → (m : ℕ) → n ≤ m → m < n + length ls → Orderly (chargedAll table ls) m
+table-orderly [] n store-none h table long clear typed m p q = absurd (omega arith)
+table-orderly (l ∷ rest) n (store-more ok more) h table long clear typed m p q =
+    rw (charged-row table n l rest (ok .number)) (go (ℕ-discrete n m)
+    (λ r. table-orderly rest (suc n) more (omega arith) (rowOf table n l) (length-row table n (omega arith) long l ok)
+    (row-clear table n (omega arith) long l ok clear) (typed-rest l rest typed) m r (omega arith))
+    (row-orderly table n l rest ok more (omega arith) long clear (typed-first l rest typed)))
+  where
+    go : Dec (n ≡ m) → (suc n ≤ m → Orderly (chargedAll (rowOf table n l) rest) m) → Orderly (chargedAll (rowOf table n l) rest) n
+        → Orderly (chargedAll (rowOf table n l) rest) m
+    go (yes e) later here = rw (← e) here
+    go (no f) later here = later (omega (arith, f))

@@ -5,7 +5,7 @@ use mathlib.Core.List.{List, [], _∷_}
 use mathlib.Core.Bool.{cond}
 use lib.ListN.{length, set}
 use Rattle.inference.specs.Interface.{holdsAny, disclosureBytes, entryBytes}
-use Rattle.inference.specs.Rows.{isSet, countOf, entryAt}
+use Rattle.inference.specs.Rows.{isSet, cell, countOf, entryAt}
 
 unfoldable pub storeBytes : List ℕ → ℕ → List ℕ → List ℕ
 storeBytes out at [] = out
@@ -20,7 +20,8 @@ pub record Stored (out out′ : List ℕ) (at : ℕ) (bytes : List ℕ) (r : ℕ
 unfoldable pub groupBytes : ℕ → ℕ → List ℕ
 groupBytes group count = cond (isSet count) (disclosureBytes (record { group = group; count = countOf count })) []
 
--- The bytes of the entry of a component and a kind that a table holds, none where there is no permission.
+-- The bytes of the entry of a component and a kind that a table holds, none where the kind is not marked or there is no permission.
 unfoldable pub entryBytesAt : List ℕ → ℕ → ℕ → List ℕ
 entryBytesAt table component kind =
-    cond (holdsAny (entryAt table component kind)) (entryBytes (entryAt table component kind)) []
+    cond (isSet (cell table component kind 11))
+    (cond (holdsAny (entryAt table component kind)) (entryBytes (entryAt table component kind)) []) []

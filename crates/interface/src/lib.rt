@@ -1,49 +1,49 @@
 // The interface's bytes, from the table of what components need: how many, and where they go.
 ghost use mathlib.Core.Path.{_≡_};
-ghost use mathlib.Core.List.{[], _∷_};
+ghost use mathlib.Core.List.{List, [], _∷_};
 ghost use Prim.Native.Nat.{_+_, _<_, _≤_, _%_};
 ghost use lib.ListN.{length, set};
 ghost use Rattle.reading.specs.Told.{pathOf};
-ghost use Rattle.inference.specs.Rows.{isSet, cell, extentAt, pathAt, disclosuresAt, entryAt, rowEntries, tableEntries};
-ghost use Rattle.inference.specs.Interface.{bit as flag, mapOf, disclosureBytes, listBytes, interfaceBytes};
+ghost use Rattle.inference.specs.Rows.{isSet, cell, pathAt, disclosuresAt, entryAt, rowEntries, tableEntries};
+ghost use Rattle.inference.specs.Interface.{Disclosure, bit as flag, mapOf, disclosureBytes, listBytes, interfaceBytes};
 ghost use Rattle.inference.specs.Lists.{gather};
 ghost use Rattle.interface.specs.Writes.{Stored, groupBytes, entryBytesAt};
 use inference::rows::cell_at;
 use inference::rows::cell_of;
+use inference::rows::group_at;
+use inference::rows::group_count;
 use inference::rows::path_len;
 use inference::rows::path_of;
 use reading::Path;
 
 // What stands in the cell of a component, a kind and a column.
 pub fn count_at(table: &[u16], component: usize, kind: usize, column: usize) -> usize
-    requires { ⌜ (component < 32) × (kind < 16) × (column < 68) ⌝ }
+    requires { ⌜ (component < 32) × (kind < 16) × (column < 12) ⌝ }
     ensures { λ r. ⌜ r ≡ cell (now (table .entry)) component kind column ⌝ }
 {
     cell_at(table, cell_of(component, kind, column))
 }
 
-// The extent of a component and a kind: it discloses data of the kind to groups below it alone.
-pub fn extent_at(table: &[u16], component: usize, kind: usize) -> usize
+// Does a component need anything of a kind?
+pub fn is_used(table: &[u16], component: usize, kind: usize) -> bool
     requires { ⌜ (component < 32) × (kind < 16) ⌝ }
-    ensures { λ r. ⌜ r ≡ extentAt (now (table .entry)) component kind ⌝ }
-    ensures few { λ r. ⌜ r ≤ 64 ⌝ }
+    ensures { λ r. ⌜ r ≡ isSet (cell (now (table .entry)) component kind 11) ⌝ }
 {
-    let extent = count_at(table, component, kind, 67);
-    if extent < 64 { extent } else { 64 }
+    count_at(table, component, kind, 11) != 0
 }
 
 // How many groups a component discloses data of a kind to.
 pub fn disclosed_groups(table: &[u16], component: usize, kind: usize) -> usize
     requires { ⌜ (component < 32) × (kind < 16) ⌝ }
     ensures { λ r. ⌜ r ≡ length (disclosuresAt (now (table .entry)) component kind) ⌝ }
-    ensures few { λ r. ⌜ r ≤ 64 ⌝ }
+    ensures few { λ r. ⌜ r ≤ 8 ⌝ }
 {
-    let extent = extent_at(table, component, kind);
+    let count = group_count(table, component);
     let mut n: usize = 0;
-    let mut group: usize = 0;
-    while group < extent {
-        n += bit(count_at(table, component, kind, group), 1);
-        group += 1;
+    let mut place: usize = 0;
+    while place < count {
+        n += bit(count_at(table, component, kind, place), 1);
+        place += 1;
     }
     n
 }
@@ -55,15 +55,14 @@ fn bit(count: usize, value: usize) -> usize
     if count == 0 { 0 } else { value }
 }
 
-// The permission map of an entry; 0 where there is no permission.
-pub fn map_at(table: &[u16], component: usize, kind: usize) -> usize
-    requires { ⌜ (component < 32) × (kind < 16) ⌝ }
+// The permission map of an entry that discloses to so many groups; 0 where there is no permission.
+pub fn map_at(table: &[u16], component: usize, kind: usize, groups: usize) -> usize
+    requires { ⌜ (component < 32) × (kind < 16) × (groups ≡ length (disclosuresAt (now table) component kind)) ⌝ }
     ensures { λ r. ⌜ r ≡ mapOf (entryAt (now (table .entry)) component kind) ⌝ }
 {
-    bit(count_at(table, component, kind, 64), 1)
-        + (bit(count_at(table, component, kind, 65), 2)
-            + (bit(count_at(table, component, kind, 66), 4)
-                + bit(disclosed_groups(table, component, kind), 16)))
+    bit(count_at(table, component, kind, 8), 1)
+        + (bit(count_at(table, component, kind, 9), 2)
+            + (bit(count_at(table, component, kind, 10), 4) + bit(groups, 16)))
 }
 
 // The length of a component's path.
@@ -75,13 +74,12 @@ fn path_size(table: &[u16], component: usize) -> usize
     path_len(path_of(table, component))
 }
 
-// The length of an entry's disclose list, 0 where there is none.
-fn list_len(table: &[u16], component: usize, kind: usize) -> usize
-    requires { ⌜ (component < 32) × (kind < 16) ⌝ }
-    ensures { λ r. ⌜ r ≡ length (listBytes (disclosuresAt (now (table .entry)) component kind)) ⌝ }
-    ensures few { λ r. ⌜ r ≤ 193 ⌝ }
+// The length of a disclose list of so many groups, 0 where there is none.
+fn list_len(groups: usize) -> usize
+    requires { ⌜ groups ≤ 8 ⌝ }
+    ensures { λ r. ⌜ ((ds : List Disclosure) → groups ≡ length ds → r ≡ length (listBytes ds)) ⌝ }
+    ensures few { λ r. ⌜ r ≤ 25 ⌝ }
 {
-    let groups = disclosed_groups(table, component, kind);
     if groups == 0 { 0 } else { 1 + 3 * groups }
 }
 
@@ -90,10 +88,14 @@ pub fn entry_len(table: &[u16], component: usize, kind: usize) -> usize
     requires { ⌜ (component < 32) × (kind < 16) ⌝ }
     ensures { λ r. ⌜ r ≡ length (entryBytesAt (now (table .entry)) component kind) ⌝ }
 {
-    if map_at(table, component, kind) == 0 {
+    if !is_used(table, component, kind) {
         return 0;
     }
-    3 + (path_size(table, component) + list_len(table, component, kind))
+    let groups = disclosed_groups(table, component, kind);
+    if map_at(table, component, kind, groups) == 0 {
+        return 0;
+    }
+    3 + (path_size(table, component) + list_len(groups))
 }
 
 // The length of the entries of a component.
@@ -190,22 +192,29 @@ fn put_disclosures(table: &[u16], component: usize, kind: usize, out: &mut [u8],
     ensures { λ r. ⌜ Stored (now (out .entry)) (now (out .exit)) at
         (gather disclosureBytes (disclosuresAt (now (table .entry)) component kind)) r ⌝ }
 {
-    let extent = extent_at(table, component, kind);
+    let count = group_count(table, component);
     let mut next = at;
-    let mut group: usize = 0;
-    while group < extent {
-        next = put_disclosure(count_at(table, component, kind, group), group, out, next);
-        group += 1;
+    let mut place: usize = 0;
+    while place < count {
+        let group = group_at(table, component, place);
+        next = put_disclosure(count_at(table, component, kind, place), group, out, next);
+        place += 1;
     }
     next
 }
 
-// Writes an entry's disclose list, where there is one.
-fn put_list(table: &[u16], component: usize, kind: usize, out: &mut [u8], at: usize) -> usize
-    requires { ⌜ (component < 32) × (kind < 16) × (at < 4000000000) ⌝ }
+// Writes an entry's disclose list of so many groups, where there is one.
+fn put_list(
+    table: &[u16],
+    component: usize,
+    kind: usize,
+    groups: usize,
+    out: &mut [u8],
+    at: usize,
+) -> usize
+    requires { ⌜ (component < 32) × (kind < 16) × (groups ≡ length (disclosuresAt (now table) component kind)) × (at < 4000000000) ⌝ }
     ensures { λ r. ⌜ Stored (now (out .entry)) (now (out .exit)) at (listBytes (disclosuresAt (now (table .entry)) component kind)) r ⌝ }
 {
-    let groups = disclosed_groups(table, component, kind);
     if groups == 0 {
         return at;
     }
@@ -218,14 +227,18 @@ fn put_entry(table: &[u16], component: usize, kind: usize, out: &mut [u8], at: u
     requires { ⌜ (component < 32) × (kind < 16) × (at < 3000000000) ⌝ }
     ensures { λ r. ⌜ Stored (now (out .entry)) (now (out .exit)) at (entryBytesAt (now (table .entry)) component kind) r ⌝ }
 {
-    let map = map_at(table, component, kind);
+    if !is_used(table, component, kind) {
+        return at;
+    }
+    let groups = disclosed_groups(table, component, kind);
+    let map = map_at(table, component, kind, groups);
     if map == 0 {
         return at;
     }
     let first = put(out, at, kind);
     let second = put_path(table, component, out, first);
     let third = put(out, second, map);
-    put_list(table, component, kind, out, third)
+    put_list(table, component, kind, groups, out, third)
 }
 
 // Writes the entries of a component.

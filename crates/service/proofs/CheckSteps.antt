@@ -74,7 +74,7 @@ module _ (s c table nodes : List ℕ) (r : Judged) (j : Judges s c table nodes r
       → Delivered (interfaceBytes (tableEntries table (r .components))) output output′ answer → Checked s c output output′ answer
   delivers output output′ answer h d =
       let p = first-passes s c (omega (arith, j .first)) in
-      delivered output output′ answer p (rw (j .held (p .accepted .sheet) (p .end) (p .reads)) at d)
+      delivered output output′ answer p (rw (j .held (omega arith) (p .accepted .sheet) (p .end) (p .reads)) at d)
 
 -- A sheet that does not read is refused with the reading's question.
 pub unread-refused : (s c output : List ℕ) (r : NumberRead) (q w : Refusal) → number r ≡ countedIn (sheetOf s c) → r ≡ number-read.Refused q

@@ -23,11 +23,13 @@ use Rattle.reading.proofs.Parts.{never, passed as test-passed}
 use Rattle.reading.proofs.ReadLaws.{one-tree}
 use Rattle.reading.proofs.TreeLaws.{SheetParts, sheet-parts}
 use Rattle.inference.specs.Interface.{Entry, interface, Required, requiredOf}
-use Rattle.inference.specs.Rows.{tableEntries, tableRequired}
-use Rattle.inference.specs.Walks.{InferredSheet}
+use Rattle.inference.specs.Rows.{Orderly, tableEntries, tableRequired}
+use Rattle.inference.specs.Acts.{located}
+use Rattle.inference.specs.Walks.{InferredSheet, worstAll}
+use Rattle.inference.proofs.WalkLaws.{worstAll-most}
 use Rattle.inference.specs.declared.SystemWalk.{SystemWalk}
 use Rattle.interface.proofs.TableLaws.{Clear as ClearFrom}
-use Rattle.interface.proofs.StoreLaws.{sheet-table, sheet-components, clear-zeros}
+use Rattle.interface.proofs.StoreLaws.{sheet-table, sheet-orderly, sheet-components, clear-zeros}
 use Rattle.policy.specs.Syntax.{Tree}
 use Rattle.policy.specs.Reading.{readPolicy}
 use Rattle.policy.specs.Loads.{AllHeld, Bounded, LoadedPolicy, unread, loaded}
@@ -101,15 +103,15 @@ module _ (c nodes : List ℕ) (p : PolicyRead) where
 
   -- the three returns
   module _ (l : LoadedPolicy c (readPolicy c) nodes p) (required : Required) (n : ℕ) where
-    pub charter-unread : (q w : Refusal) → p .end ≡ end-case.Refused q → w ≡ whyNone (p .end)
+    unread-decides : (q w : Refusal) → p .end ≡ end-case.Refused q → w ≡ whyNone (p .end)
         → JudgesLater c nodes required n (record { fault = w .question; components = n; trees = p .trees })
-    charter-unread q w h k = record {
+    unread-decides q w h k = record {
       first = not-read l q w h k required;
       number = refl;
       trees-held = λ past. absurd (omega (arith, past, reads-eleven (readPolicy c) refl l q w h k));
     }
 
-    pub policy-decides : (m : ℕ) → p .end ≡ end-case.At m → (fault : ℕ)
+    policy-decides : (m : ℕ) → p .end ≡ end-case.At m → (fault : ℕ)
         → ((policy : List Tree) → AllHeld c nodes (p .trees) 0 policy → fault ≡ policyFault policy) → fault < 16
         → JudgesLater c nodes required n (record { fault = fault; components = n; trees = p .trees })
     policy-decides m h fault k lt = record {
@@ -128,24 +130,39 @@ module _ (c nodes : List ℕ) (p : PolicyRead) where
       trees-held = λ past. rows-held (readPolicy c) refl l m h;
     }
 
+-- The groups of so many components are in order.
+abbrev InOrder : List ℕ → ℕ → Type 0
+InOrder table n = (m : ℕ) → m < n → Orderly table m
+
+-- What comes before the entries needs no order of theirs.
+module _ (c nodes table : List ℕ) (p : PolicyRead) (n : ℕ) (l : LoadedPolicy c (readPolicy c) nodes p) where
+  pub charter-unread : (q w : Refusal) → p .end ≡ end-case.Refused q → w ≡ whyNone (p .end) → InOrder table n
+      → JudgesLater c nodes (tableRequired table n) n (record { fault = w .question; components = n; trees = p .trees })
+  charter-unread q w h k order = unread-decides c nodes p l (tableRequired table n) n q w h k
+
+  pub policy-fails : (m : ℕ) → p .end ≡ end-case.At m → (fault : ℕ)
+      → ((policy : List Tree) → AllHeld c nodes (p .trees) 0 policy → fault ≡ policyFault policy) → fault < 16 → InOrder table n
+      → JudgesLater c nodes (tableRequired table n) n (record { fault = fault; components = n; trees = p .trees })
+  policy-fails m h fault k lt order = policy-decides c nodes p l (tableRequired table n) n m h fault k lt
+
 -- The entries' own number, or 64.
 module _ (c nodes table : List ℕ) (p : PolicyRead) (n : ℕ) (l : LoadedPolicy c (readPolicy c) nodes p) (m : ℕ) (h : p .end ≡ end-case.At m) (fault v : ℕ)
     (k : (policy : List Tree) → AllHeld c nodes (p .trees) 0 policy → fault ≡ policyFault policy) (le : 16 ≤ fault)
-    (q : (policy : List Tree) → AllHeld c nodes (p .trees) 0 policy → v ≡ entriesFault policy (tableRequired table n) (tableEntries table n)) where
-  pub entries-fail : v < 19 → JudgesLater c nodes (tableRequired table n) n (record { fault = v; components = n; trees = p .trees })
+    (q : (policy : List Tree) → AllHeld c nodes (p .trees) 0 policy → InOrder table n → v ≡ entriesFault policy (tableRequired table n) (tableEntries table n)) where
+  pub entries-fail : v < 19 → InOrder table n → JudgesLater c nodes (tableRequired table n) n (record { fault = v; components = n; trees = p .trees })
   unfolding tableRequired orPassed
-  entries-fail lt = entries-decide c nodes p l (tableRequired table n) n m h fault v v k le q (rw (lt-ltb v 19 lt) refl)
+  entries-fail lt order = entries-decide c nodes p l (tableRequired table n) n m h fault v v k le (λ policy held. q policy held order) (rw (lt-ltb v 19 lt) refl)
 
-  pub entries-pass : 19 ≤ v → JudgesLater c nodes (tableRequired table n) n (record { fault = 64; components = n; trees = p .trees })
+  pub entries-pass : 19 ≤ v → InOrder table n → JudgesLater c nodes (tableRequired table n) n (record { fault = 64; components = n; trees = p .trees })
   unfolding tableRequired orPassed
-  entries-pass ge = entries-decide c nodes p l (tableRequired table n) n m h fault v 64 k le q (rw (le-ltb v 19 ge) refl)
+  entries-pass ge order = entries-decide c nodes p l (tableRequired table n) n m h fault v 64 k le (λ policy held. q policy held order) (rw (le-ltb v 19 ge) refl)
 
 -- A table of another length is never lent.
-pub no-table : (c nodes : List ℕ) (required : Required) (components : ℕ) (r : Judged) → length nodes ≡ 320 → (length nodes ≡ 320 → ⊥)
-    → JudgesLater c nodes required components r
-no-table c nodes required components r e n = absurd (n e)
+pub no-table : (c nodes table : List ℕ) (n : ℕ) (r : Judged) → length nodes ≡ 320 → (length nodes ≡ 320 → ⊥) → InOrder table n
+    → JudgesLater c nodes (tableRequired table n) n r
+no-table c nodes table n r e f order = absurd (f e)
 
-pub ruleset policy-judging = (needs, charter-unread, bounded, policy-decides, entries-fail, entries-pass)
+pub ruleset policy-judging = (needs, charter-unread, bounded, policy-fails, entries-fail, entries-pass)
 
 -- Questions 7 to 18 of a sheet that reads.
 pub sheet-reads : (s c : List ℕ) (sheet : Sheet) (k : ℕ) → sheetOf s c ≡ got sheet k → readSheet s ≡ got sheet k
@@ -171,33 +188,46 @@ module _ (s c table table′ : List ℕ) (walk : SystemWalk) (ready : Ready s c 
   pub few-components : walk .components ≤ 32
   few-components = omega (arith, here .number, sheet-components s c (reads .tree) (reads .end) whole)
 
-  table-is : tableEntries table′ (walk .components) ≡ interface (reads .tree)
-  table-is =
-      ap₂ tableEntries (here .counted) (here .number)
-      ∙ sheet-table s c (reads .tree) (reads .end) whole (ready .rows) (ready .room) table (ready .long) (unfold ClearFrom in λ i p. ready .zeros i)
+  module _ (typed : 11 ≤ walk .fault) where
+    passes : worstAll (located (reads .tree)) ≡ 11
+    passes = omega (arith, here .first, worstAll-most (located (reads .tree)))
 
-  holds : (tree : Sheet) (end : ℕ) → sheetOf s c ≡ got tree end → tableEntries table′ (walk .components) ≡ interface tree
-  holds tree end e = table-is ∙ ap interface (one-tree s c (reads .reads) e)
+    zeros : ClearFrom 0 table
+    zeros = unfold ClearFrom in λ i p. ready .zeros i
 
-  requires-is : tableRequired table′ (walk .components) ≡ requiredOf (reads .tree)
-  unfolding tableRequired requiredOf
-  requires-is = ap (λ (es : List Entry). record { entries = es }) table-is
+    table-is : tableEntries table′ (walk .components) ≡ interface (reads .tree)
+    table-is =
+        ap₂ tableEntries (here .counted) (here .number)
+        ∙ sheet-table s c (reads .tree) (reads .end) whole (ready .rows) (ready .room) table (ready .long) zeros passes
+
+    in-order : InOrder table′ (walk .components)
+    in-order n p =
+        rw (here .counted) (sheet-orderly s c (reads .tree) (reads .end) whole (ready .rows) (ready .room) table (ready .long) zeros passes n (omega (arith, here .number)))
+
+    holds : (tree : Sheet) (end : ℕ) → sheetOf s c ≡ got tree end → tableEntries table′ (walk .components) ≡ interface tree
+    holds tree end e = table-is ∙ ap interface (one-tree s c (reads .reads) e)
+
+    requires-is : tableRequired table′ (walk .components) ≡ requiredOf (reads .tree)
+    unfolding tableRequired requiredOf
+    requires-is = ap (λ (es : List Entry). record { entries = es }) table-is
 
   pub typing-fails : (nodes : List ℕ) (trees : Trees) → walk .fault < 11
       → Judges s c table′ nodes (record { fault = walk .fault; components = walk .components; trees = trees })
   typing-fails nodes trees h = record {
     first = here .first ∙ judged-typing s c (reads .tree) (reads .end) (reads .reads) (omega (arith, here .first));
     few = few-components;
-    held = holds;
+    orderly = λ past. absurd (omega arith);
+    held = λ past. absurd (omega arith);
     trees-held = λ past. absurd (omega arith);
   }
 
   pub typing-passes : (nodes : List ℕ) (r : Judged) → 11 ≤ walk .fault
-      → JudgesLater c nodes (tableRequired table′ (walk .components)) (walk .components) r → Judges s c table′ nodes r
-  typing-passes nodes r h j = record {
-    first = j .first ∙ ap (laterFault c) requires-is ∙ judged-later s c (reads .tree) (reads .end) (reads .reads) (omega (arith, here .first));
+      → (InOrder table′ (walk .components) → JudgesLater c nodes (tableRequired table′ (walk .components)) (walk .components) r) → Judges s c table′ nodes r
+  typing-passes nodes r h later = let j = later (in-order h) in record {
+    first = j .first ∙ ap (laterFault c) (requires-is h) ∙ judged-later s c (reads .tree) (reads .end) (reads .reads) (omega (arith, here .first));
     few = omega (arith, j .number, few-components);
-    held = rw (j .number) holds;
+    orderly = λ past. rw (j .number) (in-order h);
+    held = λ past. rw (j .number) (holds h);
     trees-held = j .trees-held;
   }
 
@@ -235,19 +265,19 @@ module _ (s c : List ℕ) (r : NumberRead) (told : number r ≡ countedIn (sheet
         go (refused p m) i u = never (sym (ap number (sym f) ∙ u))
 
     -- a new table of enough rows
-    ready : (rows : ℕ) → n .value ≤ rows → Ready s c (replicate (rows * 1097) 0)
+    ready : (rows : ℕ) → n .value ≤ rows → Ready s c (replicate (rows * 210) 0)
     ready rows h = record {
       reads = record { tree = counts .sheet; end = counts .end; reads = counts .reads };
       rows = rows;
       room = omega (arith, counts .number-is);
-      long = length-replicate {A = ℕ} (rows * 1097) 0;
-      zeros = λ i. unfold ClearFrom in clear-zeros (rows * 1097) i (omega arith);
+      long = length-replicate {A = ℕ} (rows * 210) 0;
+      zeros = λ i. unfold ClearFrom in clear-zeros (rows * 210) i (omega arith);
     }
 
-    pub few-ready : n .value ≤ 4 → Ready s c (replicate 4388 0)
+    pub few-ready : n .value ≤ 4 → Ready s c (replicate 840 0)
     few-ready h = ready 4 h
 
-    pub all-ready : Ready s c (replicate 35104 0)
+    pub all-ready : Ready s c (replicate 6720 0)
     all-ready = ready 32 (omega (arith, counts .number-is, sheet-components s c (counts .sheet) (counts .end) (sheet-parts s c (counts .reads))))
 
 pub ruleset judging = (needs, short-charter, typing-fails, typing-passes, unread-fails, few-ready, all-ready)

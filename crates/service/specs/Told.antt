@@ -7,7 +7,7 @@ use Rattle.reading.specs.Read.{got}
 use Rattle.reading.specs.Syntax.{Sheet, components}
 use Rattle.reading.specs.System.{sheetOf}
 use Rattle.inference.specs.Interface.{interface, Required}
-use Rattle.inference.specs.Rows.{tableEntries}
+use Rattle.inference.specs.Rows.{Orderly, tableEntries}
 use Rattle.policy.specs.Loads.{Bounded, AllHeld}
 use Rattle.policy.specs.Reading.{readPolicy}
 use Rattle.policy.specs.Syntax.{Tree}
@@ -44,7 +44,7 @@ pub record Ready (s charter table : List ℕ) : Type 0 where
   pub reads : Reads s charter
   pub rows : ℕ
   pub room : components (reads .tree .system) ≤ rows
-  pub long : length table ≡ rows * 1097
+  pub long : length table ≡ rows * 210
   pub zeros : (i : ℕ) → getD table i 0 ≡ 0
 
 -- A charter that reads, and its trees in the table of nodes.
@@ -61,12 +61,13 @@ pub record JudgesLater (charter nodes : List ℕ) (required : Required) (compone
   pub number : r .components ≡ components
   pub trees-held : 11 < r .fault → HoldsPolicy charter nodes (r .trees)
 
--- What questions 1 to 18 come to; a table that holds the interface of a sheet that reads, whether it passes them or not; and past
--- 11 the charter's trees.
+-- What questions 1 to 18 come to; past 10 a table that holds the interface of a sheet that reads, its groups in order; and past 11 the
+-- charter's trees.
 pub record Judges (sheet charter table nodes : List ℕ) (r : Judged) : Type 0 where
   pub first : r .fault ≡ firstFailed (judged sheet charter)
   pub few : r .components ≤ 32
-  pub held : (tree : Sheet) (end : ℕ) → sheetOf sheet charter ≡ got tree end → tableEntries table (r .components) ≡ interface tree
+  pub orderly : 10 < r .fault → (n : ℕ) → n < r .components → Orderly table n
+  pub held : 10 < r .fault → (tree : Sheet) (end : ℕ) → sheetOf sheet charter ≡ got tree end → tableEntries table (r .components) ≡ interface tree
   pub trees-held : 11 < r .fault → HoldsPolicy charter nodes (r .trees)
 
 -- Bytes that are written where there is room for them.

@@ -49,9 +49,9 @@ pub fn check(sheet: &[u8], charter: &[u8], output: &mut [u8]) -> Answer
         return Answer::Refused(refusal(read).question);
     };
     if components.value <= 4 {
-        let mut few = [0u16; 4388];
+        let mut few = [0u16; 840];
         return check_read(sheet, charter, &mut few, output);
     }
-    let mut table = [0u16; 35104];
+    let mut table = [0u16; 6720];
     check_read(sheet, charter, &mut table, output)
 }

@@ -1,8 +1,8 @@
 // Questions 1 to 18 of a sheet and a charter: the first that fails.
 ghost use mathlib.Core.Path.{_≡_};
-ghost use Prim.Native.Nat.{_≤_};
+ghost use Prim.Native.Nat.{ℕ, _<_, _≤_};
 ghost use lib.ListN.{length};
-ghost use Rattle.inference.specs.Rows.{tableRequired};
+ghost use Rattle.inference.specs.Rows.{Orderly, tableRequired};
 ghost use Rattle.service.specs.Questions.{judged};
 ghost use Rattle.service.specs.Told.{firstFailed, Ready, JudgesLater, Judges};
 use crate::Judged;
@@ -17,10 +17,11 @@ use reading::system::read;
 use reading::system::why_none;
 use wellformed::questions::policy_fault;
 
-// Questions 11 to 18 of a charter and a table of components, with a table for the charter's nodes: the first that fails, or 64.
+// Questions 11 to 18 of a charter and a table of components whose groups are in order, with a table for the charter's nodes: the first that fails, or 64.
 fn judge_with(charter: &[u8], table: &[u16], components: usize, nodes: &mut [usize]) -> Judged
     requires { ⌜ (components ≤ 32) × (length (now charter) ≤ 4096) × (length (now nodes) ≡ 320) ⌝ }
-    ensures { λ r. ⌜ JudgesLater (now (charter .entry)) (now (nodes .exit)) (tableRequired (now (table .entry)) components) components r ⌝ }
+    ensures { λ r. ⌜ (((n : ℕ) → n < components → Orderly (now (table .entry)) n)
+        → JudgesLater (now (charter .entry)) (now (nodes .exit)) (tableRequired (now (table .entry)) components) components r) ⌝ }
 {
     // Never so; said for the compiler, which then tests no index of the table again.
     if nodes.len() != 320 {
@@ -90,11 +91,11 @@ pub fn first_failed(sheet: &[u8], charter: &[u8]) -> usize
     };
     let mut nodes = [0usize; 320];
     if components.value <= 4 {
-        let mut few = [0u16; 4388];
+        let mut few = [0u16; 840];
         let judged = judge_read(sheet, charter, &mut few, &mut nodes);
         return judged.fault;
     }
-    let mut table = [0u16; 35104];
+    let mut table = [0u16; 6720];
     let judged = judge_read(sheet, charter, &mut table, &mut nodes);
     judged.fault
 }

@@ -5,5 +5,4 @@ use Rattle.interface.proofs.list_len.Statement.{statement}
 use Rattle.interface.proofs.list_len.Tie as tie
 
 pub list-len-spec : {M : Type 1} → statement M
-list-len-spec =
-    tie.close (tie.spec (λ c κs. search needs) (λ c. search needs) (λ c. search needs) (λ c. search interface-steps) (λ c. search interface-steps))
+list-len-spec = tie.close (tie.spec (λ c. search needs) (λ c. search needs) (λ c. search interface-steps) (λ c. search interface-steps))

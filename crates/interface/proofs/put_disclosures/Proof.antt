@@ -9,10 +9,10 @@ use Rattle.interface.proofs.put_disclosures.Statement.{statement}
 use Rattle.interface.proofs.put_disclosures.Tie as tie
 
 abbrev Inv-loop : tie.InvT-loop
-Inv-loop table component kind out₀ at extent next₀ group₀ out next group = Writing (groupBytesAt table component kind) 3 extent out₀ at out next group
+Inv-loop table component kind out₀ at count next₀ place₀ out next place = Writing (groupBytesAt table component kind) 3 count out₀ at out next place
 
 abbrev μ-loop : tie.MeasureT-loop
-μ-loop table component kind out₀ at extent next₀ group₀ out next group = extent - group
+μ-loop table component kind out₀ at count next₀ place₀ out next place = count - place
 
 pub put-disclosures-spec : {M : Type 1} → statement M
 put-disclosures-spec =
@@ -22,6 +22,7 @@ put-disclosures-spec =
     μ-loop
     (λ c κs. search needs)
     (λ c. search interface-steps)
+    (λ c κs. search needs)
     (λ c κs. search needs)
     (λ c κs. search needs)
     (λ c. search needs)

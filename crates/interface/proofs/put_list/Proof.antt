@@ -6,11 +6,4 @@ use Rattle.interface.proofs.put_list.Tie as tie
 
 pub put-list-spec : {M : Type 1} → statement M
 put-list-spec =
-    tie.close
-    (tie.spec
-    (λ c κs. search needs)
-    (λ c. search interface-steps)
-    (λ c κs. search needs)
-    (λ c κs. search needs)
-    (λ c. search needs)
-    (λ c. search interface-steps))
+    tie.close (tie.spec (λ c. search interface-steps) (λ c κs. search needs) (λ c κs. search needs) (λ c. search needs) (λ c. search interface-steps))

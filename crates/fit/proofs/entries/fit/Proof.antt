@@ -1,7 +1,6 @@
 -- The components done so far and those left give the whole (`RowsSoFar`); each component's answer is `row_fault`'s.
 use Prim.Native.Nat.{_-_}
-use borrow.Author.Needs.{needs}
-use Rattle.fit.proofs.EntryLaws.{RowsSoFar, rows-start, rows-next, rows-end}
+use Rattle.fit.proofs.EntryLaws.{RowsSoFar, fault-steps}
 use Rattle.fit.proofs.entries.fit.Statement.{statement}
 use Rattle.fit.proofs.entries.fit.Tie as tie
 
@@ -17,10 +16,10 @@ fit-spec =
     (tie.spec
     Inv-loop
     μ-loop
-    (λ c. search (needs, rows-start, rows-next, rows-end))
-    (λ c κs. search (needs, rows-start, rows-next, rows-end))
-    (λ c κs. search (needs, rows-start, rows-next, rows-end))
-    (λ c. search (needs, rows-start, rows-next, rows-end))
-    (λ c. search (needs, rows-start, rows-next, rows-end))
-    (λ c. search (needs, rows-start, rows-next, rows-end))
-    (λ c. search (needs, rows-start, rows-next, rows-end)))
+    (λ c. search fault-steps)
+    (λ c κs. search fault-steps)
+    (λ c κs. search fault-steps)
+    (λ c. search fault-steps)
+    (λ c. search fault-steps)
+    (λ c. search fault-steps)
+    (λ c. search fault-steps))

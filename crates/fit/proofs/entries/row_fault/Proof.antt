@@ -1,7 +1,6 @@
 -- The kinds done so far and those left give the whole (`KindsSoFar`); each kind's answer is `entry_fault`'s.
 use Prim.Native.Nat.{_-_}
-use borrow.Author.Needs.{needs}
-use Rattle.fit.proofs.EntryLaws.{KindsSoFar, kinds-start, kinds-next, kinds-end}
+use Rattle.fit.proofs.EntryLaws.{KindsSoFar, fault-steps}
 use Rattle.fit.proofs.entries.row_fault.Statement.{statement}
 use Rattle.fit.proofs.entries.row_fault.Tie as tie
 
@@ -17,10 +16,10 @@ row-fault-spec =
     (tie.spec
     Inv-loop
     μ-loop
-    (λ c. search (needs, kinds-start, kinds-next, kinds-end))
-    (λ c κs. search (needs, kinds-start, kinds-next, kinds-end))
-    (λ c κs. search (needs, kinds-start, kinds-next, kinds-end))
-    (λ c. search (needs, kinds-start, kinds-next, kinds-end))
-    (λ c. search (needs, kinds-start, kinds-next, kinds-end))
-    (λ c. search (needs, kinds-start, kinds-next, kinds-end))
-    (λ c. search (needs, kinds-start, kinds-next, kinds-end)))
+    (λ c. search fault-steps)
+    (λ c κs. search fault-steps)
+    (λ c κs. search fault-steps)
+    (λ c. search fault-steps)
+    (λ c. search fault-steps)
+    (λ c. search fault-steps)
+    (λ c. search fault-steps))

@@ -1,6 +1,6 @@
--- The extent is widened, then the group counted.
-use borrow.Author.Needs.{needs}
+-- A disclosure goes to the column of its group.
 use Rattle.inference.proofs.RowSteps.{row-steps}
+use borrow.Author.Needs.{needs}
 use Rattle.inference.proofs.rows.charge_disclosure.Statement.{statement}
 use Rattle.inference.proofs.rows.charge_disclosure.Tie as tie
 
