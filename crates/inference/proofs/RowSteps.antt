@@ -4,7 +4,7 @@ use Prim.Native.Nat.{ℕ, zero, suc, _+_, _-_, _*_, _%_, _≤_, _<_, min}
 use mathlib.Core.Bool.{Bool, true, false}
 use mathlib.Core.List.{List, [], _∷_}
 use mathlib.Core.Option.{some, none}
-use mathlib.Core.Path.{_≡_, refl, sym}
+use mathlib.Core.Path.{_≡_, refl, sym, _∙_}
 use native.Mathlib.Omega.{arith}
 use native.Mathlib.Numerals.{add-one}
 use borrow.Author.Tests.{lt-ltb, le-ltb, eq-eqb, ne-eqb}
@@ -16,7 +16,7 @@ use Rattle.reading.specs.Told.{pathOf}
 use Rattle.reading.specs.declared.Path.{Path}
 use Rattle.needs.specs.declared.Need.{Need}
 use Rattle.needs.specs.declared.Need.the-variants as need-case
-use Rattle.inference.specs.Rows.{bumped, chargeAt, cellOf, chargeCell, marked, chargeColumn, groupAt, groupCount, placeFrom, candidate, charge}
+use Rattle.inference.specs.Rows.{bumped, chargeAt, cellOf, chargeCell, marked, chargeColumn, groupAt, groupCount, placeFrom, candidate, kindOf, columnOf, charge}
 
 -- What stands at a place of a list, and that nothing stands past its end.
 pub elem-in : (l : List ℕ) (i : ℕ) → i < length l → some (getD l i 0) ≡ getElem? l i
@@ -128,30 +128,60 @@ pub search-none : (l : List ℕ) (c g n i : ℕ) → Searching l c g n i → n �
 unfolding placeFrom
 search-none l c g n i s m h = rw (← m) (let e : n - i ≡ 0 = omega arith in sym (rw e at (s .same)))
 
-pub place-charged : (l : List ℕ) (c k p q : ℕ) (b : Bool) {y : List ℕ} → p ≡ q → y ≡ chargeColumn l c k p b → y ≡ chargeColumn l c k q b
-place-charged l c k p q b e f = rw (← e) f
+-- What an act needs, by its kind and its column.
+module _ (n : Need) where
+  pub kind-none : n ≡ need-case.Nothing → 16 ≡ kindOf n
+  unfolding kindOf
+  kind-none e = rw e
 
-module _ (l : List ℕ) (c : ℕ) (n : Need) (b : Bool) where
-  pub charge-nothing : n ≡ need-case.Nothing → l ≡ charge l c n b
-  unfolding charge
-  charge-nothing e = rw e
+  pub kind-read : (k : ℕ) → n ≡ need-case.Read k → k ≡ kindOf n
+  unfolding kindOf
+  kind-read k e = rw e
 
-  pub charge-read : {y : List ℕ} (k : ℕ) → n ≡ need-case.Read k → y ≡ chargeColumn l c k 8 b → y ≡ charge l c n b
-  unfolding charge
-  charge-read k e h = rw e h
+  pub kind-written : (k : ℕ) → n ≡ need-case.Write k → k ≡ kindOf n
+  unfolding kindOf
+  kind-written k e = rw e
 
-  pub charge-write : {y : List ℕ} (k : ℕ) → n ≡ need-case.Write k → y ≡ chargeColumn l c k 9 b → y ≡ charge l c n b
-  unfolding charge
-  charge-write k e h = rw e h
+  pub kind-accessed : (k : ℕ) → n ≡ need-case.Access k → k ≡ kindOf n
+  unfolding kindOf
+  kind-accessed k e = rw e
 
-  pub charge-access : {y : List ℕ} (k : ℕ) → n ≡ need-case.Access k → y ≡ chargeColumn l c k 10 b → y ≡ charge l c n b
-  unfolding charge
-  charge-access k e h = rw e h
+  pub kind-disclosed : (k g : ℕ) → n ≡ need-case.Disclose k g → k ≡ kindOf n
+  unfolding kindOf
+  kind-disclosed k g e = rw e
 
-  pub charge-disclose : {y : List ℕ} (k g : ℕ) → n ≡ need-case.Disclose k g → y ≡ chargeColumn l c k (placeFrom l c g 0 (groupCount l c)) b
-      → y ≡ charge l c n b
-  unfolding charge
-  charge-disclose k g e h = rw e h
+  module _ (l : List ℕ) (c : ℕ) where
+    pub column-none : n ≡ need-case.Nothing → 11 ≡ columnOf l c n
+    unfolding columnOf
+    column-none e = rw e
+
+    pub column-read : (k : ℕ) → n ≡ need-case.Read k → 8 ≡ columnOf l c n
+    unfolding columnOf
+    column-read k e = rw e
+
+    pub column-written : (k : ℕ) → n ≡ need-case.Write k → 9 ≡ columnOf l c n
+    unfolding columnOf
+    column-written k e = rw e
+
+    pub column-accessed : (k : ℕ) → n ≡ need-case.Access k → 10 ≡ columnOf l c n
+    unfolding columnOf
+    column-accessed k e = rw e
+
+    pub column-disclosed : (k g r : ℕ) → n ≡ need-case.Disclose k g → r ≡ placeFrom l c g 0 (groupCount l c) → r ≡ columnOf l c n
+    unfolding columnOf
+    column-disclosed k g r e h = rw e h
+
+by-need : (l : List ℕ) (c : ℕ) (n : Need) (b : Bool) → chargeColumn l c (kindOf n) (columnOf l c n) b ≡ charge l c n b
+unfolding charge kindOf columnOf
+by-need l c need-case.Nothing b = unfold chargeColumn chargeCell marked in refl
+by-need l c (need-case.Read k) b = refl
+by-need l c (need-case.Write k) b = refl
+by-need l c (need-case.Access k) b = refl
+by-need l c (need-case.Disclose k g) b = refl
+
+pub need-charged : (l : List ℕ) (c : ℕ) (n : Need) (b : Bool) (k j : ℕ) {y : List ℕ} → k ≡ kindOf n → j ≡ columnOf l c n
+    → y ≡ chargeColumn l c k j b → y ≡ charge l c n b
+need-charged l c n b k j e f h = rw (e, f) at h ∙ by-need l c n b
 
 -- The length of a path as the code keeps it.
 module _ (p : Path) (h : length (p .groups) ≡ 8) where
@@ -204,15 +234,20 @@ pub ruleset row-steps = (
   search-found,
   search-next,
   search-none,
-  place-charged,
   nearer-before,
   nearer-this,
   nearer-best,
-  charge-nothing,
-  charge-read,
-  charge-write,
-  charge-access,
-  charge-disclose,
+  kind-none,
+  kind-read,
+  kind-written,
+  kind-accessed,
+  kind-disclosed,
+  column-none,
+  column-read,
+  column-written,
+  column-accessed,
+  column-disclosed,
+  need-charged,
   len-below,
   len-full,
   no-row,

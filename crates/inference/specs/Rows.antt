@@ -61,6 +61,21 @@ charge table component (Access kind) repeated = chargeColumn table component kin
 charge table component (Disclose kind group) repeated =
     chargeColumn table component kind (placeFrom table component group 0 (groupCount table component)) repeated
 
+-- the same by the kind and the column of a need, as the code counts it; there is no kind 16
+unfoldable pub kindOf : Need → ℕ
+kindOf Nothing = 16
+kindOf (Read kind) = kind
+kindOf (Write kind) = kind
+kindOf (Access kind) = kind
+kindOf (Disclose kind group) = kind
+
+unfoldable pub columnOf : List ℕ → ℕ → Need → ℕ
+columnOf table component Nothing = 11
+columnOf table component (Read kind) = 8
+columnOf table component (Write kind) = 9
+columnOf table component (Access kind) = 10
+columnOf table component (Disclose kind group) = placeFrom table component group 0 (groupCount table component)
+
 -- numbers stored one after another
 unfoldable pub stored : List ℕ → ℕ → List ℕ → List ℕ
 stored table at [] = table

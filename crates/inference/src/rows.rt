@@ -15,8 +15,10 @@ ghost use Rattle.inference.specs.Rows.{
   chargeAt,
   chargeCell,
   chargeColumn,
+  columnOf,
   groupAt,
   groupCount,
+  kindOf,
   marked,
   nextGroup,
   pathAt,
@@ -121,14 +123,31 @@ fn place_of(table: &[u16], component: usize, group: usize) -> usize
     11
 }
 
-// Counts a disclosure into a group.
-fn charge_disclosure(table: &mut [u16], component: usize, kind: usize, group: usize, repeated: bool)
-    requires { ⌜ component < 32 ⌝ }
-    ensures { λ r. ⌜ now (table .exit) ≡ chargeColumn (now (table .entry)) component kind
-        (placeFrom (now (table .entry)) component group 0 (groupCount (now (table .entry)) component)) repeated ⌝ }
+// The kind of which an act needs something, or 16.
+fn kind_of(need: Need) -> usize
+    ensures { λ r. ⌜ r ≡ kindOf need ⌝ }
 {
-    let place = place_of(table, component, group);
-    charge_column(table, component, kind, place, repeated);
+    match need {
+        Need::Nothing => 16,
+        Need::Read(kind) => kind,
+        Need::Write(kind) => kind,
+        Need::Access(kind) => kind,
+        Need::Disclose { kind, group: _ } => kind,
+    }
+}
+
+// The column in which it counts, or 11.
+fn column_of(table: &[u16], component: usize, need: Need) -> usize
+    requires { ⌜ component < 32 ⌝ }
+    ensures { λ r. ⌜ r ≡ columnOf (now (table .entry)) component need ⌝ }
+{
+    match need {
+        Need::Nothing => 11,
+        Need::Read(_) => 8,
+        Need::Write(_) => 9,
+        Need::Access(_) => 10,
+        Need::Disclose { kind: _, group } => place_of(table, component, group),
+    }
 }
 
 // Counts what an act needs in its component's row.
@@ -136,15 +155,8 @@ pub fn charge_need(table: &mut [u16], component: usize, need: Need, repeated: bo
     requires { ⌜ component < 32 ⌝ }
     ensures { λ r. ⌜ now (table .exit) ≡ charge (now (table .entry)) component need repeated ⌝ }
 {
-    match need {
-        Need::Nothing => {}
-        Need::Read(kind) => charge_column(table, component, kind, 8, repeated),
-        Need::Write(kind) => charge_column(table, component, kind, 9, repeated),
-        Need::Access(kind) => charge_column(table, component, kind, 10, repeated),
-        Need::Disclose { kind, group } => {
-            charge_disclosure(table, component, kind, group, repeated)
-        }
-    }
+    let column = column_of(table, component, need);
+    charge_column(table, component, kind_of(need), column, repeated);
 }
 
 // How many groups a path has.

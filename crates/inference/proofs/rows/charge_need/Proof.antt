@@ -1,4 +1,4 @@
--- What an act needs goes to its own column: each arm of the match is one clause of `charge`.
+-- What an act needs is counted by its kind and its column (`by-need`).
 use Rattle.inference.proofs.RowSteps.{row-steps}
 use borrow.Author.Needs.{needs}
 use Rattle.inference.proofs.rows.charge_need.Statement.{statement}
@@ -7,22 +7,4 @@ use Rattle.inference.proofs.rows.charge_need.Tie as tie
 pub charge-need-spec : {M : Type 1} → statement M
 charge-need-spec =
     tie.close
-    (tie.spec
-    (λ c. search needs)
-    (λ c. search needs)
-    (λ c κs. search needs)
-    (λ c. search needs)
-    (λ c κs. search needs)
-    (λ c. search needs)
-    (λ c κs. search needs)
-    (λ c. search needs)
-    (λ c κs. search needs)
-    (λ c. search row-steps)
-    (λ c. search needs)
-    (λ c. search row-steps)
-    (λ c. search needs)
-    (λ c. search row-steps)
-    (λ c. search needs)
-    (λ c. search row-steps)
-    (λ c. search needs)
-    (λ c. search row-steps))
+    (tie.spec (λ c κs. search needs) (λ c κs. search needs) (λ c κs. search needs) (λ c. search needs) (λ c. search row-steps))
