@@ -1,15 +1,17 @@
 -- What an entry of a table lacks, found by its flags and then by the groups of its component, place by place; it is covered where it
 -- lacks nothing. And the first question that any entry fails is the least of those of the entries.
-use Prim.Native.Nat.{ℕ, zero, suc, _+_, _-_, _<_, _≤_, min}
+use Prim.Native.Nat.{ℕ, zero, suc, _+_, _-_, _*_, _<_, _≤_, min}
 use mathlib.Core.Path.{_≡_, refl, sym, ap, ap₂, _∙_}
 use mathlib.Core.List.{List, [], _∷_, _++_, map}
 use mathlib.Core.Bool.{Bool, true, false, cond, not, _&&_, _||_}
 use mathlib.Core.Option.{Option, some, none}
 use native.Mathlib.Omega.{arith}
-use lib.ListN.{length, take, getD}
-use lib.Dec.{ltb}
+use lib.ListN.{length, take, getD, replicate, length-replicate}
+use native.Mathlib.Decide.{ℕ-discrete}
+use lib.Dec.{ltb, eqb}
 use borrow.Author.Needs.{needs}
-use borrow.Author.Tests.{lt-ltb, le-ltb, ne-eqb, not-true, not-false}
+use borrow.Author.Tests.{lt-ltb, le-ltb, eq-eqb, ne-eqb, not-true, not-false}
+use Rattle.reading.proofs.TotalLaws.{both-left, both-right}
 use Rattle.inference.specs.Lists.{every, any, only, gather, rising}
 use Rattle.inference.specs.Counts.{Count, atMost, isZero}
 use Rattle.inference.specs.Interface.{Disclosure, Entry, Permission, reading, writing, accessing, disclosing, flagged, permissions, holdsAny, mapOf, Required}
@@ -28,9 +30,12 @@ use Rattle.inference.specs.Rows.{
   tableEntries,
   tableRequired,
 }
-use Rattle.inference.proofs.RequiredLaws.{needed-cells}
 use Rattle.interface.proofs.InterfaceLaws.{set-count, map-none, map-some}
+use Rattle.interface.proofs.StoreLaws.{clear-zeros}
+use Rattle.interface.proofs.TableLaws.{Clear}
 use Rattle.interface.proofs.WriteLaws.{rising-next, rising-done}
+use Rattle.sharing.specs.Sums.{addRows, anyShared, neededAt, sumCount, Summed}
+use Rattle.sharing.proofs.SharingLaws.{class-sums, lone-sums}
 use Rattle.policy.specs.Syntax.{Tree}
 use Rattle.fit.specs.Satisfies.{pathReached, grantsOne, covered}
 use Rattle.policy.specs.declared.Trees.{Trees}
@@ -117,7 +122,8 @@ module _ (policy : List Tree) (required : Required) (table : List ℕ) (n k : �
       ∙ ap (λ (x : Option Permission). cond (not (isSet (cell table n k 9)) || not (lacks writing)) x (some writing))
       (first-flagged lacks (isSet (cell table n k 10)) accessing _))
 
-  module _ (c nodes rows : List ℕ) (gives : Gives c nodes policy k (pathAt table n) rows) (up : Orderly table n) where
+  module _ (c nodes rows : List ℕ) (gives : Gives c nodes policy k (pathAt table n) rows) (up : Orderly table n)
+      (sums : List ℕ) (sum : Summed table sums required n k) where
     -- a flag that is not lacking is covered by the rows
     flag-rows : (col : ℕ) (q : Permission) (v : ℕ) → grantsOne policy required (entryAt table n k) q ≡ flagGiven v c nodes rows
         → (not (isSet (cell table n k col)) || not (lacks q)) ≡ flagCovers v c nodes rows (cell table n k col)
@@ -130,25 +136,25 @@ module _ (policy : List Tree) (required : Required) (table : List ℕ) (n k : �
 
     -- so is a count
     group-rows : (i : ℕ) → i < groupCount table n
-        → lacks (disclosing (groupAt table n i)) ≡ not (atMost (countOf (cell table n k i)) (joinedAt (groupAt table n i) c nodes rows))
+        → lacks (disclosing (groupAt table n i)) ≡ not (atMost (sumCount (neededAt sums table n k i)) (joinedAt (groupAt table n i) c nodes rows))
     unfolding lacks
     group-rows i l =
         ap not (entry-disclosing gives required (entryAt table n k) (unfold entryAt in refl) (unfold entryAt in refl) (groupAt table n i)
-        ∙ ap (λ (x : Count). atMost x (joinedAt (groupAt table n i) c nodes rows)) (needed-cells required table n k i l up))
+        ∙ ap (λ (x : Count). atMost x (joinedAt (groupAt table n i) c nodes rows)) (sum .holds i l))
 
     groups-rows : (from m : ℕ) → from + m ≤ groupCount table n
-        → first lacks (groupsOf (rising from m)) ≡ missingOf (missingFrom from m c nodes rows table n k)
+        → first lacks (groupsOf (rising from m)) ≡ missingOf (missingFrom from m c nodes rows table sums n k)
     unfolding rising groupsOf missingFrom first only item countCovers isSet
     groups-rows from zero l = unfold missingOf orNone in refl
     groups-rows from (suc m) l =
-        go (isSet (cell table n k from)) (atMost (countOf (cell table n k from)) (joinedAt (groupAt table n from) c nodes rows))
+        go (isSet (cell table n k from)) (atMost (sumCount (neededAt sums table n k from)) (joinedAt (groupAt table n from) c nodes rows))
         (set-count (cell table n k from)) (group-rows from (omega arith)) (groups-rows (suc from) m (omega arith))
       where
         later : List Disclosure
         later = only (λ d. not (isZero (d .count))) (map item (rising (suc from) m))
 
         found : Option ℕ
-        found = first (λ i. not (countCovers (groupAt table n i) c nodes rows (cell table n k i))) (rising (suc from) m)
+        found = first (λ i. not (countCovers (groupAt table n i) c nodes rows (cell table n k i) (neededAt sums table n k i))) (rising (suc from) m)
 
         go : (b a : Bool) → not (isZero (countOf (cell table n k from))) ≡ b → lacks (disclosing (groupAt table n from)) ≡ not a
             → first lacks (map (λ d. disclosing (d .group)) later) ≡ missingOf (orNone table n found)
@@ -159,29 +165,30 @@ module _ (policy : List Tree) (required : Required) (table : List ℕ) (n k : �
         go true false e f rest = rw (e, f) (unfold orNone in sym (group-at (groupAt table n from) (up .low from (omega arith))))
 
     -- the first permission that an entry lacks, found among the rows that give to its path
-    pub missing-rows : firstMissing policy required (entryAt table n k) ≡ missingOf (missingAt c nodes rows table n k)
+    pub missing-rows : firstMissing policy required (entryAt table n k) ≡ missingOf (missingAt c nodes rows table sums n k)
     unfolding missingAt missingFlag flagGiven any
     missing-rows =
         missing-parts
-        ∙ three (missingFrom 0 (groupCount table n) c nodes rows table n k)
+        ∙ three (missingFrom 0 (groupCount table n) c nodes rows table sums n k)
         (flag-rows 8 reading 1 (entry-reading gives required (entryAt table n k) (unfold entryAt in refl) (unfold entryAt in refl)))
         (flag-rows 9 writing 2 (entry-writing gives required (entryAt table n k) (unfold entryAt in refl) (unfold entryAt in refl)))
         (flag-rows 10 accessing 4 (entry-accessing gives required (entryAt table n k) (unfold entryAt in refl) (unfold entryAt in refl)))
         (groups-rows 0 (groupCount table n) (omega arith))
 
-    pub covered-rows : covered policy required (entryAt table n k) ≡ not (ltb (missingAt c nodes rows table n k) 67)
-    covered-rows = covered-first policy required (entryAt table n k) ∙ ap isNone missing-rows ∙ none-missing (missingAt c nodes rows table n k)
+    pub covered-rows : covered policy required (entryAt table n k) ≡ not (ltb (missingAt c nodes rows table sums n k) 67)
+    covered-rows = covered-first policy required (entryAt table n k) ∙ ap isNone missing-rows ∙ none-missing (missingAt c nodes rows table sums n k)
 
   -- questions 17 and 18 of an entry, asked of the rows that give to its path
   module _ (c nodes : List ℕ) (start end : ℕ) (tree : TreeRows c nodes policy k start end)
-      (rows : List ℕ) (given : rows ≡ giversIn c nodes (pathAt table n) start (end - start)) (up : Orderly table n) where
-    pub fault-rows : cond (pathReached policy (entryAt table n k)) (cond (covered policy required (entryAt table n k)) 19 18) 17 ≡ rowsFault c nodes rows table n k
+      (rows : List ℕ) (given : rows ≡ giversIn c nodes (pathAt table n) start (end - start)) (up : Orderly table n)
+      (sums : List ℕ) (sum : Summed table sums required n k) where
+    pub fault-rows : cond (pathReached policy (entryAt table n k)) (cond (covered policy required (entryAt table n k)) 19 18) 17 ≡ rowsFault c nodes rows table sums n k
     unfolding rowsFault allGiven
     fault-rows =
         ap₂ (λ (a b : Bool). cond a (cond b 19 18) 17)
         (entry-reached c nodes policy k start end tree (pathAt table n) rows given (entryAt table n k) (unfold entryAt in refl) (unfold entryAt in refl))
-        (covered-rows c nodes rows (tree-gives c nodes policy k start end tree (pathAt table n) rows given) up)
-        ∙ split (every (λ row. ltb row 64) rows) (ltb (missingAt c nodes rows table n k) 67)
+        (covered-rows c nodes rows (tree-gives c nodes policy k start end tree (pathAt table n) rows given) up sums sum)
+        ∙ split (every (λ row. ltb row 64) rows) (ltb (missingAt c nodes rows table sums n k) 67)
       where
         split : (a b : Bool) → _≡_ {A = ℕ} (cond a (cond (not b) 19 18) 17) (cond a (cond b 18 19) 17)
         split true true = refl
@@ -196,35 +203,57 @@ no-fault : (policy : List Tree) (required : Required) (e : Entry) → holdsAny e
 unfolding entryFault
 no-fault policy required e h = rw h refl
 
-module _ (c nodes : List ℕ) (trees : Trees) (table : List ℕ) (n k : ℕ) (u : Bool) (is : u ≡ isSet (cell table n k 11)) where
-  pub unmarked : not u ≡ true → (policy : List Tree) → AllHeld c nodes trees 0 policy → Orderly table n → (required : Required)
-      → 19 ≡ kindFault policy required table n k
-  unmarked h policy held up required = rw (← is, not-true u h) refl
+-- An entry of a component and a kind: the kind is marked, and there is a permission.
+abbrev pub isEntry : List ℕ → ℕ → ℕ → Bool
+isEntry table n k = isSet (cell table n k 11) && holdsAny (entryAt table n k)
 
-  module _ (marked : not u ≡ false) (m : ℕ) (map : m ≡ mapOf (entryAt table n k)) where
-    pub no-entry : m ≡ 0 → (policy : List Tree) → AllHeld c nodes trees 0 policy → Orderly table n → (required : Required)
-        → 19 ≡ kindFault policy required table n k
-    no-entry h policy held up required = rw (← is, not-false u marked) (no-fault policy required (entryAt table n k) (map-none (entryAt table n k) (sym map ∙ h)))
+module _ (table : List ℕ) (n k : ℕ) (u : Bool) (is : u ≡ isSet (cell table n k 11)) where
+  pub unmarked : not u ≡ true → false ≡ isEntry table n k
+  unmarked h = rw (← is, not-true u h) refl
+
+  pub marked : not u ≡ false → (m : ℕ) → m ≡ mapOf (entryAt table n k) → not (eqb m 0) ≡ isEntry table n k
+  marked h m map = rw (← is, not-false u h) (go (ℕ-discrete m 0))
+    where
+      go : Dec (m ≡ 0) → not (eqb m 0) ≡ holdsAny (entryAt table n k)
+      go (yes e) = rw (eq-eqb m 0 e) (sym (map-none (entryAt table n k) (sym map ∙ e)))
+      go (no f) = rw (ne-eqb m 0 f) (sym (map-some (entryAt table n k) (λ e. f (map ∙ e))))
+
+module _ (c nodes : List ℕ) (trees : Trees) (table sums : List ℕ) (n k : ℕ) (u : Bool) (is : u ≡ isEntry table n k) where
+  pub no-entry : not u ≡ true → (policy : List Tree) → AllHeld c nodes trees 0 policy → Orderly table n → (required : Required) → Summed table sums required n k
+      → 19 ≡ kindFault policy required table n k
+  no-entry h policy held up required sum = go (isSet (cell table n k 11)) (holdsAny (entryAt table n k)) refl (sym is ∙ not-true u h)
+    where
+      go : (a b : Bool) → holdsAny (entryAt table n k) ≡ b → (a && b) ≡ false → 19 ≡ cond a (entryFault policy required (entryAt table n k)) 19
+      go true true e f = let z : _≡_ {A = ℕ} 0 1 = cc in absurd (omega arith)
+      go true false e f = no-fault policy required (entryAt table n k) e
+      go false b e f = refl
+
+  module _ (entry : not u ≡ false) where
+    both : isEntry table n k ≡ true
+    both = sym is ∙ not-false u entry
+
+    marks : isSet (cell table n k 11) ≡ true
+    marks = both-left (isSet (cell table n k 11)) (holdsAny (entryAt table n k)) both
+
+    holds : holdsAny (entryAt table n k) ≡ true
+    holds = both-right (isSet (cell table n k 11)) (holdsAny (entryAt table n k)) both
 
     -- by the tree of the kind
-    module _ (any : m ≡ 0 → ⊥) (bounded : Bounded trees) (kinds : length (trees .kinds) ≡ 16) (t : ℕ) (at : t ≡ indexOf k (take (trees .len) (trees .kinds))) where
-      holds : holdsAny (entryAt table n k) ≡ true
-      holds = map-some (entryAt table n k) (λ e. any (map ∙ e))
-
-      pub no-tree : trees .len ≤ t → (policy : List Tree) → AllHeld c nodes trees 0 policy → Orderly table n → (required : Required)
+    module _ (bounded : Bounded trees) (kinds : length (trees .kinds) ≡ 16) (t : ℕ) (at : t ≡ indexOf k (take (trees .len) (trees .kinds))) where
+      pub no-tree : trees .len ≤ t → (policy : List Tree) → AllHeld c nodes trees 0 policy → Orderly table n → (required : Required) → Summed table sums required n k
           → 16 ≡ kindFault policy required table n k
       unfolding entryFault
-      no-tree absent policy held up required =
-          rw (← is, not-false u marked, holds, entry-tree c nodes trees policy held (bounded .few) kinds k t at (entryAt table n k) (unfold entryAt in refl), le-ltb t (trees .len) absent) refl
+      no-tree absent policy held up required sum =
+          rw (marks, holds, entry-tree c nodes trees policy held (bounded .few) kinds k t at (entryAt table n k) (unfold entryAt in refl), le-ltb t (trees .len) absent) refl
 
       pub in-tree : t < trees .len → (start end r : ℕ) → start ≡ startOf trees t → end ≡ getD (trees .ends) t 0
-          → r ≡ rowsFault c nodes (giversIn c nodes (pathAt table n) start (end - start)) table n k
-          → (policy : List Tree) → AllHeld c nodes trees 0 policy → Orderly table n → (required : Required) → r ≡ kindFault policy required table n k
+          → r ≡ rowsFault c nodes (giversIn c nodes (pathAt table n) start (end - start)) table sums n k
+          → (policy : List Tree) → AllHeld c nodes trees 0 policy → Orderly table n → (required : Required) → Summed table sums required n k → r ≡ kindFault policy required table n k
       unfolding entryFault
-      in-tree here start end r p q e policy held up required =
-          rw (← is, not-false u marked, holds, entry-tree c nodes trees policy held (bounded .few) kinds k t at (entryAt table n k) (unfold entryAt in refl), lt-ltb t (trees .len) here)
+      in-tree here start end r p q e policy held up required sum =
+          rw (marks, holds, entry-tree c nodes trees policy held (bounded .few) kinds k t at (entryAt table n k) (unfold entryAt in refl), lt-ltb t (trees .len) here)
           (e ∙ sym (fault-rows policy required table n k c nodes start end (tree-rows c nodes trees policy held (bounded .few) kinds k t at here start end p q)
-          (giversIn c nodes (pathAt table n) start (end - start)) refl up))
+          (giversIn c nodes (pathAt table n) start (end - start)) refl up sums sum))
 
 pub tree-bounded : (trees : Trees) (t end : ℕ) → Bounded trees → end ≡ getD (trees .ends) t 0 → end ≤ 64
 tree-bounded trees t end bounded e = rw e (bounded .rows t)
@@ -285,76 +314,115 @@ row-first policy required table i m here =
     ∙ faults-append policy required (rowEntries table i) (gather (rowEntries table) (rising (i + 1) (m - (i + 1))))
 
 -- The kinds done so far and those left give the whole.
-pub record KindsSoFar (c nodes : List ℕ) (trees : Trees) (table : List ℕ) (n first kind : ℕ) : Type 0 where
+pub record KindsSoFar (c nodes : List ℕ) (trees : Trees) (table sums : List ℕ) (n first kind : ℕ) : Type 0 where
   pub within : kind ≤ 16
   pub most : first ≤ 19
-  pub whole : (policy : List Tree) → AllHeld c nodes trees 0 policy → Orderly table n → (required : Required)
+  pub whole : (policy : List Tree) → AllHeld c nodes trees 0 policy → Orderly table n → (required : Required) → ((k : ℕ) → k < 16 → Summed table sums required n k)
       → min first (kindsFault policy required table n kind (16 - kind)) ≡ kindsFault policy required table n 0 16
 
-pub kinds-start : (c nodes : List ℕ) (trees : Trees) (table : List ℕ) (n : ℕ) → KindsSoFar c nodes trees table n 19 0
-kinds-start c nodes trees table n = record {
+pub kinds-start : (c nodes : List ℕ) (trees : Trees) (table sums : List ℕ) (n : ℕ) → KindsSoFar c nodes trees table sums n 19 0
+kinds-start c nodes trees table sums n = record {
   within = omega arith;
   most = omega arith;
-  whole = λ policy held up required. omega (arith, faults-most policy required (map (entryAt table n) (only (λ k. isSet (cell table n k 11)) (rising 0 16))));
+  whole = λ policy held up required sum. omega (arith, faults-most policy required (map (entryAt table n) (only (λ k. isSet (cell table n k 11)) (rising 0 16))));
 }
 
-module _ (c nodes : List ℕ) (trees : Trees) (table : List ℕ) (n first kind : ℕ) (so : KindsSoFar c nodes trees table n first kind) where
+module _ (c nodes : List ℕ) (trees : Trees) (table sums : List ℕ) (n first kind : ℕ) (so : KindsSoFar c nodes trees table sums n first kind) where
   pub kinds-next : kind < 16 → (fault next : ℕ)
-      → ((policy : List Tree) → AllHeld c nodes trees 0 policy → Orderly table n → (required : Required) → fault ≡ kindFault policy required table n kind)
-      → next ≡ min first fault → KindsSoFar c nodes trees table n next (kind + 1)
+      → ((policy : List Tree) → AllHeld c nodes trees 0 policy → Orderly table n → (required : Required) → Summed table sums required n kind → fault ≡ kindFault policy required table n kind)
+      → next ≡ min first fault → KindsSoFar c nodes trees table sums n next (kind + 1)
   kinds-next here fault next e f = record {
     within = omega arith;
     most = omega (arith, so .most);
-    whole = λ policy held up required. least-next first fault next _ _ _ (so .whole policy held up required)
-        (kind-first policy required table n kind here ∙ ap (λ (v : ℕ). min v (kindsFault policy required table n (kind + 1) (16 - (kind + 1)))) (sym (e policy held up required))) f;
+    whole = λ policy held up required sum. least-next first fault next _ _ _ (so .whole policy held up required sum)
+        (kind-first policy required table n kind here ∙ ap (λ (v : ℕ). min v (kindsFault policy required table n (kind + 1) (16 - (kind + 1)))) (sym (e policy held up required (sum kind here)))) f;
   }
 
-  pub kinds-end : 16 ≤ kind → (policy : List Tree) → AllHeld c nodes trees 0 policy → Orderly table n → (required : Required)
+  pub kinds-end : 16 ≤ kind → (policy : List Tree) → AllHeld c nodes trees 0 policy → Orderly table n → (required : Required) → ((k : ℕ) → k < 16 → Summed table sums required n k)
       → first ≡ entriesFault policy required (rowEntries table n)
   unfolding entriesFault only
-  kinds-end done policy held up required =
+  kinds-end done policy held up required sum =
       let u : kindsFault policy required table n kind (16 - kind) ≡ 19 =
       ap (λ (l : List ℕ). entriesFault policy required (map (entryAt table n) (only (λ k. isSet (cell table n k 11)) l))) (rising-done kind 16 done) in
-      omega (arith, so .most, so .whole policy held up required, u, row-all policy required table n)
+      omega (arith, so .most, so .whole policy held up required sum, u, row-all policy required table n)
 
 -- The same of components.
-pub record RowsSoFar (c nodes : List ℕ) (trees : Trees) (table : List ℕ) (m first i : ℕ) : Type 0 where
+pub record RowsSoFar (c nodes : List ℕ) (trees : Trees) (table sums : List ℕ) (m first i : ℕ) : Type 0 where
   pub within : i ≤ m
   pub most : first ≤ 19
   pub whole : (policy : List Tree) → AllHeld c nodes trees 0 policy → ((n : ℕ) → n < m → Orderly table n)
-      → min first (rowsFrom policy (tableRequired table m) table i (m - i)) ≡ rowsFrom policy (tableRequired table m) table 0 m
+      → (required : Required) → ((n k : ℕ) → n < m → k < 16 → Summed table sums required n k)
+      → min first (rowsFrom policy required table i (m - i)) ≡ rowsFrom policy required table 0 m
 
-pub rows-start : (c nodes : List ℕ) (trees : Trees) (table : List ℕ) (m : ℕ) → RowsSoFar c nodes trees table m 19 0
-rows-start c nodes trees table m =
+pub rows-start : (c nodes : List ℕ) (trees : Trees) (table sums : List ℕ) (m : ℕ) → RowsSoFar c nodes trees table sums m 19 0
+rows-start c nodes trees table sums m =
     let z : m - 0 ≡ m = omega arith in
     record {
       within = omega arith;
       most = omega arith;
-      whole = λ policy held up. rw z (omega (arith, faults-most policy (tableRequired table m) (gather (rowEntries table) (rising 0 m))));
+      whole = λ policy held up required sum. rw z (omega (arith, faults-most policy required (gather (rowEntries table) (rising 0 m))));
     }
 
-module _ (c nodes : List ℕ) (trees : Trees) (table : List ℕ) (m first i : ℕ) (so : RowsSoFar c nodes trees table m first i) where
+module _ (c nodes : List ℕ) (trees : Trees) (table sums : List ℕ) (m first i : ℕ) (so : RowsSoFar c nodes trees table sums m first i) where
   pub rows-next : i < m → (fault next : ℕ)
-      → ((policy : List Tree) → AllHeld c nodes trees 0 policy → Orderly table i → (required : Required) → fault ≡ entriesFault policy required (rowEntries table i))
-      → next ≡ min first fault → RowsSoFar c nodes trees table m next (i + 1)
+      → ((policy : List Tree) → AllHeld c nodes trees 0 policy → Orderly table i → (required : Required) → ((k : ℕ) → k < 16 → Summed table sums required i k) → fault ≡ entriesFault policy required (rowEntries table i))
+      → next ≡ min first fault → RowsSoFar c nodes trees table sums m next (i + 1)
   rows-next here fault next e f = record {
     within = omega arith;
     most = omega (arith, so .most);
-    whole = λ policy held up. least-next first fault next _ _ _ (so .whole policy held up)
-        (row-first policy (tableRequired table m) table i m here
-        ∙ ap (λ (v : ℕ). min v (rowsFrom policy (tableRequired table m) table (i + 1) (m - (i + 1)))) (sym (e policy held (up i here) (tableRequired table m)))) f;
+    whole = λ policy held up required sum. least-next first fault next _ _ _ (so .whole policy held up required sum)
+        (row-first policy required table i m here
+        ∙ ap (λ (v : ℕ). min v (rowsFrom policy required table (i + 1) (m - (i + 1)))) (sym (e policy held (up i here) required (λ k l. sum i k here l)))) f;
   }
 
   pub rows-end : m ≤ i → (policy : List Tree) → AllHeld c nodes trees 0 policy → ((n : ℕ) → n < m → Orderly table n)
-      → first ≡ entriesFault policy (tableRequired table m) (tableEntries table m)
+      → (required : Required) → ((n k : ℕ) → n < m → k < 16 → Summed table sums required n k)
+      → first ≡ entriesFault policy required (tableEntries table m)
   unfolding entriesFault gather tableEntries
-  rows-end done policy held up =
-      let u : rowsFrom policy (tableRequired table m) table i (m - i) ≡ 19 = ap (λ (l : List ℕ). entriesFault policy (tableRequired table m) (gather (rowEntries table) l)) (rising-done i m done) in
-      omega (arith, so .most, so .whole policy held up, u)
+  rows-end done policy held up required sum =
+      let u : rowsFrom policy required table i (m - i) ≡ 19 = ap (λ (l : List ℕ). entriesFault policy required (gather (rowEntries table) l)) (rising-done i m done) in
+      omega (arith, so .most, so .whole policy held up required sum, u)
+
+-- With the sums that were made in clear memory.
+made-sums : (table sums : List ℕ) (components rows n : ℕ) → n ≡ rows * 129 → components ≤ rows → rows ≤ 32 → sums ≡ addRows (replicate n 0) table 0 components
+    → ((m : ℕ) → m < components → Orderly table m) → (m k : ℕ) → m < components → k < 16 → Summed table sums (tableRequired table components) m k
+made-sums table sums components rows n e room few is up m k h l =
+    rw is (class-sums table (replicate n 0) components rows room few (length-replicate {A = ℕ} n 0 ∙ e) (λ i. unfold Clear in clear-zeros n i (omega arith)) up m k h l)
+
+pub few-sums : (table sums : List ℕ) (components : ℕ) → components ≤ 4 → sums ≡ addRows (replicate 516 0) table 0 components
+    → ((m : ℕ) → m < components → Orderly table m) → (m k : ℕ) → m < components → k < 16 → Summed table sums (tableRequired table components) m k
+few-sums table sums components h is up m k = made-sums table sums components 4 516 refl h (omega arith) is up m k
+
+pub all-sums : (table sums : List ℕ) (components : ℕ) → components ≤ 32 → sums ≡ addRows (replicate 4128 0) table 0 components
+    → ((m : ℕ) → m < components → Orderly table m) → (m k : ℕ) → m < components → k < 16 → Summed table sums (tableRequired table components) m k
+all-sums table sums components h is up m k = made-sums table sums components 32 4128 refl h (omega arith) is up m k
+
+module _ (c nodes : List ℕ) (trees : Trees) (table sums : List ℕ) (components r : ℕ)
+    (told : (policy : List Tree) → AllHeld c nodes trees 0 policy → ((n : ℕ) → n < components → Orderly table n)
+    → (required : Required) → ((n k : ℕ) → n < components → k < 16 → Summed table sums required n k)
+    → r ≡ entriesFault policy required (tableEntries table components)) where
+  pub fit-few : components ≤ 4 → sums ≡ addRows (replicate 516 0) table 0 components → (policy : List Tree) → AllHeld c nodes trees 0 policy
+      → ((n : ℕ) → n < components → Orderly table n) → r ≡ entriesFault policy (tableRequired table components) (tableEntries table components)
+  fit-few h is policy held up = told policy held up (tableRequired table components) (few-sums table sums components h is up)
+
+  pub fit-all : components ≤ 32 → sums ≡ addRows (replicate 4128 0) table 0 components → (policy : List Tree) → AllHeld c nodes trees 0 policy
+      → ((n : ℕ) → n < components → Orderly table n) → r ≡ entriesFault policy (tableRequired table components) (tableEntries table components)
+  fit-all h is policy held up = told policy held up (tableRequired table components) (all-sums table sums components h is up)
+
+-- Without sums, where no components share.
+pub fit-lone : (c nodes : List ℕ) (trees : Trees) (table : List ℕ) (components r : ℕ) (u : Bool) → u ≡ anyShared table 0 components → u ≡ false → components ≤ 32
+    → ((policy : List Tree) → AllHeld c nodes trees 0 policy → ((n : ℕ) → n < components → Orderly table n)
+    → (required : Required) → ((n k : ℕ) → n < components → k < 16 → Summed table [] required n k)
+    → r ≡ entriesFault policy required (tableEntries table components))
+    → (policy : List Tree) → AllHeld c nodes trees 0 policy → ((n : ℕ) → n < components → Orderly table n)
+    → r ≡ entriesFault policy (tableRequired table components) (tableEntries table components)
+fit-lone c nodes trees table components r u is off few told policy held up =
+    told policy held up (tableRequired table components) (lone-sums table components few (sym is ∙ off) up)
 
 pub ruleset fault-steps = (
   needs,
   unmarked,
+  marked,
   no-entry,
   no-tree,
   in-tree,
@@ -365,4 +433,7 @@ pub ruleset fault-steps = (
   rows-start,
   rows-next,
   rows-end,
+  fit-few,
+  fit-all,
+  fit-lone,
 )

@@ -11,7 +11,8 @@ use borrow.Author.Needs.{needs}
 use borrow.Author.Tests.{eq-eqb, ne-eqb, lt-ltb, le-ltb, not-true, not-false}
 use Rattle.inference.specs.Lists.{every, any, rising}
 use Rattle.inference.specs.Counts.{fin, unlimited, atMost}
-use Rattle.inference.specs.Rows.{isSet, cell, countOf, groupCount, groupAt}
+use Rattle.inference.specs.Rows.{isSet, cell, groupCount, groupAt}
+use Rattle.sharing.specs.Sums.{neededAt, sumCount}
 use Rattle.interface.proofs.WriteLaws.{rising-next, rising-done}
 use Rattle.policy.specs.Syntax.{hasBit}
 use Rattle.fit.specs.declared.Covering.{Covering}
@@ -20,23 +21,23 @@ use Rattle.fit.specs.Givers.{givenAt, joinedAt, totalOf, giversIn}
 use Rattle.fit.specs.Uncovered.{first}
 use Rattle.fit.specs.Covers.{allGiven, flagGiven, flagCovers, countCovers, missingFlag, orNone, missingFrom, missingAt, CoveringIs, rowsFault}
 
--- a count against a sum
+-- a sum against a sum
 any-count : (x : _) → atMost x unlimited ≡ true
 unfolding atMost
 any-count (fin n) = refl
 any-count unlimited = refl
 
-pub sum-unlimited : (needed : ℕ) (t : Total) → t .unlimited ≡ true → true ≡ atMost (countOf needed) (totalOf t)
+pub sum-unlimited : (needed : ℕ) (t : Total) → t .unlimited ≡ true → true ≡ atMost (sumCount needed) (totalOf t)
 unfolding totalOf
-sum-unlimited needed t e = rw e (sym (any-count (countOf needed)))
+sum-unlimited needed t e = rw e (sym (any-count (sumCount needed)))
 
-pub sum-too-small : (needed : ℕ) (t : Total) → t .unlimited ≡ false → needed ≡ 65535 → false ≡ atMost (countOf needed) (totalOf t)
-unfolding totalOf countOf atMost
-sum-too-small needed t e f = rw (e, eq-eqb needed 65535 f) refl
+pub sum-too-small : (needed : ℕ) (t : Total) → t .unlimited ≡ false → 4000000 ≤ needed → false ≡ atMost (sumCount needed) (totalOf t)
+unfolding totalOf sumCount atMost
+sum-too-small needed t e f = rw (e, le-ltb needed 4000000 f) refl
 
-pub sum-compared : (needed : ℕ) (t : Total) → t .unlimited ≡ false → (needed ≡ 65535 → ⊥) → leb needed (t .sum) ≡ atMost (countOf needed) (totalOf t)
-unfolding totalOf countOf atMost
-sum-compared needed t e f = rw (e, ne-eqb needed 65535 f) refl
+pub sum-compared : (needed : ℕ) (t : Total) → t .unlimited ≡ false → needed < 4000000 → leb needed (t .sum) ≡ atMost (sumCount needed) (totalOf t)
+unfolding totalOf sumCount atMost
+sum-compared needed t e f = rw (e, lt-ltb needed 4000000 f) refl
 
 unset : (n : ℕ) → n ≡ 0 → isSet n ≡ false
 unfolding isSet
@@ -56,15 +57,15 @@ module _ (value : ℕ) (nodes rows : List ℕ) (needed : ℕ) where
   unfolding flagCovers flagGiven
   flag-asked b e h c = rw (set needed e) (h c)
 
-module _ (h : ℕ) (c nodes rows : List ℕ) (needed : ℕ) where
-  pub count-spared : needed ≡ 0 → true ≡ countCovers h c nodes rows needed
+module _ (h : ℕ) (c nodes rows : List ℕ) (own needed : ℕ) where
+  pub count-spared : own ≡ 0 → true ≡ countCovers h c nodes rows own needed
   unfolding countCovers
-  count-spared e = rw (unset needed e) refl
+  count-spared e = rw (unset own e) refl
 
-  pub count-asked : (b : Bool) (t : Total) → (needed ≡ 0 → ⊥) → totalOf t ≡ joinedAt h c nodes rows → b ≡ atMost (countOf needed) (totalOf t)
-      → b ≡ countCovers h c nodes rows needed
+  pub count-asked : (b : Bool) (t : Total) → (own ≡ 0 → ⊥) → totalOf t ≡ joinedAt h c nodes rows → b ≡ atMost (sumCount needed) (totalOf t)
+      → b ≡ countCovers h c nodes rows own needed
   unfolding countCovers
-  count-asked b t e f g = rw (set needed e) (g ∙ ap (atMost (countOf needed)) f)
+  count-asked b t e f g = rw (set own e) (g ∙ ap (atMost (sumCount needed)) f)
 
 module _ (nodes rows table : List ℕ) (n k : ℕ) where
   is-flag : (value column needed : ℕ) (b : Bool) → needed ≡ cell table n k column → ((c : List ℕ) → b ≡ flagCovers value c nodes rows needed)
@@ -96,48 +97,48 @@ module _ (nodes rows table : List ℕ) (n k : ℕ) where
         rw (is-flag 1 8 x a e h c, is-flag 2 9 y b e′ h′ c, is-flag 4 10 z d e″ h″ c, not-false a f, not-false b f′, not-false d g) refl
 
 -- The places passed so far are covered, and those left decide.
-pub record PlacesSoFar (c nodes rows table : List ℕ) (n k m place : ℕ) : Type 0 where
+pub record PlacesSoFar (c nodes rows table sums : List ℕ) (n k m place : ℕ) : Type 0 where
   pub within : place ≤ m
-  pub same : missingFrom 0 m c nodes rows table n k ≡ missingFrom place (m - place) c nodes rows table n k
+  pub same : missingFrom 0 m c nodes rows table sums n k ≡ missingFrom place (m - place) c nodes rows table sums n k
 
-pub places-start : (c nodes rows table : List ℕ) (n k m : ℕ) → PlacesSoFar c nodes rows table n k m 0
-places-start c nodes rows table n k m = record { within = omega arith; same = let z : m - 0 ≡ m = omega arith in rw z refl }
+pub places-start : (c nodes rows table sums : List ℕ) (n k m : ℕ) → PlacesSoFar c nodes rows table sums n k m 0
+places-start c nodes rows table sums n k m = record { within = omega arith; same = let z : m - 0 ≡ m = omega arith in rw z refl }
 
-module _ (c nodes rows table : List ℕ) (n k m place : ℕ) (so : PlacesSoFar c nodes rows table n k m place) where
+module _ (c nodes rows table sums : List ℕ) (n k m place : ℕ) (so : PlacesSoFar c nodes rows table sums n k m place) where
   lacking : ℕ → Bool
-  lacking i = not (countCovers (groupAt table n i) c nodes rows (cell table n k i))
+  lacking i = not (countCovers (groupAt table n i) c nodes rows (cell table n k i) (neededAt sums table n k i))
 
-  turn : place < m → missingFrom 0 m c nodes rows table n k
+  turn : place < m → missingFrom 0 m c nodes rows table sums n k
       ≡ orNone table n (cond (lacking place) (some place) (first lacking (rising (place + 1) (m - (place + 1)))))
   unfolding missingFrom first lacking
   turn here = so .same ∙ ap (λ (l : List ℕ). orNone table n (first lacking l)) (rising-next place m here)
 
-  module _ (group x : ℕ) (b : Bool) (here : place < m) (at : group ≡ groupAt table n place) (e : x ≡ cell table n k place)
-      (f : b ≡ countCovers group c nodes rows x) where
+  module _ (group own needed : ℕ) (b : Bool) (here : place < m) (at : group ≡ groupAt table n place) (e : own ≡ cell table n k place)
+      (s : needed ≡ neededAt sums table n k place) (f : b ≡ countCovers group c nodes rows own needed) where
     is-count : lacking place ≡ not b
     unfolding lacking
-    is-count = rw (← at, ← e, ← f) refl
+    is-count = rw (← at, ← e, ← s, ← f) refl
 
-    pub group-missing : m ≡ groupCount table n → not b ≡ true → group ≡ missingFrom 0 (groupCount table n) c nodes rows table n k
+    pub group-missing : m ≡ groupCount table n → not b ≡ true → group ≡ missingFrom 0 (groupCount table n) c nodes rows table sums n k
     unfolding orNone
     group-missing is g = rw (← is) (at ∙ sym (turn here ∙ rw (is-count, g) refl))
 
-    pub place-passes : not b ≡ false → PlacesSoFar c nodes rows table n k m (place + 1)
+    pub place-passes : not b ≡ false → PlacesSoFar c nodes rows table sums n k m (place + 1)
     unfolding missingFrom lacking
     place-passes g = record { within = omega arith; same = turn here ∙ rw (is-count, g) refl }
 
-  pub no-group-missing : m ≡ groupCount table n → m ≤ place → 67 ≡ missingFrom 0 (groupCount table n) c nodes rows table n k
+  pub no-group-missing : m ≡ groupCount table n → m ≤ place → 67 ≡ missingFrom 0 (groupCount table n) c nodes rows table sums n k
   unfolding missingFrom first orNone lacking
   no-group-missing is done =
       rw (← is) (sym (so .same ∙ ap (λ (l : List ℕ). orNone table n (first lacking l)) (rising-done place m done)))
 
 -- Flags before groups.
-module _ (c nodes rows table : List ℕ) (n k flag : ℕ) (is : (b : List ℕ) → flag ≡ missingFlag b nodes rows table n k) where
-  pub flag-first : flag < 67 → flag ≡ missingAt c nodes rows table n k
+module _ (c nodes rows table sums : List ℕ) (n k flag : ℕ) (is : (b : List ℕ) → flag ≡ missingFlag b nodes rows table n k) where
+  pub flag-first : flag < 67 → flag ≡ missingAt c nodes rows table sums n k
   unfolding missingAt
   flag-first h = rw (← is c, lt-ltb flag 67 h) refl
 
-  pub group-then : (group : ℕ) → 67 ≤ flag → group ≡ missingFrom 0 (groupCount table n) c nodes rows table n k → group ≡ missingAt c nodes rows table n k
+  pub group-then : (group : ℕ) → 67 ≤ flag → group ≡ missingFrom 0 (groupCount table n) c nodes rows table sums n k → group ≡ missingAt c nodes rows table sums n k
   unfolding missingAt
   group-then group h e = rw (← is c, le-ltb flag 67 h) e
 
@@ -163,38 +164,38 @@ pub ruleset entry-steps = (
 )
 
 -- The rows that were found are those of the path in the table's row.
-module _ (c nodes rows path path′ table : List ℕ) (n k start len : ℕ) (is : path ≡ path′)
+module _ (c nodes rows path path′ table sums : List ℕ) (n k start len : ℕ) (is : path ≡ path′)
     (found : (b : List ℕ) → rows ≡ giversIn b nodes path start len) where
   found-here : rows ≡ giversIn c nodes path′ start len
   found-here = found c ∙ ap (λ (p : List ℕ). giversIn c nodes p start len) is
 
   module _ (a : Bool) (e : a ≡ every (λ row. ltb row 64) rows) (flag : ℕ) (is-flag : (b : List ℕ) → flag ≡ missingFlag b nodes rows table n k) where
-    pub flag-lacks : flag < 67 → CoveringIs c nodes (giversIn c nodes path′ start len) table n k (record { reached = a; column = flag })
+    pub flag-lacks : flag < 67 → CoveringIs c nodes (giversIn c nodes path′ start len) table sums n k (record { reached = a; column = flag })
     unfolding allGiven
-    flag-lacks h = record { reached = rw (← found-here) e; column = rw (← found-here) (flag-first c nodes rows table n k flag is-flag h) }
+    flag-lacks h = record { reached = rw (← found-here) e; column = rw (← found-here) (flag-first c nodes rows table sums n k flag is-flag h) }
 
-    pub group-lacks : (group : ℕ) → 67 ≤ flag → group ≡ missingFrom 0 (groupCount table n) c nodes rows table n k
-        → CoveringIs c nodes (giversIn c nodes path′ start len) table n k (record { reached = a; column = group })
+    pub group-lacks : (group : ℕ) → 67 ≤ flag → group ≡ missingFrom 0 (groupCount table n) c nodes rows table sums n k
+        → CoveringIs c nodes (giversIn c nodes path′ start len) table sums n k (record { reached = a; column = group })
     unfolding allGiven
     group-lacks group h g =
-        record { reached = rw (← found-here) e; column = rw (← found-here) (group-then c nodes rows table n k flag is-flag group h g) }
+        record { reached = rw (← found-here) e; column = rw (← found-here) (group-then c nodes rows table sums n k flag is-flag group h g) }
 
 -- A table of another length is never lent.
-pub no-table : (c nodes rows table : List ℕ) (n k : ℕ) (r : Covering) → length nodes ≡ 320 → (length nodes ≡ 320 → ⊥)
-    → CoveringIs c nodes rows table n k r
-no-table c nodes rows table n k r e f = absurd (f e)
+pub no-table : (c nodes rows table sums : List ℕ) (n k : ℕ) (r : Covering) → length nodes ≡ 320 → (length nodes ≡ 320 → ⊥)
+    → CoveringIs c nodes rows table sums n k r
+no-table c nodes rows table sums n k r e f = absurd (f e)
 
 -- Questions 17 and 18, from what an entry comes to.
-module _ (c nodes rows table : List ℕ) (n k : ℕ) (r : Covering) (is : CoveringIs c nodes rows table n k r) where
-  pub path-missing : not (r .reached) ≡ true → 17 ≡ rowsFault c nodes rows table n k
+module _ (c nodes rows table sums : List ℕ) (n k : ℕ) (r : Covering) (is : CoveringIs c nodes rows table sums n k r) where
+  pub path-missing : not (r .reached) ≡ true → 17 ≡ rowsFault c nodes rows table sums n k
   unfolding rowsFault
   path-missing h = rw (← is .reached, not-true (r .reached) h) refl
 
-  pub one-missing : not (r .reached) ≡ false → r .column < 67 → 18 ≡ rowsFault c nodes rows table n k
+  pub one-missing : not (r .reached) ≡ false → r .column < 67 → 18 ≡ rowsFault c nodes rows table sums n k
   unfolding rowsFault
   one-missing h l = rw (← is .reached, not-false (r .reached) h, ← is .column, lt-ltb (r .column) 67 l) refl
 
-  pub none-missing : not (r .reached) ≡ false → 67 ≤ r .column → 19 ≡ rowsFault c nodes rows table n k
+  pub none-missing : not (r .reached) ≡ false → 67 ≤ r .column → 19 ≡ rowsFault c nodes rows table sums n k
   unfolding rowsFault
   none-missing h l = rw (← is .reached, not-false (r .reached) h, ← is .column, le-ltb (r .column) 67 l) refl
 

@@ -8,7 +8,8 @@ use lib.Dec.{ltb, eqb}
 use Rattle.inference.specs.Lists.{every, any, rising}
 use Rattle.inference.specs.Counts.{atMost}
 use Rattle.inference.specs.Interface.{Permission, reading, writing, accessing, disclosing}
-use Rattle.inference.specs.Rows.{isSet, cell, countOf, groupCount, groupAt}
+use Rattle.inference.specs.Rows.{isSet, cell, groupCount, groupAt}
+use Rattle.sharing.specs.Sums.{neededAt, sumCount}
 use Rattle.policy.specs.Syntax.{hasBit}
 use Rattle.fit.specs.Uncovered.{first}
 use Rattle.fit.specs.Givers.{givenAt, joinedAt}
@@ -26,9 +27,9 @@ flagGiven value c nodes rows = any (λ row. hasBit value (givenAt c nodes row .m
 unfoldable pub flagCovers : ℕ → List ℕ → List ℕ → List ℕ → ℕ → Bool
 flagCovers value c nodes rows needed = not (isSet needed) || flagGiven value c nodes rows
 
--- a count that is granted, where it is needed
-unfoldable pub countCovers : ℕ → List ℕ → List ℕ → List ℕ → ℕ → Bool
-countCovers h c nodes rows needed = not (isSet needed) || atMost (countOf needed) (joinedAt h c nodes rows)
+-- a sum that is granted, where the component's own count is not 0
+unfoldable pub countCovers : ℕ → List ℕ → List ℕ → List ℕ → ℕ → ℕ → Bool
+countCovers h c nodes rows own needed = not (isSet own) || atMost (sumCount needed) (joinedAt h c nodes rows)
 
 -- the first flag that is not covered: 64 read, 65 write, 66 access; or 67
 unfoldable pub missingFlag : List ℕ → List ℕ → List ℕ → List ℕ → ℕ → ℕ → ℕ
@@ -42,22 +43,22 @@ unfoldable pub orNone : List ℕ → ℕ → Option ℕ → ℕ
 orNone table component none = 67
 orNone table component (some place) = groupAt table component place
 
--- the group at the first of n places from one on whose count is not covered, or 67
-unfoldable pub missingFrom : ℕ → ℕ → List ℕ → List ℕ → List ℕ → List ℕ → ℕ → ℕ → ℕ
-missingFrom start n c nodes rows table component kind =
+-- the group at the first of n places from one on whose sum is not covered, or 67
+unfoldable pub missingFrom : ℕ → ℕ → List ℕ → List ℕ → List ℕ → List ℕ → List ℕ → ℕ → ℕ → ℕ
+missingFrom start n c nodes rows table sums component kind =
     orNone table component
-    (first (λ i. not (countCovers (groupAt table component i) c nodes rows (cell table component kind i))) (rising start n))
+    (first (λ i. not (countCovers (groupAt table component i) c nodes rows (cell table component kind i) (neededAt sums table component kind i))) (rising start n))
 
 -- the number of the first permission that is not covered, flags before groups; or 67
-unfoldable pub missingAt : List ℕ → List ℕ → List ℕ → List ℕ → ℕ → ℕ → ℕ
-missingAt c nodes rows table component kind =
+unfoldable pub missingAt : List ℕ → List ℕ → List ℕ → List ℕ → List ℕ → ℕ → ℕ → ℕ
+missingAt c nodes rows table sums component kind =
     cond (ltb (missingFlag c nodes rows table component kind) 67) (missingFlag c nodes rows table component kind)
-    (missingFrom 0 (groupCount table component) c nodes rows table component kind)
+    (missingFrom 0 (groupCount table component) c nodes rows table sums component kind)
 
 -- what the code answers of an entry: is each group of its path at a reached node, and the first permission that is not covered
-pub record CoveringIs (c nodes rows table : List ℕ) (component kind : ℕ) (r : Covering) : Type 0 where
+pub record CoveringIs (c nodes rows table sums : List ℕ) (component kind : ℕ) (r : Covering) : Type 0 where
   pub reached : r .reached ≡ allGiven rows
-  pub column : r .column ≡ missingAt c nodes rows table component kind
+  pub column : r .column ≡ missingAt c nodes rows table sums component kind
 
 -- the permission of a number, none at 67
 unfoldable pub permissionAt : ℕ → Permission
@@ -67,6 +68,6 @@ unfoldable pub missingOf : ℕ → Option Permission
 missingOf column = cond (ltb column 67) (some (permissionAt column)) none
 
 -- the first of questions 17 and 18 that an entry fails, or 19
-unfoldable pub rowsFault : List ℕ → List ℕ → List ℕ → List ℕ → ℕ → ℕ → ℕ
-rowsFault c nodes rows table component kind =
-    cond (allGiven rows) (cond (ltb (missingAt c nodes rows table component kind) 67) 18 19) 17
+unfoldable pub rowsFault : List ℕ → List ℕ → List ℕ → List ℕ → List ℕ → ℕ → ℕ → ℕ
+rowsFault c nodes rows table sums component kind =
+    cond (allGiven rows) (cond (ltb (missingAt c nodes rows table sums component kind) 67) 18 19) 17

@@ -8,6 +8,7 @@ ghost use Prim.Native.Nat.{ℕ, _<_, _≤_, _-_};
 ghost use lib.ListN.{length};
 ghost use Rattle.inference.specs.Interface.{Required};
 ghost use Rattle.inference.specs.Rows.{Orderly, isSet, cell, entryAt, rowEntries, tableEntries, tableRequired};
+ghost use Rattle.sharing.specs.Sums.{Summed};
 ghost use Rattle.policy.specs.Syntax.{Tree};
 ghost use Rattle.policy.specs.Loads.{Bounded, AllHeld};
 ghost use Rattle.fit.specs.Givers.{giversIn};
@@ -21,6 +22,7 @@ use interface::is_used;
 use policy::Span;
 use policy::Trees;
 use policy::nodes::span_of;
+use sharing::sum_classes;
 
 // The rows of a kind's tree; none where there is no such tree.
 fn rows_of(trees: Trees, kind: usize) -> Span
@@ -42,33 +44,41 @@ fn entry_missing(
     nodes: &[usize],
     trees: Trees,
     table: &[u16],
+    sums: &[u32],
     component: usize,
     kind: usize,
 ) -> usize
     requires { ⌜ (component < 32) × (kind < 16) × Bounded trees × (length (now nodes) ≡ 320) ⌝ }
     ensures { λ r. ⌜ ((policy : List Tree) → AllHeld (now (c .entry)) (now (nodes .entry)) trees 0 policy
-        → Orderly (now (table .entry)) component → (required : Required)
+        → Orderly (now (table .entry)) component → (required : Required) → Summed (now (table .entry)) (now (sums .entry)) required component kind
         → cond (isSet (cell (now (table .entry)) component kind 11)) (firstMissing policy required (entryAt (now (table .entry)) component kind)) none
         ≡ missingOf r) ⌝ }
 {
     if !is_used(table, component, kind) {
         return 67;
     }
-    let found = covering(c, nodes, rows_of(trees, kind), table, component, kind);
+    let found = covering(c, nodes, rows_of(trees, kind), table, sums, component, kind);
     found.column
 }
 
 // The first uncovered permission of a component.
-fn row_missing(c: &[u8], nodes: &[usize], trees: Trees, table: &[u16], component: usize) -> Missing
+fn row_missing(
+    c: &[u8],
+    nodes: &[usize],
+    trees: Trees,
+    table: &[u16],
+    sums: &[u32],
+    component: usize,
+) -> Missing
     requires { ⌜ (component < 32) × Bounded trees × (length (now nodes) ≡ 320) ⌝ }
     ensures { λ r. ⌜ ((policy : List Tree) → AllHeld (now (c .entry)) (now (nodes .entry)) trees 0 policy
-        → Orderly (now (table .entry)) component → (required : Required)
+        → Orderly (now (table .entry)) component → (required : Required) → ((k : ℕ) → k < 16 → Summed (now (table .entry)) (now (sums .entry)) required component k)
         → firstUncovered policy required (rowEntries (now (table .entry)) component) ≡ uncoveredAt (now (table .entry)) r) ⌝ }
     ensures few { λ r. ⌜ r .component < 32 ⌝ }
 {
     let mut kind: usize = 0;
     while kind < 16 {
-        let column = entry_missing(c, nodes, trees, table, component, kind);
+        let column = entry_missing(c, nodes, trees, table, sums, component, kind);
         if column < 67 {
             return Missing {
                 component,
@@ -81,6 +91,37 @@ fn row_missing(c: &[u8], nodes: &[usize], trees: Trees, table: &[u16], component
     Missing {
         component,
         kind,
+        column: 67,
+    }
+}
+
+// The first uncovered permission of all components, with the sums of their classes.
+fn rows_missing(
+    c: &[u8],
+    nodes: &[usize],
+    trees: Trees,
+    table: &[u16],
+    sums: &[u32],
+    components: usize,
+) -> Missing
+    requires { ⌜ (components ≤ 32) × Bounded trees × (length (now nodes) ≡ 320) ⌝ }
+    ensures { λ r. ⌜ ((policy : List Tree) → AllHeld (now (c .entry)) (now (nodes .entry)) trees 0 policy
+        → ((n : ℕ) → n < components → Orderly (now (table .entry)) n)
+        → (required : Required) → ((n k : ℕ) → n < components → k < 16 → Summed (now (table .entry)) (now (sums .entry)) required n k)
+        → firstUncovered policy required (tableEntries (now (table .entry)) components) ≡ uncoveredAt (now (table .entry)) r) ⌝ }
+    ensures few { λ r. ⌜ r .component < 32 ⌝ }
+{
+    let mut component: usize = 0;
+    while component < components {
+        let missing = row_missing(c, nodes, trees, table, sums, component);
+        if missing.column < 67 {
+            return missing;
+        }
+        component += 1;
+    }
+    Missing {
+        component: 0,
+        kind: 0,
         column: 67,
     }
 }
@@ -100,17 +141,7 @@ pub fn first_uncovered(
         ≡ uncoveredAt (now (table .entry)) r) ⌝ }
     ensures few { λ r. ⌜ r .component < 32 ⌝ }
 {
-    let mut component: usize = 0;
-    while component < components {
-        let missing = row_missing(c, nodes, trees, table, component);
-        if missing.column < 67 {
-            return missing;
-        }
-        component += 1;
-    }
-    Missing {
-        component: 0,
-        kind: 0,
-        column: 67,
-    }
+    let mut sums = [0u32; 4128];
+    sum_classes(table, components, &mut sums);
+    rows_missing(c, nodes, trees, table, &sums, components)
 }

@@ -10,5 +10,7 @@ pub mod SystemSteps
 pub mod SheetSteps
 pub mod CountLaws
 pub mod RequiredLaws
+pub mod ClassLaws
+pub mod KindLaws
 pub mod ActLaws
 pub mod FaultLaws

@@ -1,4 +1,4 @@
--- How much an entry needs to disclose into a group is what its acts, or its cells, count for the group.
+-- How much an entry lists for a group is what its acts, or its cells, count for the group.
 use Prim.Native.Nat.{ℕ, zero, suc, _+_, _<_, _≤_}
 use native.Mathlib.Omega.{arith}
 use native.Mathlib.Decide.{ℕ-discrete}
@@ -8,7 +8,7 @@ use mathlib.Core.Path.{_≡_, refl, _∙_}
 use borrow.Author.Tests.{eq-eqb, ne-eqb}
 use Rattle.inference.specs.Acts.{Component, Act}
 use Rattle.inference.specs.Counts.{Count, fin, unlimited, isZero}
-use Rattle.inference.specs.Interface.{Disclosure, disclosuresOf, entryOf, Required, countIn, needed}
+use Rattle.inference.specs.Interface.{Disclosure, disclosuresOf, entryOf, countIn}
 use Rattle.inference.specs.Lists.{only, rising}
 use Rattle.inference.specs.Needs.{disclosed}
 use Rattle.inference.specs.Rows.{Orderly, cell, countOf, groupCount, groupAt, disclosuresAt, entryAt}
@@ -56,15 +56,14 @@ module _ (g : ℕ → ℕ) (f : ℕ → Count) where
       go (no q) true e rest none up = rest (omega (arith, q))
       go (no q) false e rest none up = rw (ne-eqb (g start) (g j) (λ k. omega (arith, q, up (omega (arith, q))))) (rest (omega (arith, q)))
 
--- An entry that was inferred needs what its acts disclose.
-pub needed-acts : (required : Required) (c : Component) (acts : List Act) (kind h : ℕ) → h < 64
-    → needed required (entryOf c acts kind) h ≡ disclosed kind h acts
-unfolding needed entryOf disclosuresOf items item Rises
-needed-acts required c acts kind h l = counted-in (λ g. g) (λ g. disclosed kind g acts) h 0 64 (omega arith) (omega arith) (λ i j p q r. q)
+-- An entry that was inferred lists what its acts disclose.
+pub listed-acts : (c : Component) (acts : List Act) (kind h : ℕ) → h < 64 → countIn h (entryOf c acts kind .disclose) ≡ disclosed kind h acts
+unfolding entryOf disclosuresOf items item Rises
+listed-acts c acts kind h l = counted-in (λ g. g) (λ g. disclosed kind g acts) h 0 64 (omega arith) (omega arith) (λ i j p q r. q)
 
--- An entry of a table whose groups rise needs what stands in its cells.
-pub needed-cells : (required : Required) (table : List ℕ) (n kind i : ℕ) → i < groupCount table n → Orderly table n
-    → needed required (entryAt table n kind) (groupAt table n i) ≡ countOf (cell table n kind i)
-unfolding needed entryAt disclosuresAt items item Rises
-needed-cells required table n kind i l up =
+-- An entry of a table whose groups rise lists what stands in its cells.
+pub listed-cells : (table : List ℕ) (n kind i : ℕ) → i < groupCount table n → Orderly table n
+    → countIn (groupAt table n i) (entryAt table n kind .disclose) ≡ countOf (cell table n kind i)
+unfolding entryAt disclosuresAt items item Rises
+listed-cells table n kind i l up =
     counted-in (groupAt table n) (λ j. countOf (cell table n kind j)) i 0 (groupCount table n) (omega arith) (omega arith) (λ j k p q r. up .rises j k q (omega arith))

@@ -1,13 +1,14 @@
 -- The interface (document 01, "What an act needs"), as entries and as bytes.
 use Prim.Native.Nat.{ℕ, _+_, _/_, _%_}
 use mathlib.Core.List.{List, [], _∷_, _++_, map}
-use mathlib.Core.Bool.{Bool, true, false, cond, not, _||_}
+use mathlib.Core.Bool.{Bool, true, false, cond, not, _&&_, _||_}
 use lib.ListN.{length}
 use lib.Dec.{eqb}
 use Rattle.reading.specs.Syntax.{Sheet}
 use Rattle.inference.specs.Lists.{any, only, gather, rising}
-use Rattle.inference.specs.Counts.{Count, fin, isZero, countNumber}
+use Rattle.inference.specs.Counts.{Count, fin, _⊕_, isZero, countNumber}
 use Rattle.inference.specs.Acts.{Component, Act, actsOf, Located, located}
+use Rattle.inference.specs.Classes.{shares}
 use Rattle.inference.specs.Needs.{needOf, isRead, isWrite, isAccess, disclosed}
 
 -- A group disclosed to, and how often.
@@ -82,10 +83,17 @@ unfoldable pub countIn : ℕ → List Disclosure → Count
 countIn h [] = fin 0
 countIn h (d ∷ rest) = cond (eqb (d .group) h) (d .count) (countIn h rest)
 
--- How much an entry, one of what is required, needs to disclose into group h. "Each post has the whole count to itself": it is
--- the entry's own count.
+-- How much the components that `among` tells need together to disclose data of a kind into group h, by their entries: "the sum over
+-- its posts", "unlimited with any count giving unlimited".
+unfoldable pub neededBy : (Component → Bool) → ℕ → ℕ → List Entry → Count
+neededBy among kind h [] = fin 0
+neededBy among kind h (e ∷ rest) =
+    cond (among (e .component) && eqb (e .kind) kind) (countIn h (e .disclose)) (fin 0) ⊕ neededBy among kind h rest
+
+-- How much an entry's component needs with all that share its count to disclose data of the entry's kind into group h (Q-4): "Question 18
+-- now compares, for each such path, kind and group, the sum over its posts".
 unfoldable pub needed : Required → Entry → ℕ → Count
-needed required e h = countIn h (e .disclose)
+needed required e h = neededBy (shares (e .component)) (e .kind) h (required .entries)
 
 unfoldable pub bit : Bool → ℕ → ℕ
 bit true value = value

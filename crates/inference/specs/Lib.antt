@@ -3,6 +3,7 @@
 pub mod Lists
 pub mod Counts
 pub mod Acts
+pub mod Classes
 pub mod Typing
 pub mod Needs
 pub mod Interface

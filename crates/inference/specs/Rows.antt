@@ -1,6 +1,7 @@
 -- The table of what components need: rows of 210 cells (src/rows.rt). Its cells are the counts that acts need together
 -- (`charged-count` of the crate interface's proofs/CellLaws.antt).
 use Prim.Native.Nat.{ℕ, zero, suc, _+_, _*_, _%_, _<_, min}
+use mathlib.Core.Path.{_≡_}
 use mathlib.Core.List.{List, [], _∷_, map}
 use mathlib.Core.Bool.{Bool, true, false, cond, not, _&&_}
 use lib.ListN.{length, getD, set, take, drop}
@@ -8,7 +9,7 @@ use lib.Dec.{ltb, eqb}
 use Rattle.needs.specs.declared.Need.{Need}
 use Rattle.needs.specs.declared.Need.the-variants.{Nothing, Read, Write, Access, Disclose}
 use Rattle.reading.specs.Forms.{member}
-use Rattle.inference.specs.Lists.{only, gather, rising}
+use Rattle.inference.specs.Lists.{every, only, gather, rising}
 use Rattle.inference.specs.Counts.{Count, fin, unlimited, isZero}
 use Rattle.inference.specs.Interface.{Disclosure, Entry, holdsAny, Required}
 
@@ -41,10 +42,8 @@ groupCount table component = min (getD table (component * 210 + 9) 0) 8
 unfoldable pub groupAt : List ℕ → ℕ → ℕ → ℕ
 groupAt table component place = getD table (component * 210 + (10 + place)) 0
 
--- A row whose groups are groups, and rise.
-pub record Orderly (table : List ℕ) (component : ℕ) : Type 0 where
-  pub low : (i : ℕ) → i < groupCount table component → groupAt table component i < 64
-  pub rises : (i j : ℕ) → i < j → j < groupCount table component → groupAt table component i < groupAt table component j
+unfoldable pub rowGroups : List ℕ → ℕ → List ℕ
+rowGroups table component = map (groupAt table component) (rising 0 (groupCount table component))
 
 -- the place of a group among so many from a place on, or 11, which is no count's column
 unfoldable pub placeFrom : List ℕ → ℕ → ℕ → ℕ → ℕ → ℕ
@@ -107,6 +106,16 @@ pathAt table component = take (getD table (component * 210) 0) (take 8 (drop (co
 
 unfoldable pub cell : List ℕ → ℕ → ℕ → ℕ → ℕ
 cell table component kind column = getD table (cellOf component kind column) 0
+
+-- A row in order: its groups are groups, rise, and are those of its path, which are groups; its counts are below 65,536, and a kind that is not
+-- marked has none.
+pub record Orderly (table : List ℕ) (component : ℕ) : Type 0 where
+  pub low : (i : ℕ) → i < groupCount table component → groupAt table component i < 64
+  pub rises : (i j : ℕ) → i < j → j < groupCount table component → groupAt table component i < groupAt table component j
+  pub groups : rowGroups table component ≡ risingGroups (pathAt table component)
+  pub path-low : every (λ g. ltb g 64) (pathAt table component) ≡ true
+  pub counts : (kind place : ℕ) → kind < 16 → place < 8 → cell table component kind place < 65536
+  pub unmarked : (kind place : ℕ) → kind < 16 → place < 8 → cell table component kind 11 ≡ 0 → cell table component kind place ≡ 0
 
 -- a cell as a count: 65,535 is unlimited
 unfoldable pub countOf : ℕ → Count

@@ -197,7 +197,7 @@ pub same-count : (table table′ : List ℕ) (n : ℕ) → ((i : ℕ) → n * 21
 unfolding groupCount
 same-count table table′ n same = rw (same (n * 210 + 9) (omega arith) (omega arith))
 
-count-few : (table : List ℕ) (n : ℕ) → groupCount table n ≤ 8
+pub count-few : (table : List ℕ) (n : ℕ) → groupCount table n ≤ 8
 unfolding groupCount
 count-few table n = omega arith
 

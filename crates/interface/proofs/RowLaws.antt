@@ -7,16 +7,16 @@ use mathlib.Core.Bool.{Bool, true, false, cond, not, _&&_, _||_}
 use mathlib.Core.Logic.{_⊎_, ⊎-elim}
 use native.Mathlib.Omega.{arith}
 use lib.ListN.{length, getD}
-use lib.Dec.{eqb, eqb·suc-zero}
+use lib.Dec.{ltb, eqb, eqb·suc-zero}
 use borrow.Author.Tests.{eq-eqb, ne-eqb}
 use Rattle.needs.specs.declared.Need.{Need}
 use Rattle.needs.specs.declared.Need.the-variants.{Nothing, Read, Write, Access, Disclose}
-use Rattle.inference.specs.Lists.{any, only, rising}
+use Rattle.inference.specs.Lists.{every, any, only, rising}
 use Rattle.inference.specs.Counts.{Count, fin, unlimited, _⊕_, repeatedly, countNumber, isZero}
 use Rattle.inference.specs.Acts.{Act, Component}
 use Rattle.inference.specs.Needs.{needOf, isRead, isWrite, isAccess, disclosures, weigh, total, disclosed}
 use Rattle.inference.specs.Interface.{Disclosure, disclosuresOf, entryOf, isEmpty, holdsAny}
-use Rattle.inference.specs.Rows.{Orderly, cell, countOf, isSet, groupCount, groupAt, risingGroups, disclosuresAt, entryAt, pathAt, usedKinds, rowEntries}
+use Rattle.inference.specs.Rows.{Orderly, cell, countOf, isSet, groupCount, groupAt, rowGroups, risingGroups, disclosuresAt, entryAt, pathAt, usedKinds, rowEntries}
 use Rattle.inference.proofs.CountLaws.{join-comm}
 use Rattle.reading.specs.Forms.{member}
 use Rattle.interface.proofs.PathLaws.{Inside}
@@ -118,6 +118,11 @@ unfolding countOf countNumber Few
 count-back (fin n) h = rw (ne-eqb n 65535 (λ e. omega arith)) refl
 count-back unlimited h = refl
 
+number-small : (x : Count) → Few x 0 → countNumber x < 65536
+unfolding countNumber Few
+number-small (fin n) h = omega arith
+number-small unlimited h = omega arith
+
 pub map-rising : {A : Type 0} (f g : ℕ → A) (start n : ℕ) → ((i : ℕ) → start ≤ i → i < start + n → f i ≡ g i)
     → map f (rising start n) ≡ map g (rising start n)
 unfolding rising
@@ -133,7 +138,7 @@ no-count : not (isZero (fin 0)) ≡ false
 unfolding isZero
 no-count = refl
 
-unset : (n : ℕ) → isSet n ≡ false → n ≡ 0
+pub unset : (n : ℕ) → isSet n ≡ false → n ≡ 0
 unfolding isSet
 unset zero e = refl
 unset (suc n) e = let f = rw (eqb·suc-zero n) at e in let z : _≡_ {A = ℕ} 0 1 = cc in absurd (omega arith)
@@ -165,6 +170,10 @@ map-places f (x ∷ xs) start =
     (λ i p q. let e : i - start ≡ suc (i - suc start) = omega arith in rw e)
     ∙ map-places f xs (suc start))
 
+map-same : (xs : List ℕ) → map (λ x. x) xs ≡ xs
+map-same [] = refl
+map-same (x ∷ xs) = ap (λ (l : List ℕ). x ∷ l) (map-same xs)
+
 none-set : {A : Type 0} (q : A → Bool) (f : ℕ → A) (start n : ℕ) → ((i : ℕ) → start ≤ i → i < start + n → q (f i) ≡ false) → only q (map f (rising start n)) ≡ []
 unfolding only rising
 none-set q f start zero off = refl
@@ -188,11 +197,27 @@ module _ (table : List ℕ) (n : ℕ) (path : List ℕ) (acts : List Act) (h : C
   unfolding Columns
   columns g = place-column (risingGroups path) g 0 (omega (arith, groups-few path, h .short))
 
-  pub orderly : Orderly table n
-  orderly = record {
+  -- the groups in the row are those of the path
+  groups-back : rowGroups table n ≡ risingGroups path
+  unfolding rowGroups
+  groups-back =
+      ap (λ (m : ℕ). map (groupAt table n) (rising 0 m)) (h .number)
+      ∙ map-rising (groupAt table n) (λ i. getD (risingGroups path) (i - 0) 0) 0 (length (risingGroups path))
+      (λ i p r. let z : i - 0 ≡ i = omega arith in rw z (h .groups i (omega arith)))
+      ∙ map-places (λ g. g) (risingGroups path) 0
+      ∙ map-same (risingGroups path)
+
+  pub orderly : pathAt table n ≡ path → every (λ g. ltb g 64) path ≡ true → Orderly table n
+  orderly same small = record {
     low = λ i p. rw (h .groups i (omega (arith, h .number))) (group-low path i (omega (arith, h .number)));
     rises = λ i j p q.
         rw (h .groups i (omega (arith, h .number)), h .groups j (omega (arith, h .number))) (group-rises path i j p (omega (arith, h .number)));
+    groups = groups-back ∙ ap risingGroups (sym same);
+    path-low = ap (every (λ g. ltb g 64)) same ∙ small;
+    counts = λ k i p q. rw (h .cells k i p (omega arith))
+        (number-small (total (λ a. lands at k i (needOf a)) acts)
+        (total-few (λ a. lands at k i (needOf a)) (λ a. lands-few at k i (needOf a)) acts 0 (omega (arith, h .few))));
+    unmarked = λ k i p q e. h .unmarked k i p (omega arith) e;
   }
 
   flag-cell : (k c : ℕ) → k < 16 → c < 11 → (p : Need → Bool) → ((a : Act) → lands at k c (needOf a) ≡ cond (p (needOf a)) 1 0)

@@ -3,7 +3,7 @@
 use Prim.Native.Nat.{ℕ, zero, suc, _+_, _-_, _*_, _%_, _<_, _≤_, min}
 use mathlib.Core.Path.{_≡_, refl, sym, ap, ap₂, _∙_}
 use mathlib.Core.List.{List, [], _∷_, _++_}
-use mathlib.Core.Bool.{false}
+use mathlib.Core.Bool.{true, false}
 use mathlib.Core.Logic.{inl, inr}
 use native.Mathlib.Omega.{arith}
 use native.Mathlib.Decide.{ℕ-discrete}
@@ -11,7 +11,9 @@ use native.Mathlib.Nat.{mod-eq-of-lt}
 use lib.ListN.{length, getD, set, take, drop, length-set, length-take, length-drop}
 use lib.Seq.{getD-set-same, getD-set-other, getD-take, getD-drop, ext-getD}
 use Rattle.reading.specs.Forms.{member}
-use Rattle.inference.specs.Lists.{gather, rising}
+use lib.Dec.{ltb}
+use borrow.Author.Tests.{lt-ltb}
+use Rattle.inference.specs.Lists.{every, gather, rising}
 use Rattle.inference.specs.Counts.{fin, countNumber}
 use Rattle.inference.specs.Acts.{Located, actsOf}
 use Rattle.inference.specs.Needs.{needOf, total}
@@ -66,6 +68,11 @@ pub record FitsRow (path : List ℕ) : Type 0 where
   pub short : length path ≤ 8
   pub groups : (i : ℕ) → i < length path → getD path i 0 < 64
   pub once : NoneTwice path
+
+all-low : (path : List ℕ) → ((i : ℕ) → i < length path → getD path i 0 < 64) → every (λ g. ltb g 64) path ≡ true
+unfolding every
+all-low [] h = refl
+all-low (g ∷ path) h = rw (lt-ltb g 64 (h 0 (omega arith)), all-low path (λ i p. h (suc i) (omega arith)))
 
 -- Two tables agree on the first nine cells of a row.
 agree-path : {rows : ℕ} (table table′ : List ℕ) (n : ℕ) → n < rows → length table ≡ rows * 210 → length table′ ≡ rows * 210
@@ -354,15 +361,17 @@ module _ {rows : ℕ} (table : List ℕ) (n : ℕ) (l : Located) (rest : List Lo
       same-group : (i : ℕ) → i < 8 → groupAt whole n i ≡ groupAt (rowOf table n l) n i
       same-group i p = unfold groupAt in head (n * 210 + (10 + i)) (omega arith) (omega arith)
 
+  path-there : pathAt whole n ≡ l .component .path
+  path-there =
+      agree-path whole (rowOf table n l) n small (length-all rest (suc n) more h (rowOf table n l) long′) long′
+      (λ i p q. kept i (omega arith)) ∙ row-path table n small long l ok
+
   row-in-table : rowEntries whole n ≡ entriesOf l
   unfolding entriesOf
-  row-in-table =
-      row-entries whole n (l .component .path) (actsOf l) counted (l .component) (ok .number)
-      (sym (agree-path whole (rowOf table n l) n small (length-all rest (suc n) more h (rowOf table n l) long′) long′
-      (λ i p q. kept i (omega arith)) ∙ row-path table n small long l ok))
+  row-in-table = row-entries whole n (l .component .path) (actsOf l) counted (l .component) (ok .number) (sym path-there)
 
   row-orderly : Orderly whole n
-  row-orderly = orderly whole n (l .component .path) (actsOf l) counted
+  row-orderly = orderly whole n (l .component .path) (actsOf l) counted path-there (all-low (l .component .path) (ok .fits .groups))
 
 -- All pass questions 7 to 10: the first does, and the others do.
 module _ (l : Located) (rest : List Located) (typed : worstAll (l ∷ rest) ≡ 11) where

@@ -1,33 +1,40 @@
 -- What questions 1 to 18 answered "passed" say of a sheet and its policy: every act passes questions 7 to 10, every permission
--- that an act needs is granted to its path, and what a component's process discloses is at most what its path is granted.
+-- that an act needs is granted to its path, and what the components of a class disclose together is at most what each of their
+-- paths is granted.
 use Prim.Native.Nat.{ℕ, zero, suc, _+_, _<_, _≤_}
 use native.Mathlib.Omega.{arith}
 use mathlib.Core.Bool.{Bool, true, false, cond, not, _||_}
 use mathlib.Core.List.{List, [], _∷_, _++_, map, List·Memᴰ, List·Memᴰ·head, List·Memᴰ·tail}
-use mathlib.Core.Path.{_≡_, refl, ap}
+use mathlib.Core.Path.{_≡_, refl, sym, ap, _∙_}
 use lib.Dec.{eqb}
 use borrow.Author.Tests.{eqb-true, eqb-false, eq-eqb, le-leb}
 use Rattle.reading.specs.Read.{Read, got, refused}
+use Rattle.reading.proofs.TreeLaws.{sheet-parts}
 use Rattle.needs.specs.declared.Need.{Need}
 use Rattle.needs.specs.declared.Need.the-variants.{Nothing, Read as Reads, Write as Writes, Access as Accesses, Disclose as Discloses}
 use Rattle.needs.proofs.NeedLaws.{NeedRange}
 use Rattle.inference.specs.Lists.{every, any, only, gather, rising}
 use Rattle.inference.specs.Counts.{Count, fin, unlimited, _⊕_, atMost, isZero, repeatedly}
 use Rattle.inference.specs.Acts.{Act, Located, located, actsOf, sheetActs}
+use Rattle.inference.specs.Classes.{shares}
 use Rattle.inference.specs.Typing.{inScope, onChannel, carriesObject, inPath}
 use Rattle.inference.specs.Needs.{needOf, isRead, isWrite, isAccess, disclosures, weigh, total, disclosed}
-use Rattle.inference.specs.Interface.{Disclosure, Permission, reading, writing, accessing, disclosing, disclosuresOf, entryOf, isEmpty, holdsAny, entriesOf, interface, flagged, permissions, Required, requiredOf, needed}
+use Rattle.inference.specs.Interface.{Disclosure, Permission, reading, writing, accessing, disclosing, disclosuresOf, entryOf, isEmpty, holdsAny, entriesOf, interface, flagged, permissions, Required, requiredOf, neededBy, needed}
 use Rattle.inference.proofs.CountLaws.{join-comm, at-most-self, at-most-trans, at-most-joined}
+use Rattle.inference.proofs.ClassLaws.{or-first, or-second, shares-self, needed-class}
 use Rattle.inference.proofs.NeedLaws.{act-range}
-use Rattle.inference.proofs.RequiredLaws.{needed-acts}
+use Rattle.interface.proofs.TableLaws.{NoneTwice, AllStorable, store-none, store-more}
+use Rattle.interface.proofs.StoreLaws.{sheet-storable}
 use Rattle.policy.specs.Syntax.{Tree}
 use Rattle.fit.specs.Grants.{flagGranted, countGranted}
 use Rattle.fit.specs.Satisfies.{hasTree, pathReached, grantsOne, covered}
+use Rattle.fit.proofs.ClassGrants.{count-class}
 use Rattle.service.specs.Questions.{Asked, passed, ask, afterReading, typed, satisfied, Accepted, judgedFrom, judged}
 use Rattle.service.proofs.PassedLaws.{ask-yes, ask-rest, formed-rest}
-use Rattle.running.specs.Guarantees.{passes, grantsNeed, isFine, ofComponent}
-use Rattle.running.proofs.Alls.{All, done, also, or-first, or-second, any-member, all-both, all-right, all-head, all-each, all-gather, all-member, all-from, all-every}
-use Rattle.running.proofs.Components.{acts-component, component-acts}
+use Rattle.running.specs.Guarantees.{passes, grantsNeed, isFine, actsWhere}
+use Rattle.running.proofs.Alls.{All, done, also, any-member, all-both, all-right, all-head, all-each, all-gather, all-member, all-from, all-every}
+use Rattle.running.proofs.Components.{acts-component}
+use Rattle.running.proofs.ClassCounts.{needed-disclosed, none-disclosed, one-disclosed}
 
 record Typed (all : List Act) : Type 0 where
   scopes : every inScope all ≡ true
@@ -63,13 +70,20 @@ module _ {A : Type 0} (policy : List Tree) (required : Required) (rest : Asked A
   satisfied-rest : rest ≡ passed a
   satisfied-rest = ask-rest 18 (every (covered policy required) (required .entries)) _ a last-asked
 
-on-reading : {A B : Type 0} (R : Type 0) (r : Read A) (f : A → Asked B) (b : B) → afterReading r f ≡ passed b → ((x : A) → f x ≡ passed b → R) → R
+on-reading : {A B : Type 0} (R : Type 0) (r : Read A) (f : A → Asked B) (b : B) → afterReading r f ≡ passed b
+    → ((x : A) (next : ℕ) → r ≡ got x next → f x ≡ passed b → R) → R
 unfolding afterReading
-on-reading R (got x next) f b h go = go x h
+on-reading R (got x next) f b h go = go x next refl h
 on-reading R (refused q at) f b h go = let z : _≡_ {A = ℕ} 0 1 = cc in absurd (omega arith)
 
--- Questions 7 to 10 and 18 of what is accepted.
+-- Question 6 of what was read.
+storable-once : {n : ℕ} {ls : List Located} → AllStorable n ls → All (λ l. NoneTwice (l .component .path)) ls
+storable-once store-none = done
+storable-once (store-more ok more) = also (ok .fits .once) (storable-once more)
+
+-- Questions 6 to 10 and 18 of what is accepted.
 record Passed (a : Accepted) : Type 0 where
+  paths-once : All (λ l. NoneTwice (l .component .path)) (located (a .sheet))
   acts-typed : Typed (sheetActs (a .sheet))
   entries-covered : every (covered (a .policy) (requiredOf (a .sheet))) (requiredOf (a .sheet) .entries) ≡ true
 
@@ -79,12 +93,16 @@ passed-as a b e p = let z : a ≡ b = cc in rw z at p
 judged-passed : (s c : List ℕ) (a : Accepted) → judged s c ≡ passed a → Passed a
 unfolding judged judgedFrom
 judged-passed s c a h =
-    on-reading (Passed a) _ _ a h (λ sheet k.
+    on-reading (Passed a) _ _ a h (λ sheet end e k.
     let t : Typed (sheetActs sheet) = typed-yes (sheetActs sheet) _ a k in
-    on-reading (Passed a) _ _ a (typed-rest (sheetActs sheet) _ a k) (λ policy l.
+    on-reading (Passed a) _ _ a (typed-rest (sheetActs sheet) _ a k) (λ policy next f l.
     let m : satisfied policy (requiredOf sheet) (passed (record { sheet = sheet; policy = policy })) ≡ passed a = formed-rest policy _ a l in
     passed-as (record { sheet = sheet; policy = policy }) a (satisfied-rest policy (requiredOf sheet) _ a m)
-    (record { acts-typed = t; entries-covered = satisfied-yes policy (requiredOf sheet) _ a m })))
+    (record {
+      paths-once = storable-once (sheet-storable s c sheet end (sheet-parts s c e));
+      acts-typed = t;
+      entries-covered = satisfied-yes policy (requiredOf sheet) _ a m;
+    })))
 
 passes-all : (a : Act) → inScope a ≡ true → onChannel a ≡ true → carriesObject a ≡ true → inPath a ≡ true → passes a ≡ true
 unfolding passes
@@ -181,10 +199,11 @@ module _ (policy : List Tree) (required : Required) (l : Located) (cover : All (
       absurd (omega arith)
   lists-it k h j e false q = refl
 
-  counted : (k h : ℕ) → k < 16 → h < 64 → isZero (disclosed k h (actsOf l)) ≡ false
-      → atMost (disclosed k h (actsOf l)) (countGranted h policy k (l .component)) ≡ true
-  unfolding permissions entryOf holdsAny grantsOne disclosuresOf
-  counted k h i j e =
+  -- "each count at most the granted sum", of what its class needs
+  class-covered : (k h : ℕ) → k < 16 → h < 64 → isZero (disclosed k h (actsOf l)) ≡ false
+      → atMost (neededBy (shares (l .component)) k h (required .entries)) (countGranted h policy k (l .component)) ≡ true
+  unfolding permissions entryOf holdsAny grantsOne disclosuresOf needed
+  class-covered k h i j e =
       let n : isEmpty (disclosuresOf k (actsOf l)) ≡ false = lists-it k h j e (isEmpty (disclosuresOf k (actsOf l))) refl in
       let q : holdsAny (entryOf (l .component) (actsOf l) k) ≡ true
       = or-second (any (λ a. isRead k (needOf a)) (actsOf l) || any (λ a. isWrite k (needOf a)) (actsOf l)) _
@@ -197,15 +216,7 @@ module _ (policy : List Tree) (required : Required) (l : Located) (cover : All (
       = kept-at {R = λ d. grantsOne policy required (entryOf (l .component) (actsOf l) k) (disclosing (d .group)) ≡ true}
       (λ d. not (isZero (d .count))) (λ g. record { group = g; count = disclosed k g (actsOf l) }) 0 64 h
       (all-unmap (λ (d : Disclosure). disclosing (d .group)) (disclosuresOf k (actsOf l)) g) (omega arith) (omega arith) (ap not e) in
-      rw (needed-acts required (l .component) (actsOf l) k h j) at w
-
-  -- "each count at most the granted sum"
-  pub count-granted : (k h : ℕ) → k < 16 → h < 64 → atMost (disclosed k h (actsOf l)) (countGranted h policy k (l .component)) ≡ true
-  count-granted k h i j = go (isZero (disclosed k h (actsOf l))) refl
-    where
-      go : (b : Bool) → isZero (disclosed k h (actsOf l)) ≡ b → atMost (disclosed k h (actsOf l)) (countGranted h policy k (l .component)) ≡ true
-      go true e = zero-at-most (disclosed k h (actsOf l)) (countGranted h policy k (l .component)) e
-      go false e = counted k h i j e
+      w
 
 -- An act of a list weighs at most what the list weighs.
 weigh-least : (b : Bool) (n : ℕ) → atMost (fin n) (weigh b n) ≡ true
@@ -222,8 +233,9 @@ weight-member w a (List·Memᴰ·tail {x = x} {xs = xs} m) =
     at-most-trans (fin (w a)) (total w xs) (weigh (x .repeated) (w x) ⊕ total w xs) (weight-member w a m)
     (rw (join-comm (weigh (x .repeated) (w x)) (total w xs)) (at-most-joined (total w xs) (weigh (x .repeated) (w x))))
 
--- What an act of a covered process needs is granted to its path.
-module _ (policy : List Tree) (required : Required) (l : Located) (cover : All (λ e. covered policy required e ≡ true) (entriesOf l)) where
+-- What an act of a covered process needs is granted to its path, where what the process discloses is.
+module _ (policy : List Tree) (required : Required) (l : Located) (cover : All (λ e. covered policy required e ≡ true) (entriesOf l))
+    (counts : (k h : ℕ) → k < 16 → h < 64 → atMost (disclosed k h (actsOf l)) (countGranted h policy k (l .component)) ≡ true) where
   is-granted : (a : Act) → List·Memᴰ a (actsOf l) → (n : Need) → needOf a ≡ n → NeedRange n → grantsNeed policy (l .component) n ≡ true
   unfolding grantsNeed NeedRange isRead isWrite isAccess disclosures disclosed
   is-granted a m Nothing e r = refl
@@ -233,7 +245,7 @@ module _ (policy : List Tree) (required : Required) (l : Located) (cover : All (
   is-granted a m (Discloses k h) e r =
       let one : disclosures k h (needOf a) ≡ 1 = rw (e, eq-eqb k k refl, eq-eqb h h refl) in
       let w : atMost (fin 1) (disclosed k h (actsOf l)) ≡ true = rw one at (weight-member (λ b. disclosures k h (needOf b)) a m) in
-      at-most-trans (fin 1) (disclosed k h (actsOf l)) (countGranted h policy k (l .component)) w (count-granted policy required l cover k h (r .0) (r .1))
+      at-most-trans (fin 1) (disclosed k h (actsOf l)) (countGranted h policy k (l .component)) w (counts k h (r .0) (r .1))
 
   need-granted : (a : Act) → List·Memᴰ a (actsOf l) → grantsNeed policy (a .component) (needOf a) ≡ true
   unfolding needOf actsOf
@@ -247,6 +259,49 @@ unfolding requiredOf interface
 covers s c a h l m =
     all-member m (all-each entriesOf (located (a .sheet)) (all-every (covered (a .policy) (requiredOf (a .sheet))) (interface (a .sheet)) (judged-passed s c a h .entries-covered)))
 
+-- What the components of a class disclose together is at most what the path of any of them is granted: question 18 was asked at an
+-- entry of each that discloses.
+module _ (s c : List ℕ) (a : Accepted) (accepted : judged s c ≡ passed a) (l : Located) (m : List·Memᴰ l (located (a .sheet)))
+    (k h : ℕ) (i : k < 16) (j : h < 64) where
+  abbrev together : Count
+  together = disclosed k h (actsWhere (shares (l .component)) (sheetActs (a .sheet)))
+
+  abbrev grant : Count
+  grant = countGranted h (a .policy) k (l .component)
+
+  asked-at : (d : Located) → List·Memᴰ d (located (a .sheet)) → shares (l .component) (d .component) ≡ true → isZero (disclosed k h (actsOf d)) ≡ false
+      → atMost together grant ≡ true
+  unfolding requiredOf
+  asked-at d n t z =
+      let once : All (λ x. NoneTwice (x .component .path)) (located (a .sheet)) = judged-passed s c a accepted .paths-once in
+      let same : neededBy (shares (d .component)) k h (interface (a .sheet)) ≡ together
+      = sym (needed-class (l .component) (d .component) t k h (interface (a .sheet))) ∙ needed-disclosed (shares (l .component)) k h i j (a .sheet) in
+      let g : countGranted h (a .policy) k (d .component) ≡ grant
+      = sym (count-class h (a .policy) k (l .component) (d .component) (all-member {P = λ x. NoneTwice (x .component .path)} m once) (all-member {P = λ x. NoneTwice (x .component .path)} n once) t) in
+      rw (same, g) at (class-covered (a .policy) (requiredOf (a .sheet)) d (covers s c a accepted d n) k h i j z)
+
+  pub accepted-class : atMost together grant ≡ true
+  unfolding sheetActs
+  accepted-class = go (atMost together grant) refl
+    where
+      none : atMost together grant ≡ false → (d : Located) → List·Memᴰ d (located (a .sheet)) → shares (l .component) (d .component) ≡ true
+          → (b : Bool) → isZero (disclosed k h (actsOf d)) ≡ b → b ≡ true
+      none q d n t true z = refl
+      none q d n t false z = let w : atMost together grant ≡ true = asked-at d n t z in let x : _≡_ {A = ℕ} 0 1 = cc in absurd (omega arith)
+
+      go : (b : Bool) → atMost together grant ≡ b → atMost together grant ≡ true
+      go true q = q
+      go false q =
+          zero-at-most together grant
+          (none-disclosed (shares (l .component)) k h (all-from (located (a .sheet)) (λ d n t. none q d n t (isZero (disclosed k h (actsOf d))) refl)))
+
+  -- So is what each discloses by itself.
+  accepted-own : atMost (disclosed k h (actsOf l)) grant ≡ true
+  unfolding sheetActs
+  accepted-own =
+      at-most-trans (disclosed k h (actsOf l)) together grant
+      (one-disclosed (shares (l .component)) k h l (shares-self (l .component)) m) accepted-class
+
 fine : (policy : List Tree) (a : Act) → passes a ≡ true → grantsNeed policy (a .component) (needOf a) ≡ true → isFine policy a ≡ true
 unfolding isFine
 fine policy a g h = rw (g, h)
@@ -256,13 +311,8 @@ pub accepted-fine : (s c : List ℕ) (a : Accepted) → judged s c ≡ passed a 
 unfolding sheetActs
 accepted-fine s c a h =
     let g : All (λ x. grantsNeed (a .policy) (x .component) (needOf x) ≡ true) (gather actsOf (located (a .sheet)))
-    = all-gather actsOf (all-from (located (a .sheet)) (λ l m. all-from (actsOf l) (λ x n. need-granted (a .policy) (requiredOf (a .sheet)) l (covers s c a h l m) x n))) in
+    = all-gather actsOf (all-from (located (a .sheet)) (λ l m. all-from (actsOf l) (λ x n. need-granted (a .policy) (requiredOf (a .sheet)) l (covers s c a h l m) (accepted-own s c a h l m) x n))) in
     all-both (λ x k n. fine (a .policy) x k n) (accepted-typed s c a h) g
-
--- What a component of an accepted sheet discloses is at most what its path is granted.
-pub accepted-count : (s c : List ℕ) (a : Accepted) → judged s c ≡ passed a → (l : Located) → List·Memᴰ l (located (a .sheet)) → (k h : ℕ) → k < 16 → h < 64
-    → atMost (disclosed k h (ofComponent (l .component .number) (sheetActs (a .sheet)))) (countGranted h (a .policy) k (l .component)) ≡ true
-accepted-count s c a e l m k h i j = rw (component-acts (a .sheet) l m) (count-granted (a .policy) (requiredOf (a .sheet)) l (covers s c a e l m) k h i j)
 
 -- Every act of a list makes true of the list what is true of it.
 pub any-self : (f : Act → Act) (xs : List Act) → All (λ x. (t : Act → Bool) → t (f x) ≡ true → any (λ b. t (f b)) xs ≡ true) xs

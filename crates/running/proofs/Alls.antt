@@ -1,6 +1,6 @@
 -- Lists all of whose members have a property, and the laws of appending, gathering and replacing that runs need.
 use Prim.Native.Nat.{ℕ, zero, suc}
-use mathlib.Core.Bool.{Bool, true, false, _&&_, _||_}
+use mathlib.Core.Bool.{Bool, true, false, _&&_}
 use mathlib.Core.List.{List, [], _∷_, _++_, append-assoc, List·Memᴰ, List·Memᴰ·head, List·Memᴰ·tail}
 use mathlib.Core.Option.{some}
 use mathlib.Core.Path.{_≡_, refl, sym}
@@ -8,6 +8,7 @@ use lib.ListN.{getElem?, set}
 use native.Mathlib.Omega.{arith}
 use Rattle.reading.proofs.TotalLaws.{both-left, both-right}
 use Rattle.inference.specs.Lists.{gather, every, any}
+use Rattle.inference.proofs.ClassLaws.{or-first, or-second}
 
 pub data All {A : Type 0} (P : A → Type 0) : List A → Type 0 where
   done : All P []
@@ -85,14 +86,6 @@ pub every-all : {A : Type 0} (p : A → Bool) {xs : List A} → All (λ x. p x �
 unfolding every
 every-all p done = refl
 every-all p (also {x = x} {xs = xs} h hs) = and-both (p x) (every p xs) h (every-all p hs)
-
-pub or-first : (a b : Bool) → a ≡ true → (a || b) ≡ true
-or-first true b h = refl
-or-first false b h = let z : _≡_ {A = ℕ} 0 1 = cc in absurd (omega arith)
-
-pub or-second : (a b : Bool) → b ≡ true → (a || b) ≡ true
-or-second true b h = refl
-or-second false b h = h
 
 -- What is true of a member is true of some member.
 pub any-member : {A : Type 0} (t : A → Bool) (a : A) {xs : List A} → List·Memᴰ a xs → t a ≡ true → any t xs ≡ true

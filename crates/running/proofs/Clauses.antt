@@ -1,17 +1,19 @@
 -- Worked cases of each clause of demand 3: a state, a list of acts or a history in which the clause holds, and beside it one in
 -- which it fails. None of the failing ones can be reached from an accepted sheet (`guaranteed`); they show that each clause asks
--- for something. The cases are about example W: component 0 sends name 1 on name 0, component 1 receives it.
+-- for something. The cases are about example W: component 0 sends name 1 on name 0, component 1 receives it; the last ones are about
+-- three components that send, two of which share a count.
 use Prim.Native.Nat.{ℕ}
 use mathlib.Core.Bool.{Bool, true, false}
 use mathlib.Core.List.{List, [], _∷_, map}
 use mathlib.Core.Path.{_≡_, refl}
 use native.Mathlib.Omega.{arith}
 use Rattle.reading.specs.Syntax.{Process, nil, input, output, repl, parₛ, groupₛ, compₛ, Sheet}
-use Rattle.inference.specs.Lists.{every, any}
 use Rattle.inference.specs.Counts.{Count, fin, unlimited}
-use Rattle.inference.specs.Acts.{Act, sheetActs}
+use Rattle.inference.specs.Acts.{Component, Act}
+use Rattle.inference.specs.Classes.{allIn, shares}
 use Rattle.inference.specs.Needs.{disclosed}
-use Rattle.policy.specs.Syntax.{Permissions, Tree, Node, Nodes, none, more}
+use Rattle.fit.specs.Grants.{countGranted}
+use Rattle.policy.specs.Syntax.{Permissions, Tree, none, more}
 use Rattle.running.specs.State.{Thread, State}
 use Rattle.running.specs.Products.{start}
 use Rattle.running.specs.Moves.{Move, sendOut, communicate, runStates}
@@ -20,7 +22,7 @@ use Rattle.running.proofs.Computed.{played-computed}
 
 -- all definitions that these cases compute with
 unfoldable guarantees-computed : Unit {0}
-unfolding played-computed scopeOf allNamed sameGroups sameComponent isComponentOf allLocated threadActs stateActs passes isTyped actsWhere isNumber ofComponent nextOf nextAct grantsNeed isFine nextFine noError actAt sendOf isTaken disclosuresOfAct disclosedWhere disclosedBy isWithin
+unfolding played-computed allIn shares scopeOf allNamed sameGroups sameComponent isComponentOf allLocated threadActs stateActs passes isTyped actsWhere isNumber ofComponent nextOf nextAct grantsNeed isFine nextFine noError actAt sendOf isTaken disclosuresOfAct disclosedWhere disclosedBy isWithin
 guarantees-computed = tt
 
 -- W: name 0 is a channel of links, 0[0[0]], whose number is 1,040; name 1 is a link, 0[0], whose number is 16.
@@ -144,3 +146,64 @@ pub counts-along :
     ≡ (fin 0 ∷ fin 1 ∷ []) ∷ (fin 1 ∷ fin 0 ∷ []) ∷ (fin 0 ∷ fin 1 ∷ []) ∷ (fin 1 ∷ fin 0 ∷ []) ∷ (fin 1 ∷ fin 0 ∷ []) ∷ []
 unfolding guarantees-computed
 counts-along = refl
+
+-- A sheet of three that send as W's component 0 does: the first two have the paths 0.1 and 1.0, and so share; the third has 0.1.2.
+abbrev three : Sheet
+three = record {
+  free = 1040 ∷ 16 ∷ [];
+  system = parₛ (groupₛ 0 (compₛ (record { group = 1 }) sending)) (parₛ (groupₛ 1 (compₛ (record { group = 0 }) sending)) (groupₛ 0 (groupₛ 1 (compₛ (record { group = 2 }) sending))));
+}
+
+abbrev first : Component
+first = record { number = 0; path = 0 ∷ 1 ∷ [] }
+
+abbrev second : Component
+second = record { number = 1; path = 1 ∷ 0 ∷ [] }
+
+abbrev third : Component
+third = record { number = 2; path = 0 ∷ 1 ∷ 2 ∷ [] }
+
+pub classes-told :
+    map (shares first) (first ∷ second ∷ third ∷ []) ∷ map (shares second) (first ∷ second ∷ third ∷ []) ∷ map (shares third) (first ∷ second ∷ third ∷ []) ∷ []
+    ≡ (true ∷ true ∷ false ∷ []) ∷ (true ∷ true ∷ false ∷ []) ∷ (false ∷ false ∷ true ∷ []) ∷ []
+unfolding guarantees-computed
+classes-told = refl
+
+-- W's charter grants each of the three one.
+pub classes-granted : map (countGranted 0 (charter once) 0) (first ∷ second ∷ third ∷ []) ≡ fin 1 ∷ fin 1 ∷ fin 1 ∷ []
+unfolding guarantees-computed
+classes-granted = refl
+
+-- What the first has disclosed by itself, what its class has disclosed and what its class still infers: at the start; after an output
+-- of the first, of the second, of both (the first's thread is then gone), and of the third.
+abbrev shared-along : List Move → List Count
+shared-along ms =
+    fin (disclosedBy 0 0 0 (start three) ms) ∷ fin (disclosedWhere (shares first) 0 0 (start three) ms)
+    ∷ disclosed 0 0 (actsWhere (shares first) (stateActs (runStates (start three) ms))) ∷ []
+
+pub counts-shared :
+    map shared-along ([] ∷ (sendOut 0 ∷ []) ∷ (sendOut 1 ∷ []) ∷ (sendOut 0 ∷ sendOut 0 ∷ []) ∷ (sendOut 2 ∷ []) ∷ [])
+    ≡ (fin 0 ∷ fin 0 ∷ fin 2 ∷ []) ∷ (fin 1 ∷ fin 1 ∷ fin 1 ∷ []) ∷ (fin 0 ∷ fin 1 ∷ fin 1 ∷ []) ∷ (fin 1 ∷ fin 2 ∷ fin 0 ∷ []) ∷ (fin 0 ∷ fin 0 ∷ fin 2 ∷ []) ∷ []
+unfolding guarantees-computed
+counts-shared = refl
+
+-- `within` for a component and moves, by itself as in document 01, and with its class. Each of the three keeps to the count of 1 by
+-- itself; the first two do not together, whether they still infer their links or have handed them over; the third does, whatever
+-- they disclose.
+abbrev alone : Component → List Move → Bool
+alone c ms =
+    isWithin (countGranted 0 (charter once) 0 c) (disclosedBy (c .number) 0 0 (start three) ms)
+    (disclosed 0 0 (ofComponent (c .number) (stateActs (runStates (start three) ms))))
+
+abbrev together : Component → List Move → Bool
+together c ms =
+    isWithin (countGranted 0 (charter once) 0 c) (disclosedWhere (shares c) 0 0 (start three) ms)
+    (disclosed 0 0 (actsWhere (shares c) (stateActs (runStates (start three) ms))))
+
+pub shared-fails :
+    map (λ c. alone c (sendOut 0 ∷ sendOut 0 ∷ [])) (first ∷ second ∷ third ∷ [])
+    ∷ map (λ c. together c (sendOut 0 ∷ sendOut 0 ∷ [])) (first ∷ second ∷ third ∷ [])
+    ∷ map (λ c. together c []) (first ∷ second ∷ third ∷ []) ∷ []
+    ≡ (true ∷ true ∷ true ∷ []) ∷ (false ∷ false ∷ true ∷ []) ∷ (false ∷ false ∷ true ∷ []) ∷ []
+unfolding guarantees-computed
+shared-fails = refl

@@ -4,8 +4,7 @@ use native.Mathlib.Omega.{arith}
 use mathlib.Core.Bool.{Bool, true, false, cond}
 use mathlib.Core.List.{List, [], _∷_, _++_, append-nil, map, List·Memᴰ}
 use mathlib.Core.Option.{Option, some}
-use mathlib.Core.Path.{_≡_, refl, sym, ap, ap₂, _∙_}
-use lib.Dec.{eqb}
+use mathlib.Core.Path.{_≡_, refl, ap, ap₂, _∙_}
 use borrow.Author.Tests.{eq-eqb, ne-eqb}
 use Rattle.reading.specs.Syntax.{Process, nil, par, new, input, output, repl, System, nilₛ, parₛ, groupₛ, newₛ, compₛ, Sheet, components}
 use Rattle.inference.specs.Lists.{gather, only}
@@ -42,23 +41,35 @@ acts-component c b scope (input x t p) = also refl (acts-component c b (scope ++
 acts-component c b scope (output x y p) = also refl (acts-component c b scope p)
 acts-component c b scope (repl p) = acts-component c true scope p
 
+-- The acts of a component, told by a test or not.
+pub where-own : (among : Component → Bool) (l : Located) → among (l .component) ≡ true → actsWhere among (actsOf l) ≡ actsOf l
+unfolding actsWhere actsOf
+where-own among l h =
+    only-all (λ a. among (a .component))
+    (all-map (λ a (e : a .component ≡ l .component). ap among e ∙ h) (acts-component (l .component) false (l .scope) (l .process)))
+
+pub where-other : (among : Component → Bool) (l : Located) → among (l .component) ≡ false → actsWhere among (actsOf l) ≡ []
+unfolding actsWhere actsOf
+where-other among l h =
+    only-none (λ a. among (a .component))
+    (all-map (λ a (e : a .component ≡ l .component). ap among e ∙ h) (acts-component (l .component) false (l .scope) (l .process)))
+
+pub where-append : (among : Component → Bool) (xs ys : List Act) → actsWhere among (xs ++ ys) ≡ actsWhere among xs ++ actsWhere among ys
+unfolding actsWhere
+where-append among xs ys = only-append (λ a. among (a .component)) xs ys
+
+-- The same by number.
 own-acts : (l : Located) → ofComponent (l .component .number) (actsOf l) ≡ actsOf l
-unfolding ofComponent actsWhere isNumber actsOf
-own-acts l =
-    only-all (λ a. eqb (a .component .number) (l .component .number))
-    (all-map (λ a (e : a .component ≡ l .component). eq-eqb (a .component .number) (l .component .number) (ap (λ (c : Component). c .number) e))
-    (acts-component (l .component) false (l .scope) (l .process)))
+unfolding ofComponent isNumber
+own-acts l = where-own (isNumber (l .component .number)) l (eq-eqb (l .component .number) (l .component .number) refl)
 
 others-acts : (n : ℕ) (l : Located) → (l .component .number ≡ n → ⊥) → ofComponent n (actsOf l) ≡ []
-unfolding ofComponent actsWhere isNumber actsOf
-others-acts n l h =
-    only-none (λ a. eqb (a .component .number) n)
-    (all-map (λ a (e : a .component ≡ l .component). ne-eqb (a .component .number) n (λ k. h (sym (ap (λ (c : Component). c .number) e) ∙ k)))
-    (acts-component (l .component) false (l .scope) (l .process)))
+unfolding ofComponent isNumber
+others-acts n l h = where-other (isNumber n) l (ne-eqb (l .component .number) n h)
 
 component-append : (n : ℕ) (xs ys : List Act) → ofComponent n (xs ++ ys) ≡ ofComponent n xs ++ ofComponent n ys
-unfolding ofComponent actsWhere isNumber
-component-append n xs ys = only-append (λ a. eqb (a .component .number) n) xs ys
+unfolding ofComponent
+component-append n xs ys = where-append (isNumber n) xs ys
 
 component-none : (n : ℕ) {ls : List Located} → All (λ l. l .component .number ≡ n → ⊥) ls → ofComponent n (gather actsOf ls) ≡ []
 unfolding gather ofComponent actsWhere only

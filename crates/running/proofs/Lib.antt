@@ -4,9 +4,11 @@ pub mod ProductLaws
 pub mod Owed
 pub mod Invariant
 pub mod Components
+pub mod ClassCounts
 pub mod Accepted
 pub mod Homes
 pub mod Runs
+pub mod Parts
 pub mod Theorem
 pub mod Computed
 pub mod Cases

@@ -21,7 +21,7 @@ use Rattle.policy.specs.Syntax.{Tree}
 use Rattle.running.specs.State.{State}
 use Rattle.running.specs.Products.{systemNews, start}
 use Rattle.running.specs.Moves.{Move, step, stateAfter, runStates}
-use Rattle.running.specs.Guarantees.{scopeOf, allNamed, threadActs, stateActs, passes, isTyped, actsWhere, isNumber, ofComponent, NotBeyond, nextOf, nextAct, grantsNeed, isFine, nextFine, noError, sendOf, disclosuresOfAct, disclosedWhere, disclosedBy, isWithin}
+use Rattle.running.specs.Guarantees.{scopeOf, allNamed, threadActs, stateActs, passes, isTyped, actsWhere, isNumber, ofComponent, NotBeyond, nextOf, nextAct, grantsNeed, isFine, nextFine, noError, sendOf, disclosuresOfAct, disclosedWhere, isWithin}
 use Rattle.running.proofs.Alls.{All, done, also, and-both, all-map, all-both, all-gather, every-all}
 use Rattle.running.proofs.ProductLaws.{Bound, made-start, start-acts}
 use Rattle.running.proofs.Owed.{bare, weightOf, owed, Good, good-made}
@@ -217,11 +217,6 @@ beyond-where sheet ms p among = record {
 }
 
 -- The same of one component, by its number.
-pub run-counts : (sheet : Sheet) (ms : List Move) → All (λ a. passes a ≡ true) (sheetActs sheet) → (n k h : ℕ)
-    → atMost (fin (disclosedBy n k h (start sheet) ms) ⊕ disclosed k h (ofComponent n (stateActs (runStates (start sheet) ms)))) (disclosed k h (ofComponent n (sheetActs sheet))) ≡ true
-unfolding disclosedBy ofComponent
-run-counts sheet ms p n k h = counts-where sheet ms p (isNumber n) k h
-
 pub run-not-beyond : (sheet : Sheet) (ms : List Move) → All (λ a. passes a ≡ true) (sheetActs sheet) → (n : ℕ)
     → NotBeyond (ofComponent n (stateActs (runStates (start sheet) ms))) (ofComponent n (sheetActs sheet))
 unfolding ofComponent

@@ -1,16 +1,17 @@
 -- What demand 3 says of a state: typed, not beyond the start, no next act an error, and no finite count exceeded.
-use Prim.Native.Nat.{ℕ, zero, suc, _+_, _<_}
+use Prim.Native.Nat.{ℕ, _+_, _<_}
 use mathlib.Core.Path.{_≡_}
-use mathlib.Core.List.{List, [], _∷_, _++_, map, List·Memᴰ}
-use mathlib.Core.Bool.{Bool, true, false, cond, not, _&&_, _||_}
+use mathlib.Core.List.{List, [], _∷_, map, List·Memᴰ}
+use mathlib.Core.Bool.{Bool, true, false, cond, _&&_}
 use mathlib.Core.Option.{Option, some, none}
-use lib.ListN.{length, getElem?}
+use lib.ListN.{getElem?}
 use lib.Dec.{eqb}
 use Rattle.reading.specs.Syntax.{Process, nil, par, new, input, output, repl, Sheet}
 use Rattle.needs.specs.declared.Need.{Need}
 use Rattle.needs.specs.declared.Need.the-variants.{Nothing, Read, Write, Access, Disclose}
 use Rattle.inference.specs.Lists.{every, any, only, gather}
 use Rattle.inference.specs.Counts.{Count, fin, unlimited, _⊕_, atMost}
+use Rattle.inference.specs.Classes.{shares}
 use Rattle.inference.specs.Acts.{Component, Located, located, Act, acts, sheetActs}
 use Rattle.inference.specs.Typing.{isKnown, inScope, onChannel, carriesObject, inPath}
 use Rattle.inference.specs.Needs.{needOf, isRead, isWrite, isAccess, disclosures, disclosed}
@@ -167,10 +168,10 @@ pub record Guaranteed (a : Accepted) (ms : List Move) : Type 0 where
   -- no thread's next act is an error: none "fails 7 to 10 under the names' types, or needs a permission that its path's grant
   -- lacks"
   pub no-error : noError (a .policy) (reached a ms) ≡ true
-  -- of each component, kind and group whose count is finite: "the links it has handed over since the start plus those it still
-  -- infers are at most that count"
+  -- of the class of each component (the components whose paths have its groups), kind and group whose count is finite: "the links all
+  -- its posts have handed over, plus those they still infer, are together at most the charter's count" (document 02, Q-4)
   pub within : (l : Located) → List·Memᴰ l (located (a .sheet)) → (kind group : ℕ) → kind < 16 → group < 64
       → isWithin (countGranted group (a .policy) kind (l .component))
-      (disclosedBy (l .component .number) kind group (start (a .sheet)) ms)
-      (disclosed kind group (ofComponent (l .component .number) (stateActs (reached a ms))))
+      (disclosedWhere (shares (l .component)) kind group (start (a .sheet)) ms)
+      (disclosed kind group (actsWhere (shares (l .component)) (stateActs (reached a ms))))
       ≡ true

@@ -13,9 +13,10 @@ use Rattle.needs.proofs.Computed.{need-computed}
 use Rattle.inference.specs.Lists.{every, any, only, gather, rising}
 use Rattle.inference.specs.Counts.{_⊕_, atMost, isZero, repeatedly, countNumber}
 use Rattle.inference.specs.Acts.{componentAt, typeOf, locate, located, acts, actsOf, sheetActs}
+use Rattle.inference.specs.Classes.{allIn, shares}
 use Rattle.inference.specs.Typing.{isKnown, ofShape, ofChannel, isType, inScope, onChannel, carriesObject, inPath}
 use Rattle.inference.specs.Needs.{needOn, needOf, isRead, isWrite, isAccess, disclosures, weigh, total, disclosed}
-use Rattle.inference.specs.Interface.{disclosuresOf, entryOf, isEmpty, holdsAny, entriesOf, interface, flagged, permissions, requiredOf, countIn, needed, bit, mapOf, disclosureBytes, listBytes, entryBytes, interfaceBytes}
+use Rattle.inference.specs.Interface.{disclosuresOf, entryOf, isEmpty, holdsAny, entriesOf, interface, flagged, permissions, requiredOf, countIn, neededBy, needed, bit, mapOf, disclosureBytes, listBytes, entryBytes, interfaceBytes}
 use Rattle.policy.specs.Syntax.{hasBit, alone, headsOf, heads}
 use Rattle.policy.specs.Reading.{asEleven, must, twoBytes, isCount, itemAt, readList, countedList, readPermissions, children, readNode, readTrees, readPolicy}
 use Rattle.policy.specs.WellFormed.{distinct, kindsDistinct, sameList, samePermissions, agree, metFrom, metIn, isNew, isSame, faultOf, nodeFault, firstFault, nodesFault, disclosedTo, groupsAt, keepsWithin, allKeep, fenced}
@@ -25,7 +26,7 @@ use Rattle.service.specs.Questions.{passed, failed, ask, afterReading, t
 use Rattle.service.specs.Check.{Outcome, fitting, interfaceFor, written, checked}
 
 unfoldable pub computed : Unit {0}
-unfolding groupsIn kindsIn andThen byteAt below channel shape groupsThenKindIn typeAtIn components member limited newFormIn inputFormIn outputForm freshGroupIn groupFormIn componentFormIn processFormIn processAtIn systemFormIn systemAtIn processFrom readProcessIn component systemFrom readSystemIn freeTypesIn headerIn toItsEnd readSheetIn sheetOfIn every any only gather rising _⊕_ atMost isZero repeatedly countNumber componentAt typeOf locate located acts actsOf sheetActs isKnown ofShape ofChannel isType inScope onChannel carriesObject inPath need-computed needOn needOf isRead isWrite isAccess disclosures weigh total disclosed disclosuresOf entryOf isEmpty holdsAny entriesOf interface flagged permissions requiredOf countIn needed bit mapOf disclosureBytes listBytes entryBytes interfaceBytes hasBit alone headsOf heads asEleven must twoBytes isCount itemAt readList countedList readPermissions children readNode readTrees readPolicy distinct kindsDistinct sameList samePermissions agree metFrom metIn isNew isSame faultOf nodeFault firstFault nodesFault disclosedTo groupsAt keepsWithin allKeep fenced reachedAmong reached treeFor reachedIn reachedFor givenBy flagGranted storedCount listed joined countGranted isTree hasTree pathReached grantsOne covered ask afterReading typed wellFormed satisfied judgedFrom judged fitting interfaceFor written checked
+unfolding groupsIn kindsIn andThen byteAt below channel shape groupsThenKindIn typeAtIn components member limited newFormIn inputFormIn outputForm freshGroupIn groupFormIn componentFormIn processFormIn processAtIn systemFormIn systemAtIn processFrom readProcessIn component systemFrom readSystemIn freeTypesIn headerIn toItsEnd readSheetIn sheetOfIn every any only gather rising _⊕_ atMost isZero repeatedly countNumber componentAt typeOf locate located acts actsOf sheetActs isKnown ofShape ofChannel isType inScope onChannel carriesObject inPath need-computed needOn needOf isRead isWrite isAccess disclosures weigh total disclosed disclosuresOf entryOf isEmpty holdsAny entriesOf interface flagged permissions requiredOf countIn allIn shares neededBy needed bit mapOf disclosureBytes listBytes entryBytes interfaceBytes hasBit alone headsOf heads asEleven must twoBytes isCount itemAt readList countedList readPermissions children readNode readTrees readPolicy distinct kindsDistinct sameList samePermissions agree metFrom metIn isNew isSame faultOf nodeFault firstFault nodesFault disclosedTo groupsAt keepsWithin allKeep fenced reachedAmong reached treeFor reachedIn reachedFor givenBy flagGranted storedCount listed joined countGranted isTree hasTree pathReached grantsOne covered ask afterReading typed wellFormed satisfied judgedFrom judged fitting interfaceFor written checked
 computed = tt
 
 -- What a row wants: the bytes written, or the number of the question that fails.
@@ -37,9 +38,9 @@ pub data Row : Type 0 where
   -- sheet, charter, what is wanted
   row : List ℕ → List ℕ → Wanted → Row
 
--- sixteen bytes that a call is lent
+-- thirty-two bytes that a call is lent
 abbrev pub output : List ℕ
-output = replicate 16 0xAA
+output = replicate 32 0xAA
 
 abbrev pub got : Row → Outcome
 got (row sheet charter want) = checked sheet charter output

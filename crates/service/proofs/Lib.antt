@@ -2,6 +2,7 @@
 pub mod Computed
 pub mod Table
 pub mod Cases
+pub mod Shared
 pub mod JudgeLaws
 pub mod FirstLaws
 pub mod PassedLaws

@@ -1,4 +1,4 @@
--- No mark or no permission: no entry. No tree for the kind: 16. Else the tree's rows decide (`in-tree`).
+-- No entry: 19. No tree for the kind: 16. Else the tree's rows decide (`in-tree`).
 use Rattle.fit.proofs.EntryLaws.{fault-steps}
 use borrow.Author.Needs.{needs}
 use Rattle.fit.proofs.entries.entry_fault.Statement.{statement}
@@ -8,9 +8,6 @@ pub entry-fault-spec : {M : Type 1} → statement M
 entry-fault-spec =
     tie.close
     (tie.spec
-    (λ c κs. search needs)
-    (λ c. search fault-steps)
-    (λ c κs. search needs)
     (λ c κs. search needs)
     (λ c. search fault-steps)
     (λ c κs. search needs)

@@ -6,10 +6,10 @@ use Rattle.fit.proofs.entries.missing_group.Statement.{statement}
 use Rattle.fit.proofs.entries.missing_group.Tie as tie
 
 abbrev Inv-loop : tie.InvT-loop
-Inv-loop c table component kind nodes givers count place₀ place = PlacesSoFar c nodes (givenRows givers) table component kind count place
+Inv-loop c table sums component kind nodes givers count place₀ place = PlacesSoFar c nodes (givenRows givers) table sums component kind count place
 
 abbrev μ-loop : tie.MeasureT-loop
-μ-loop c table component kind nodes givers count place₀ place = count - place
+μ-loop c table sums component kind nodes givers count place₀ place = count - place
 
 pub missing-group-spec : {M : Type 1} → statement M
 missing-group-spec =
@@ -19,6 +19,7 @@ missing-group-spec =
     μ-loop
     (λ c κs. search entry-steps)
     (λ c. search entry-steps)
+    (λ c κs. search entry-steps)
     (λ c κs. search entry-steps)
     (λ c κs. search entry-steps)
     (λ c κs. search entry-steps)

@@ -5,10 +5,10 @@ use Rattle.fit.proofs.entries.row_fault.Statement.{statement}
 use Rattle.fit.proofs.entries.row_fault.Tie as tie
 
 abbrev Inv-loop : tie.InvT-loop
-Inv-loop c nodes trees table component first₀ kind₀ first kind = KindsSoFar c nodes trees table component first kind
+Inv-loop c nodes trees table sums component first₀ kind₀ first kind = KindsSoFar c nodes trees table sums component first kind
 
 abbrev μ-loop : tie.MeasureT-loop
-μ-loop c nodes trees table component first₀ kind₀ first kind = 16 - kind
+μ-loop c nodes trees table sums component first₀ kind₀ first kind = 16 - kind
 
 pub row-fault-spec : {M : Type 1} → statement M
 row-fault-spec =

@@ -1,25 +1,15 @@
--- The components passed so far lack nothing, so that those left decide (`RowsLeft`).
-use Prim.Native.Nat.{_-_}
-use Rattle.fit.proofs.SearchLaws.{search-steps, RowsLeft}
+-- The sums of the classes, made in clear memory, tell what classes need (`all-sums`); with them the first entry that lacks something is found.
+use Rattle.fit.proofs.SearchLaws.{search-steps}
+use borrow.Author.Needs.{needs}
 use Rattle.fit.proofs.uncovered.first_uncovered.Statement.{statement}
 use Rattle.fit.proofs.uncovered.first_uncovered.Tie as tie
-
-abbrev Inv-loop : tie.InvT-loop
-Inv-loop c nodes trees table components component₀ component = RowsLeft c nodes trees table components component
-
-abbrev μ-loop : tie.MeasureT-loop
-μ-loop c nodes trees table components component₀ component = components - component
 
 pub first-uncovered-spec : {M : Type 1} → statement M
 first-uncovered-spec =
     tie.close
     (tie.spec
-    Inv-loop
-    μ-loop
-    (λ c. search search-steps)
-    (λ c κs. search search-steps)
-    (λ c. (search search-steps, search search-steps))
-    (λ c. search search-steps)
-    (λ c. search search-steps)
-    (λ c. search search-steps)
-    (λ c. (search search-steps, search search-steps)))
+    (λ c. search needs)
+    (λ c κs. search needs)
+    (λ c. search needs)
+    (λ c κs. search needs)
+    (λ c. search search-steps))

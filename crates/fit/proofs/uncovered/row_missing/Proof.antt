@@ -5,10 +5,10 @@ use Rattle.fit.proofs.uncovered.row_missing.Statement.{statement}
 use Rattle.fit.proofs.uncovered.row_missing.Tie as tie
 
 abbrev Inv-loop : tie.InvT-loop
-Inv-loop c nodes trees table component kind₀ kind = KindsLeft c nodes trees table component kind
+Inv-loop c nodes trees table sums component kind₀ kind = KindsLeft c nodes trees table sums component kind
 
 abbrev μ-loop : tie.MeasureT-loop
-μ-loop c nodes trees table component kind₀ kind = 16 - kind
+μ-loop c nodes trees table sums component kind₀ kind = 16 - kind
 
 pub row-missing-spec : {M : Type 1} → statement M
 row-missing-spec =
