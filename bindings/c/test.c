@@ -1,5 +1,6 @@
 /* Tests velimhaw.h: entries and records taken off whole, truncated and malformed bytes, the lines of the questions, the memory lent to a
- * refused call, and the sentence. All bytes stand right before a page that may not be touched, so a read past their end is a fault. */
+ * refused call, a count that components share, and the sentence. All bytes stand right before a page that may not be touched, so a read
+ * past their end is a fault. */
 #define _DEFAULT_SOURCE
 #include "velimhaw.h"
 #include "w.h"
@@ -190,6 +191,21 @@ static void test_accepted_calls(void) {
     assert(memcmp(log.bytes, w_log, sizeof w_log) == 0);
 }
 
+/* Two components of one path, each of which discloses a link: accepted, each entry with its own count, where the charter's count covers
+ * both, and refused with 18 where it is one less. */
+static void test_shared_count(void) {
+    static const uint8_t sheet_bytes[] = {2, 2, 0, 0, 0, 1, 0, 0, 2, 0, 1, 4, 1, 6, 0, 1, 0, 4, 1, 6, 0, 1, 0};
+    static const uint8_t both[] = {1, 0, 0, 8, 1, 1, 0x10, 1, 0, 2, 0, 0};
+    static const uint8_t one_less[] = {1, 0, 0, 8, 1, 1, 0x10, 1, 0, 1, 0, 0};
+    static const uint8_t entries[] = {0, 2, 0, 1, 0x10, 1, 0, 1, 0, 0, 2, 0, 1, 0x10, 1, 0, 1, 0};
+    velimhaw_bytes sheet = {sheet_bytes, sizeof sheet_bytes};
+    velimhaw_bytes covering = {both, sizeof both}, strict = {one_less, sizeof one_less};
+    velimhaw_lent output = {page_end - sizeof entries, sizeof entries};
+    assert(velimhaw_check(sheet, strict, output) == 18);
+    assert(velimhaw_check(sheet, covering, output) == VELIMHAW_ACCEPTED + sizeof entries);
+    assert(memcmp(output.bytes, entries, sizeof entries) == 0);
+}
+
 /* The sentence of W under a stricter charter: in a line of its length right before the page that may not be touched, and in a longer
  * line, which keeps the bytes past it. */
 static void test_sentence_of_w(void) {
@@ -276,6 +292,7 @@ int main(void) {
     test_refused_calls();
     test_shared_inputs();
     test_accepted_calls();
+    test_shared_count();
     test_sentence_of_w();
     test_no_sentence();
     test_broken_names();

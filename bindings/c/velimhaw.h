@@ -263,7 +263,7 @@ static inline const char *velimhaw_question(uint64_t number) {
     case 15: return "below a node with nondisclose, disclosure only to groups of that node or of nodes below it";
     case 16: return "a tree of the charter for each entry's kind";
     case 17: return "each group of each entry's path at a node that the path reaches";
-    case 18: return "each entry covered by what the charter grants its path";
+    case 18: return "each entry covered by what the charter grants its path, counts added over the components with the same groups";
     case 19: return "an output long enough for the interface, or a line for the sentence";
     case 20: return "a start of at most 64 threads and 1,024 names";
     case 21: return "a script of at most 1,024 whole moves, each field in its range";

@@ -26,7 +26,7 @@ pub fn sheet(size: usize, components: usize, kinds: usize) -> Vec<u8> {
 }
 
 /// So many parts in parallel, as evenly nested as can be.
-fn parallel(out: &mut Vec<u8>, count: usize, part: &mut dyn FnMut(&mut Vec<u8>)) {
+pub fn parallel(out: &mut Vec<u8>, count: usize, part: &mut dyn FnMut(&mut Vec<u8>)) {
     if count <= 1 {
         return part(out);
     }
@@ -117,10 +117,10 @@ pub fn deep_sheet(components: usize) -> Vec<u8> {
     out
 }
 
-/// A charter for such a sheet: one tree of 64 nodes, in which 56 that the path does not reach stand before those below the root that
-/// it reaches.
-pub fn deep_charter() -> Vec<u8> {
-    let mut out = vec![1, 0, 0, 0x10, 1, 0, 1, 0, 57];
+/// A charter for such a sheet of so many components, which share one count: one tree of 64 nodes, in which 56 that the path does not reach
+/// stand before those below the root that it reaches.
+pub fn deep_charter(components: usize) -> Vec<u8> {
+    let mut out = vec![1, 0, 0, 0x10, 1, 0, components as u8, 0, 57];
     for group in 8..64 {
         out.extend_from_slice(&[group, 0x00, 0]);
     }

@@ -5,6 +5,7 @@
 
 mod inputs;
 mod instructions;
+mod shared;
 mod workloads;
 
 use std::time::{Duration, Instant};

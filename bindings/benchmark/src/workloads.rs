@@ -1,6 +1,6 @@
 //! The workloads of the benchmark: a call of `check` or `play` on given inputs, of either side.
 
-use crate::inputs;
+use crate::{inputs, shared};
 use std::hint::black_box;
 
 pub struct Workload {
@@ -26,7 +26,12 @@ pub fn all() -> Vec<Workload> {
         all.push(check(&format!("check, growth: {size} bytes"), inputs::sheet(size, components, 4), inputs::charter(4)));
     }
     for posts in [4, 8, 16, 32] {
-        all.push(check(&format!("check, deep: {posts} paths of 8, 64 nodes"), inputs::deep_sheet(posts), inputs::deep_charter()));
+        all.push(check(&format!("check, deep: {posts} paths of 8, 64 nodes"), inputs::deep_sheet(posts), inputs::deep_charter(posts)));
+    }
+    for posts in [8, 16, 32] {
+        let ((sheet, charter), (own_sheet, own_charter)) = (shared::one_class(posts), shared::of_their_own(posts));
+        all.push(check(&format!("check, shared: {posts} posts of one class"), sheet, charter));
+        all.push(check(&format!("check, shared: {posts} posts of their own"), own_sheet, own_charter));
     }
     for (moves, idle, threads) in [(1024, 0, "few"), (1024, 60, "64"), (512, 60, "64"), (256, 60, "64"), (24, 0, "few"), (3, 0, "few")] {
         let name = format!("play, {moves} moves, {threads} threads");

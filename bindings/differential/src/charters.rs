@@ -1,34 +1,34 @@
 //! Generates charters: one that just covers an interface, and perturbations of it that may just fail.
 
+use crate::classes::Class;
 use crate::random::Random;
 use independent::charter::{Charter, Node, Tree};
 use independent::permissions::{Count, Entry, Need, Permissions};
-use independent::sheet::Sheet;
 use std::collections::{BTreeMap, BTreeSet};
 
 /// The permissions that each group of a tree grants.
 type Grants = BTreeMap<u8, Permissions>;
 
-/// A charter that covers the interface wherever the entries of a kind share a group.
-pub fn covering(random: &mut Random, sheet: &Sheet, interface: &[Entry]) -> Charter {
-    let kinds: BTreeSet<u8> = interface.iter().map(|entry| entry.kind).collect();
+/// A charter that covers an interface, given by its classes, wherever those of a kind have a group in common.
+pub fn covering(random: &mut Random, classes: &[Class]) -> Charter {
+    let kinds: BTreeSet<u8> = classes.iter().map(|class| class.kind).collect();
     let mut trees: Vec<Tree> = Vec::new();
     for kind in kinds {
-        let entries: Vec<&Entry> = interface.iter().filter(|entry| entry.kind == kind).collect();
-        trees.push(Tree { kind, root: covering_tree(random, sheet, &entries) });
+        let classes: Vec<&Class> = classes.iter().filter(|class| class.kind == kind).collect();
+        trees.push(Tree { kind, root: covering_tree(random, &classes) });
     }
     random.shuffle(&mut trees);
     Charter { trees }
 }
 
-fn covering_tree(random: &mut Random, sheet: &Sheet, entries: &[&Entry]) -> Node {
-    let paths: Vec<&Vec<u8>> = entries.iter().map(|entry| &sheet.paths[entry.component]).collect();
-    let shared: Vec<u8> = paths[0].iter().copied().filter(|g| paths.iter().all(|path| path.contains(g))).collect();
+fn covering_tree(random: &mut Random, classes: &[&Class]) -> Node {
+    let paths: Vec<&[u8]> = classes.iter().flat_map(|class| class.paths.iter().copied()).collect();
+    let common: Vec<u8> = paths[0].iter().copied().filter(|g| paths.iter().all(|path| path.contains(g))).collect();
     let mut grants = Grants::new();
-    for (entry, path) in entries.iter().zip(&paths) {
-        spread(random, &entry.permissions, path, &mut grants);
+    for class in classes {
+        spread(random, &class.needs, class.paths[0], &mut grants);
     }
-    let root = if shared.is_empty() { paths[0][0] } else { random.pick(&shared) };
+    let root = if common.is_empty() { paths[0][0] } else { random.pick(&common) };
     let mut tree = node(root, &grants);
     let flat = random.chance(60);
     for path in &paths {
@@ -61,7 +61,7 @@ fn insert(below: &mut Node, chain: &[u8], grants: &Grants) {
     insert(&mut below.children[at], rest, grants);
 }
 
-/// Spreads what an entry needs over the groups of its path.
+/// Spreads what a class needs over the groups of its path.
 fn spread(random: &mut Random, needs: &Permissions, path: &[u8], grants: &mut Grants) {
     grants.entry(random.pick(path)).or_default().read |= needs.read;
     grants.entry(random.pick(path)).or_default().write |= needs.write;
@@ -87,7 +87,7 @@ fn raise(grants: &mut Grants, at: u8, group: u8, count: Count) {
 }
 
 /// Calls `change` on each node of a tree, children first, so that added ones are not visited.
-fn each_node(node: &mut Node, change: &mut dyn FnMut(&mut Node)) {
+pub fn each_node(node: &mut Node, change: &mut dyn FnMut(&mut Node)) {
     for child in &mut node.children {
         each_node(child, change);
     }

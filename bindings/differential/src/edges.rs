@@ -1,11 +1,11 @@
-//! Sheets and charters around the limits of document 01: lengths, nesting, names, components, threads, nodes.
+//! Sheets and charters around the limits of document 01: lengths, nesting, names, components, threads, nodes; and large shared counts.
 
 use crate::random::Random;
 
 /// A sheet and a charter near one limit.
 pub fn edge(random: &mut Random) -> (Vec<u8>, Vec<u8>) {
     let step = random.below(4);
-    match random.below(12) {
+    match random.below(13) {
         0 => (nested(&[3, 0, 0], 62 + step), vec![0]),
         1 => (nested(&[1], 62 + step).into_iter().chain(vec![0; 62 + step]).collect(), vec![0]),
         2 => (components(31 + step, &[4, 0, 0]), vec![0]),
@@ -17,6 +17,7 @@ pub fn edge(random: &mut Random) -> (Vec<u8>, Vec<u8>) {
         8 => (padded(4094 + step), vec![0]),
         9 => (vec![0, 0], padded(4094 + step)),
         10 => long_path(random, 6 + step),
+        11 => shared_count(random),
         _ => (bound_names(61 + step), vec![1, 0, 0, 0x17, 1, 0, 255, 255, 0]),
     }
 }
@@ -88,6 +89,21 @@ fn long_path(random: &mut Random, groups: usize) -> (Vec<u8>, Vec<u8>) {
     let acts: [&[u8]; 4] = [&[5, 1, 0, 15, 0], &[6, 1, 2, 0], &[5, 0, 1, 1, 15, 0], &[6, 0, 1, 0]];
     sheet.extend_from_slice(random.pick(&acts));
     (sheet, charter)
+}
+
+/// Many components of one path, or of its two orders, that disclose equally often, and a charter whose count is about their sum.
+fn shared_count(random: &mut Random) -> (Vec<u8>, Vec<u8>) {
+    let (components, times) = (random.between(2, 32), random.between(1, 38));
+    let paths: [[u8; 4]; 2] = [[2, 0, 4, 1], random.pick(&[[2, 0, 4, 1], [2, 1, 4, 0]])];
+    let mut sheet = vec![2, 2, 0, 0, 0, 1, 0, 0];
+    for number in 0..components {
+        sheet.extend_from_slice(if number + 1 < components { &[1] } else { &[] });
+        sheet.extend_from_slice(&paths[number % 2]);
+        (0..times).for_each(|_| sheet.extend_from_slice(&[6, 0, 1]));
+        sheet.push(0);
+    }
+    let [low, high] = ((components * times + random.below(3)) as u16 - 1).to_le_bytes();
+    (sheet, vec![1, 0, 0, 0, 1, 1, 0x10, 1, 0, low, high, 0])
 }
 
 /// Names bound by receives until so many are in scope.

@@ -2,7 +2,9 @@
 
 use crate::case::Case;
 use crate::random::Random;
-use crate::{charters, damage, edges, names, repeats, scripts, sheets};
+use crate::{charters, classes, damage, edges, names, repeats, scripts, sheets};
+use independent::charter::Charter;
+use independent::permissions::Entry;
 use independent::running::State;
 use independent::{sheet, typing};
 
@@ -37,17 +39,26 @@ fn pair(random: &mut Random) -> (Vec<u8>, Vec<u8>) {
         return (bytes, vec![0]);
     };
     let interface = typing::interface(&read);
-    let mut charter = charters::covering(random, &read, &interface);
-    if random.chance(45) {
-        (0..random.between(1, 2)).for_each(|_| charters::perturb(random, &mut charter));
-    }
-    if random.chance(25) {
-        (0..random.between(1, 2)).for_each(|_| charters::withhold(random, &mut charter, &interface));
-    }
-    if random.chance(12) {
-        repeats::repeat(random, &mut charter);
+    let classes = classes::classes(&read, &interface);
+    let mut charter = charters::covering(random, &classes);
+    let tipped = random.chance(50) && classes::tip(random, &mut charter, &classes);
+    if !tipped || random.chance(20) {
+        change(random, &mut charter, &interface);
     }
     (bytes, charter.write())
+}
+
+/// Leaves a charter as it is, or changes it here and there.
+fn change(random: &mut Random, charter: &mut Charter, interface: &[Entry]) {
+    if random.chance(45) {
+        (0..random.between(1, 2)).for_each(|_| charters::perturb(random, charter));
+    }
+    if random.chance(25) {
+        (0..random.between(1, 2)).for_each(|_| charters::withhold(random, charter, interface));
+    }
+    if random.chance(12) {
+        repeats::repeat(random, charter);
+    }
 }
 
 /// A script for a sheet; where the sheet is refused, a short one.

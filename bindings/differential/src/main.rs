@@ -4,6 +4,7 @@
 
 mod case;
 mod charters;
+mod classes;
 mod damage;
 mod edges;
 mod faults;
@@ -12,6 +13,8 @@ mod names;
 mod random;
 mod repeats;
 mod scripts;
+mod shared;
+mod sharers;
 mod sheets;
 mod shrink;
 mod subject;

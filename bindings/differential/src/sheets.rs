@@ -1,6 +1,7 @@
-//! Generates sheets, mostly well-typed: repeats, new names, links received and sent on, components in nested groups.
+//! Generates sheets, mostly well-typed: repeats, new names, links received and sent on, components in nested groups or on given paths.
 
 use crate::random::Random;
+use crate::sharers;
 use independent::types::Type;
 
 /// How a sheet is to look.
@@ -8,16 +9,19 @@ pub struct Plan {
     pub components: usize,
     pub acts: usize,
     pub fault_percent: usize,
+    /// Whether the components get paths whose groups are often the same.
+    pub sharing: bool,
 }
 
 /// A plan: mostly small and faultless, now and then large.
 pub fn plan(random: &mut Random) -> Plan {
-    let large = random.chance(5);
+    let (large, sharing) = (random.chance(5), random.chance(45));
     let fault_percent = if random.chance(15) { random.between(1, 8) } else { 0 };
     Plan {
-        components: if large { random.between(8, 32) } else { random.between(1, 5) },
+        components: if large { random.between(8, 32) } else { random.between(1 + sharing as usize, 5) },
         acts: if large { random.between(20, 120) } else { random.between(1, 12) },
         fault_percent,
+        sharing,
     }
 }
 
@@ -75,7 +79,10 @@ impl Maker<'_> {
     /// The system, mostly inside one group that all components share.
     fn top(&mut self) {
         let components = self.plan.components;
-        if self.random.chance(85) {
+        if self.plan.sharing {
+            let paths = sharers::paths(self.random, &self.groups, components);
+            self.along(&paths, 1);
+        } else if self.random.chance(85) {
             let root = self.groups[0];
             self.in_group(2, root, |maker| maker.system(components, 2));
         } else {
@@ -126,6 +133,26 @@ impl Maker<'_> {
         }
     }
 
+    /// Components on these paths; groups that all of them begin with are written once or for each.
+    fn along(&mut self, paths: &[Vec<u8>], level: usize) {
+        let group = paths[0][0];
+        let together = paths.iter().all(|path| path[0] == group && path.len() > 1);
+        if self.scope.len() < 60 && level < 20 && self.random.chance(15) {
+            self.new_name(|maker| maker.along(paths, level + 1));
+        } else if together && (paths.len() == 1 || self.random.chance(50)) {
+            let rest: Vec<Vec<u8>> = paths.iter().map(|path| path[1..].to_vec()).collect();
+            self.in_group(2, group, |maker| maker.along(&rest, level + 1));
+        } else if paths.len() > 1 {
+            let (left, right) = paths.split_at(paths.len() / 2);
+            self.out.push(1);
+            self.along(left, level + 1);
+            self.along(right, level + 1);
+        } else {
+            let acts = self.random.between(0, self.plan.acts);
+            self.in_group(4, group, |maker| maker.process(acts, level + 1));
+        }
+    }
+
     /// A new name, often of a type that some channel in scope carries.
     fn new_name(&mut self, inner: impl FnOnce(&mut Self)) {
         let carried: Vec<Type> = self.scope.iter().filter_map(Type::carried).collect();
@@ -155,7 +182,7 @@ impl Maker<'_> {
         match self.random.below(100) {
             0..=19 => self.parallel(acts, level),
             20..=27 => self.new_name(|maker| maker.process(acts - 1, level + 1)),
-            28..=35 => self.repeat(acts, level),
+            28..=35 if !self.plan.sharing || self.random.chance(15) => self.repeat(acts, level),
             36..=66 => self.receive(acts, level),
             _ => self.send(acts, level),
         }

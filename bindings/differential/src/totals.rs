@@ -1,11 +1,11 @@
-//! What the cases of a run met: refusals by number, faults of charters that come together, the first uncovered permissions by verb,
-//! records by label.
+//! What the cases of a run met: refusals by number, faults of charters that come together, counts that components share, the first
+//! uncovered permissions by verb, records by label.
 
 use crate::case::Case;
-use crate::faults;
 use crate::subject::Independent;
-use independent::charter;
+use crate::{faults, shared};
 use independent::permissions::Need;
+use independent::{charter, sheet, typing};
 use std::collections::BTreeMap;
 
 #[derive(Default)]
@@ -20,6 +20,8 @@ pub struct Totals {
     explain: BTreeMap<u32, u64>,
     play: BTreeMap<u32, u64>,
     faults: BTreeMap<&'static str, u64>,
+    shared: BTreeMap<&'static str, u64>,
+    sums: BTreeMap<&'static str, u64>,
     verbs: BTreeMap<&'static str, u64>,
     records: BTreeMap<(u8, u8), u64>,
 }
@@ -31,6 +33,7 @@ impl Totals {
         self.accepted += independent::accept(&case.sheet, &case.charter).is_ok() as u64;
         tally(&mut self.check, case.check(&Independent).answer);
         self.count_faults(case);
+        self.count_shared(case);
         self.count_explanation(case);
         self.count_run(case);
     }
@@ -44,6 +47,23 @@ impl Totals {
         for what in faults::met(&charter) {
             *self.faults.entry(what).or_insert(0) += 1;
         }
+    }
+
+    /// Adds what a sheet that was asked 11 meets of shared counts, and, where it was asked 18, what that answers.
+    fn count_shared(&mut self, case: &Case) {
+        let refused = independent::accept(&case.sheet, &case.charter).err();
+        if refused.is_some_and(|number| number < 11) {
+            return;
+        }
+        let sheet = sheet::read(&case.sheet).expect("a sheet that passes 6");
+        let interface = typing::interface(&sheet);
+        shared::met(&sheet, &interface).into_iter().for_each(|what| *self.shared.entry(what).or_insert(0) += 1);
+        if refused.is_some_and(|number| number < 18) {
+            return;
+        }
+        let charter = charter::read(&case.charter).expect("a charter that passes 11");
+        let answered = shared::answered(&sheet, &charter, &interface, refused.is_none());
+        answered.into_iter().for_each(|what| *self.sums.entry(what).or_insert(0) += 1);
     }
 
     fn count_explanation(&mut self, case: &Case) {
@@ -69,6 +89,8 @@ impl Totals {
     pub fn print(&self) {
         println!("check, refused by number: {:?}", self.check);
         println!("charters with nodes that fail 13 or 14: {:?}", self.faults);
+        println!("sheets with a count that components share: {:?}", self.shared);
+        println!("question 18 on those: {:?}", self.sums);
         println!("explain, refused by number: {:?}; {} sentences, the longest of {} bytes", self.explain, self.sentences, self.longest);
         println!("first uncovered permission, by verb: {:?}", self.verbs);
         println!("play, refused by number: {:?}", self.play);

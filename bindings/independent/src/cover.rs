@@ -1,7 +1,8 @@
 //! Reached nodes, grants, and whether a charter covers an interface (questions 16 to 18).
 
 use crate::charter::{Charter, Node};
-use crate::permissions::{Entry, Need, Permissions};
+use crate::permissions::{ByKind, Entry, Need, Permissions};
+use crate::sharing;
 use crate::sheet::Sheet;
 use std::collections::BTreeMap;
 
@@ -46,10 +47,36 @@ pub fn check(sheet: &Sheet, charter: &Charter, interface: &[Entry]) -> Result<()
     if !pairs.clone().all(|(entry, groups)| groups.len() == path(entry).len()) {
         return Err(17);
     }
-    if !pairs.all(|(entry, groups)| entry.permissions.within(&join(groups))) {
+    let shared = Shared::new(sheet, interface);
+    if !pairs.all(|(entry, groups)| shared.uncovered(entry, &join(groups)).is_none()) {
         return Err(18);
     }
     Ok(())
+}
+
+/// What the components of a sheet need together, by their classes.
+struct Shared {
+    classes: Vec<usize>,
+    sums: Vec<ByKind>,
+}
+
+impl Shared {
+    fn new(sheet: &Sheet, interface: &[Entry]) -> Shared {
+        let classes = sharing::classes(&sheet.paths);
+        let needs = interface.iter().map(|entry| (entry.component, entry.kind, &entry.permissions));
+        let sums = sharing::sums(&classes, needs);
+        Shared { classes, sums }
+    }
+
+    /// The first permission of an entry that its grant does not cover: a flag by itself, a disclosure with the sum over its class.
+    fn uncovered(&self, entry: &Entry, grant: &Permissions) -> Option<Need> {
+        let sum = &self.sums[self.classes[entry.component]][&entry.kind];
+        let covered = |need: Need| match need {
+            Need::Disclose(group) => sum.count(group) <= grant.count(group),
+            flag => grant.grants(flag),
+        };
+        entry.permissions.each().map(|(need, _)| need).find(|&need| !covered(need))
+    }
 }
 
 /// A permission that some component needs and its charter does not cover.
@@ -62,9 +89,10 @@ pub struct Uncovered {
 
 /// The first uncovered permission: entries in order, and within an entry the order of its permissions.
 pub fn first_uncovered(sheet: &Sheet, charter: &Charter, interface: &[Entry]) -> Option<Uncovered> {
+    let shared = Shared::new(sheet, interface);
     interface.iter().find_map(|entry| {
         let path = &sheet.paths[entry.component];
-        let need = entry.permissions.uncovered(&grant(charter, path, entry.kind))?;
+        let need = shared.uncovered(entry, &grant(charter, path, entry.kind))?;
         Some(Uncovered { path: path.clone(), need, kind: entry.kind })
     })
 }

@@ -1,20 +1,22 @@
-//! Demand 3 looked at in a run: after each move the state is typed, no component infers beyond the start,
-//! no next act is an error, and links disclosed plus those still inferred stay within the charter.
+//! Demand 3 looked at in a run: after each move the state is typed, no component infers beyond the start, no next act is an error, and
+//! links disclosed plus those still inferred, of all components that share a count, stay within the charter.
 
 use crate::cover;
 use crate::permissions::{ByKind, Count, Need, Permissions};
 use crate::running::{Label, State, Taken, Thread};
+use crate::sharing;
 use crate::types::Type;
 use crate::typing;
 use crate::Accepted;
-use std::collections::BTreeMap;
 
 /// What demand 3 has to remember over a run.
 pub struct Watch<'a> {
     paths: &'a [Vec<u8>],
+    classes: Vec<usize>,
     inferred: Vec<ByKind>,
     grants: Vec<Vec<Permissions>>,
-    disclosed: Vec<BTreeMap<(u8, u8), u32>>,
+    /// The links that each component has disclosed.
+    disclosed: Vec<ByKind>,
 }
 
 impl<'a> Watch<'a> {
@@ -27,7 +29,7 @@ impl<'a> Watch<'a> {
         }
         let grant = |path: &Vec<u8>| (0..16).map(|kind| cover::grant(&accepted.charter, path, kind)).collect();
         let grants = paths.iter().map(grant).collect();
-        Watch { paths, inferred, grants, disclosed: vec![BTreeMap::new(); paths.len()] }
+        Watch { paths, classes: sharing::classes(paths), inferred, grants, disclosed: vec![ByKind::new(); paths.len()] }
     }
 
     /// Notes the link that a taken move discloses, if it does.
@@ -35,7 +37,7 @@ impl<'a> Watch<'a> {
         let sends = matches!(taken.label, Label::Communication | Label::Out | Label::OutNew);
         let (true, Some(channel), Some(component)) = (sends, taken.channel, taken.component) else { return };
         if let Some((kind, Need::Disclose(group))) = typing::need(false, state.types[channel as usize]) {
-            *self.disclosed[component].entry((kind, group)).or_insert(0) += 1;
+            self.disclosed[component].entry(kind).or_default().add_disclose(group, Count::Finite(1));
         }
     }
 
@@ -47,9 +49,9 @@ impl<'a> Watch<'a> {
                 .map_err(|what| format!("thread {number}: {what}"))?;
         }
         for (component, needs) in now.iter().enumerate() {
-            self.look_at_component(component, needs).map_err(|what| format!("component {component}: {what}"))?;
+            self.not_beyond_the_start(component, needs).map_err(|what| format!("component {component}: {what}"))?;
         }
-        Ok(())
+        self.look_at_limits(&now)
     }
 
     fn look_at_thread(&self, thread: &Thread, state: &State, needs: &mut ByKind) -> Result<(), String> {
@@ -65,26 +67,44 @@ impl<'a> Watch<'a> {
         Ok(())
     }
 
-    fn look_at_component(&self, component: usize, needs: &ByKind) -> Result<(), String> {
+    fn not_beyond_the_start(&self, component: usize, needs: &ByKind) -> Result<(), String> {
         let nothing = Permissions::default();
         for (kind, permissions) in needs {
             if !permissions.within(self.inferred[component].get(kind).unwrap_or(&nothing)) {
                 return Err(format!("infers of kind {kind} beyond the start"));
             }
         }
-        let still = needs.iter().flat_map(|(&kind, p)| p.disclose.keys().map(move |&group| (kind, group)));
-        let disclosed = self.disclosed[component].keys().copied();
-        still.chain(disclosed).try_for_each(|(kind, group)| self.within_charter(component, kind, group, needs))
+        Ok(())
     }
 
-    /// Links disclosed plus links still inferred, held against the charter's count.
-    fn within_charter(&self, component: usize, kind: u8, group: u8, needs: &ByKind) -> Result<(), String> {
-        let disclosed = Count::Finite(self.disclosed[component].get(&(kind, group)).copied().unwrap_or(0));
-        let still = needs.get(&kind).map_or(Count::Finite(0), |permissions| permissions.count(group));
-        let granted = self.grants[component][kind as usize].count(group);
-        if disclosed.plus(still) <= granted {
-            return Ok(());
+    /// Links disclosed plus links still inferred: of each class, and, which follows, of each component by itself.
+    fn look_at_limits(&self, now: &[ByKind]) -> Result<(), String> {
+        let by_itself: Vec<usize> = (0..self.paths.len()).collect();
+        for (what, classes) in [("component", &by_itself), ("class of component", &self.classes)] {
+            let links = each(&self.disclosed).chain(each(now));
+            for (number, links) in sharing::sums(classes, links).iter().enumerate() {
+                self.within_charter(number, links).map_err(|told| format!("{what} {number}: {told}"))?;
+            }
         }
-        Err(format!("kind {kind}, group {group}: disclosed {disclosed:?}, still {still:?}, granted {granted:?}"))
+        Ok(())
     }
+
+    /// Links held against the charter's counts for a component's path.
+    fn within_charter(&self, component: usize, links: &ByKind) -> Result<(), String> {
+        for (&kind, permissions) in links {
+            for (&group, &count) in &permissions.disclose {
+                let granted = self.grants[component][kind as usize].count(group);
+                if count > granted {
+                    return Err(format!("kind {kind}, group {group}: disclosed and still inferred {count:?}, granted {granted:?}"));
+                }
+            }
+        }
+        Ok(())
+    }
+}
+
+/// Component, kind and permissions of each that components have.
+fn each(components: &[ByKind]) -> impl Iterator<Item = (usize, u8, &Permissions)> {
+    let numbered = components.iter().enumerate();
+    numbered.flat_map(|(component, kinds)| kinds.iter().map(move |(&kind, permissions)| (component, kind, permissions)))
 }

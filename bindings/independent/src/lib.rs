@@ -1,6 +1,6 @@
-//! Document 01 (flow sheets, charters and runs) and the sentence for a refused sheet, in plain Rust, written from the documents and the
-//! list of readings that decides their open points. It shares no code with the proved library, but those readings it shares: an agreement
-//! of the two says nothing about an open point that the list itself reads wrongly.
+//! Document 01 (flow sheets, charters and runs), the sentence for a refused sheet and the counts that components share, in plain Rust,
+//! written from the documents and the list of readings that decides their open points. It shares no code with the proved library, but
+//! those readings it shares: an agreement of the two says nothing about an open point that the list itself reads wrongly.
 
 pub mod bytes;
 pub mod charter;
@@ -11,6 +11,7 @@ pub mod permissions;
 pub mod running;
 pub mod script;
 pub mod sentence;
+pub mod sharing;
 pub mod sheet;
 pub mod text;
 pub mod types;

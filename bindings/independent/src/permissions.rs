@@ -93,14 +93,9 @@ impl Permissions {
         }
     }
 
-    /// The first permission here that is not covered there.
-    pub fn uncovered(&self, other: &Permissions) -> Option<Need> {
-        self.each().find(|&(need, count)| !other.covers(need, count)).map(|(need, _)| need)
-    }
-
     /// Whether every flag and every count here is also there.
     pub fn within(&self, other: &Permissions) -> bool {
-        self.uncovered(other).is_none()
+        self.each().all(|(need, count)| other.covers(need, count))
     }
 
     /// Whether one act's need is granted.

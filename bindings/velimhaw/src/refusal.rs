@@ -49,7 +49,7 @@ pub fn question(number: usize) -> Option<&'static str> {
         15 => "below a node with nondisclose, disclosure only to groups of that node or of nodes below it",
         16 => "a tree of the charter for each entry's kind",
         17 => "each group of each entry's path at a node that the path reaches",
-        18 => "each entry covered by what the charter grants its path",
+        18 => "each entry covered by what the charter grants its path, counts added over the components with the same groups",
         19 => "an output long enough for the interface, or a line for the sentence",
         20 => "a start of at most 64 threads and 1,024 names",
         21 => "a script of at most 1,024 whole moves, each field in its range",

@@ -131,6 +131,30 @@ fn try_explain_answers_the_sentence() {
     assert_eq!(try_explain(&[], &[], &[], &mut []), Err(Refusal::new(2)));
 }
 
+/// Two components whose paths have the groups 0 and 1, in one order and in both; each discloses one link into group 0.
+const SHARING_SHEETS: [&[u8]; 2] = [
+    &[2, 2, 0, 0, 0, 1, 0, 0, 2, 0, 1, 4, 1, 6, 0, 1, 0, 4, 1, 6, 0, 1, 0],
+    &[2, 2, 0, 0, 0, 1, 0, 0, 1, 2, 0, 4, 1, 6, 0, 1, 0, 2, 1, 4, 0, 6, 0, 1, 0],
+];
+
+/// A charter that lets such components disclose so many links into group 0.
+fn sharing_charter(count: u8) -> [u8; 12] {
+    [1, 0, 0, 8, 1, 1, 16, 1, 0, count, 0, 0]
+}
+
+#[test]
+fn components_with_the_same_groups_share_a_count() {
+    for (sheet, second) in SHARING_SHEETS.into_iter().zip(["0 0.1 d0:1", "0 1.0 d0:1"]) {
+        let mut output = [KEPT; 18];
+        assert_eq!(check(sheet, &sharing_charter(1), &mut output), Answer::Refused(18));
+        assert_eq!(output, [KEPT; 18]);
+        let lines: Vec<String> = try_check(sheet, &sharing_charter(2), &mut output).unwrap().map(|entry| entry.to_string()).collect();
+        assert_eq!(lines, ["0 0.1 d0:1", second]);
+        let mut line = [KEPT; SENTENCE_MAX];
+        assert_eq!(try_explain(sheet, &sharing_charter(1), &w::names(), &mut line), Ok(Some(w::SENTENCE)));
+    }
+}
+
 /// A component whose path has eight groups discloses a link, under a charter that gives those groups nothing.
 fn longest_path() -> (Vec<u8>, Vec<u8>) {
     let mut sheet = vec![2, 2, 0, 0, 0, 1, 0, 0];
