@@ -9,17 +9,17 @@ use libc::STDOUT_FILENO;
 use listing::entry_line;
 use service::Answer;
 
-// Prints the entry at a place of an interface, `between` before it and no newline after it; the place after the entry, or the
+// Prints the entry at a place of the slack, `between` before it and no newline after it; the place after the entry, or the
 // same place at the end.
-fn print_entry(interface: &[u8], at: usize, between: &[u8]) -> usize {
-    if interface.len() <= at {
+fn print_entry(slack: &[u8], at: usize, between: &[u8]) -> usize {
+    if slack.len() <= at {
         return at;
     }
-    if 18432 <= at {
+    if 26624 <= at {
         return at;
     }
     let mut text = [0u8; 4096];
-    let line = entry_line(interface, at, &mut text);
+    let line = entry_line(slack, at, &mut text);
     let len = line.len;
     if 0 < len {
         io::write_all(STDOUT_FILENO, between);
@@ -28,12 +28,12 @@ fn print_entry(interface: &[u8], at: usize, between: &[u8]) -> usize {
     line.next
 }
 
-// Prints the entries of an interface. Each entry has at least four bytes, so 4,608 turns reach the end.
-fn print_entries(interface: &[u8], between: &[u8]) {
+// Prints the entries of the slack. Each entry has at least four bytes, so 6,656 turns reach the end.
+fn print_entries(slack: &[u8], between: &[u8]) {
     let mut at: usize = 0;
-    let mut turns: usize = 4608;
+    let mut turns: usize = 6656;
     while 0 < turns {
-        at = print_entry(interface, at, between);
+        at = print_entry(slack, at, between);
         turns -= 1;
     }
 }
@@ -50,16 +50,16 @@ fn print_explanation(explained: Answer, line: &[u8], between: &[u8]) {
 }
 
 // Prints what `list` prints for a sheet, a charter and a names file, its lines parted by `between`, and a newline: `accepted` and the
-// interface, an entry a line, or `refused N`, and below 18 the sentence. No interface is longer than the output that is lent
-// (`always-room` in the crate service's proofs/RoomLaws.antt), and no sentence longer than the line (`sentence-length` in the crate
+// interface with its slack, an entry a line, or `refused N`, and below 18 the sentence. No slack is longer than the output that is lent
+// (`slack-always-room` in the crate slack's proofs/SlackSizes.antt), and no sentence longer than the line (`sentence-length` in the crate
 // naming's proofs/SentenceLaws.antt).
 pub fn print_listing(sheet: &[u8], charter: &[u8], names: &[u8], between: &[u8]) {
-    let mut output = [0u8; 18432];
+    let mut output = [0u8; 26624];
     let mut line = [0u8; 230];
     let examined = examine(sheet, charter, names, &mut output, &mut line);
-    let checked = examined.checked;
+    let told = examined.told;
     let explained = examined.explained;
-    match checked {
+    match told {
         Answer::Accepted(n) => {
             io::write_all(STDOUT_FILENO, b"accepted");
             print_entries(first(&output, n), between);
@@ -74,9 +74,9 @@ pub fn print_listing(sheet: &[u8], charter: &[u8], names: &[u8], between: &[u8])
     io::write_all(STDOUT_FILENO, b"\n");
 }
 
-// The program `list`: reads `sheet.bin`, `charter.bin` and `names.bin`, and prints `accepted` and the interface, or `refused N` and
-// below 18 the sentence. A names file of 80 names has at most 1,680 bytes, and a longer one fails question 40 however much of it is
-// read.
+// The program `list`: reads `sheet.bin`, `charter.bin` and `names.bin`, and prints `accepted` and the interface with its slack, or
+// `refused N` and below 18 the sentence. A names file of 80 names has at most 1,680 bytes, and a longer one fails question 40 however
+// much of it is read.
 pub fn list() {
     let mut sheet = [0u8; 4097];
     let mut charter = [0u8; 4097];

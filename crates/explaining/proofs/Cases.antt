@@ -4,7 +4,7 @@ use Prim.Native.Nat.{ℕ}
 use mathlib.Core.Path.{_≡_, refl}
 use mathlib.Core.List.{List, [], _∷_, _++_, map}
 use lib.ListN.{length, drop, replicate}
-use Rattle.fit.specs.Uncovered.{first, firstMissing, orFurther, firstUncovered}
+use Rattle.fit.specs.Uncovered.{first, permissionOf, orNone, firstMissing, orFurther, firstUncovered}
 use Rattle.naming.proofs.Cases.{groups, kinds, file}
 use Rattle.naming.proofs.Cases as naming
 use Rattle.service.specs.Questions.{passed, failed}
@@ -15,7 +15,7 @@ use Rattle.explaining.specs.Explain.{uncoveredIn, said, explanation, exp
 
 -- All definitions that the cases compute with.
 unfoldable worked : Unit {0}
-unfolding computed naming.computed first firstMissing orFurther firstUncovered uncoveredIn said explanation explained
+unfolding computed naming.computed first permissionOf orNone firstMissing orFurther firstUncovered uncoveredIn said explanation explained
 worked = tt
 
 -- Sheet, charter, names, line, and what is wanted.

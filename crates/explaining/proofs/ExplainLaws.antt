@@ -48,7 +48,7 @@ use Rattle.wellformed.specs.Faults.{policyFault}
 use Rattle.fit.specs.Satisfies.{hasTree, pathReached, covered}
 use Rattle.fit.specs.Faults.{entryFault, entriesFault}
 use Rattle.fit.specs.Uncovered.{first, firstMissing, Uncovered, orFurther, firstUncovered}
-use Rattle.fit.proofs.EntryLaws.{isNone}
+use Rattle.fit.proofs.EntryLaws.{isNone, missing-first}
 use Rattle.fit.proofs.SearchLaws.{uncovered-none}
 use Rattle.naming.specs.Names.{Names, readNames}
 use Rattle.naming.specs.Sentence.{sentence, groupInRange, Numbered}
@@ -210,7 +210,7 @@ permissions-in-range e h =
 
 missing-in-numbers : (policy : List Tree) (required : Required) (e : Entry) (p : Permission) → inNumbers e ≡ true
     → firstMissing policy required e ≡ some p → InNumbers (record { path = e .component .path; permission = p; kind = e .kind })
-unfolding inNumbers firstMissing
+unfolding inNumbers
 missing-in-numbers policy required e p h f =
     let o = both-true (leb (length (e .component .path)) 8 && every (λ g. ltb g 64) (e .component .path)) _ h in
     let x = both-true (leb (length (e .component .path)) 8) _ (o .0) in
@@ -218,7 +218,7 @@ missing-in-numbers policy required e p h f =
     record {
       numbered = record {
         path = x .1;
-        permission = first-has _ groupInRange (permissions e) (permissions-in-range e (y .1)) f;
+        permission = first-has _ groupInRange (permissions e) (permissions-in-range e (y .1)) (sym (missing-first policy required e) ∙ f);
         kind = ltb-true (e .kind) 16 (y .0);
       };
       short = leb-true (length (e .component .path)) 8 (x .0);

@@ -23,7 +23,7 @@ use Rattle.inference.specs.Interface.{Entry, requiredOf}
 use Rattle.inference.specs.Rows.{Orderly, pathAt, tableEntries, tableRequired}
 use Rattle.policy.specs.Reading.{readPolicy}
 use Rattle.policy.specs.Syntax.{Tree}
-use Rattle.policy.specs.Loads.{AllHeld, Bounded}
+use Rattle.policy.specs.Loads.{AllHeld}
 use Rattle.policy.specs.declared.Trees.{Trees}
 use Rattle.fit.specs.Covers.{permissionAt}
 use Rattle.fit.specs.Uncovered.{Uncovered, firstUncovered}
@@ -35,13 +35,14 @@ use Rattle.naming.specs.Told.{ends, namesAtPlaces}
 use Rattle.naming.proofs.SentenceLaws.{sentence-bytes}
 use Rattle.service.specs.Questions.{failed, judged}
 use Rattle.service.specs.Check.{written}
-use Rattle.service.specs.Told.{Reads, Ready, HoldsPolicy, Delivered, Checked, Judges}
+use Rattle.service.specs.Told.{Reads, Ready, HoldsPolicy, Delivered, Judges}
 use Rattle.service.specs.declared.Answer.{Answer}
 use Rattle.service.specs.declared.Answer.the-variants as answer-case
 use Rattle.service.specs.declared.Judged.{Judged}
 use Rattle.service.proofs.FirstLaws.{first-passes, first-fails}
 use Rattle.service.proofs.JudgeSteps.{unread-failed, few-ready, all-ready}
-use Rattle.service.proofs.CheckSteps.{unread-refused}
+use Rattle.slack.specs.Told.{Tells}
+use Rattle.slack.proofs.TellSteps.{trees-bounded, unread-refused}
 use Rattle.explaining.specs.Explain.{uncoveredIn, said, explanation, explained}
 use Rattle.explaining.specs.Told.{Says, Explained, ExaminedAs}
 
@@ -149,15 +150,12 @@ module _ (s c names line : List ℕ) (r : NumberRead) (q w : Refusal) (is : numb
 
 -- Both services.
 module _ (sheet charter names table nodes : List ℕ) (j : Judged) where
-  pub trees-bounded : Judges sheet charter table nodes j → 11 < j .fault → Bounded (j .trees)
-  trees-bounded judges h = judges .trees-held h .bounded
-
   pub examined : (clear output output′ line line′ : List ℕ) (a e : Answer) → Ready sheet charter clear → Judges sheet charter table nodes j
-      → ((s c ns : List ℕ) → Judges s c table ns j → Checked s c output output′ a)
+      → ((s : List ℕ) → Judges s charter table nodes j → Tells s charter output output′ a)
       → ((s : List ℕ) → Reads s charter → Judges s charter table nodes j → Explained s charter names line line′ e)
-      → ExaminedAs sheet charter names output output′ line line′ (record { checked = a; explained = e })
+      → ExaminedAs sheet charter names output output′ line line′ (record { told = a; explained = e })
   examined clear output output′ line line′ a e ready judges f g =
-      record { checks = f sheet charter nodes judges; explains = g sheet (ready .reads) judges }
+      record { tells = f sheet judges; explains = g sheet (ready .reads) judges }
 
 pub read-explained : (sheet charter names table nodes clear line line′ : List ℕ) (j : Judged) (r : Answer) → Ready sheet charter clear
     → Judges sheet charter table nodes j
@@ -167,8 +165,8 @@ read-explained sheet charter names table nodes clear line line′ j r ready judg
 
 pub unread-examined : (s c names output line : List ℕ) (r : NumberRead) (q w : Refusal) → number r ≡ countedIn (sheetOf s c) → r ≡ number-read.Refused q
     → w ≡ refusalOf r
-    → ExaminedAs s c names output output line line (record { checked = answer-case.Refused (w .question); explained = answer-case.Refused (w .question) })
+    → ExaminedAs s c names output output line line (record { told = answer-case.Refused (w .question); explained = answer-case.Refused (w .question) })
 unread-examined s c names output line r q w e f h =
-    record { checks = unread-refused s c output r q w e f h; explains = unread-explained s c names line r q w e f h }
+    record { tells = unread-refused s c output r q w e f h; explains = unread-explained s c names line r q w e f h }
 
 pub ruleset explaining = (needs, names-broken, nothing-said, sentence-said, nothing-explained, other-question, eighteen, trees-bounded, examined, read-explained, unread-explained, unread-examined, few-ready, all-ready)

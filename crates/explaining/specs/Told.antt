@@ -6,7 +6,8 @@ use Prim.Native.Nat.{ℕ}
 use Rattle.fit.specs.Uncovered.{Uncovered}
 use Rattle.naming.specs.Names.{readNames}
 use Rattle.service.specs.Check.{written}
-use Rattle.service.specs.Told.{told, Checked}
+use Rattle.service.specs.Told.{told}
+use Rattle.slack.specs.Told.{Tells}
 use Rattle.service.specs.declared.Answer.{Answer}
 use Rattle.explaining.specs.Explain.{said, explained}
 use Rattle.explaining.specs.declared.Examined.{Examined}
@@ -23,5 +24,5 @@ pub record Says (names : List ℕ) (u : Option Uncovered) (line line′ : List �
 
 -- Both services at once.
 pub record ExaminedAs (sheet charter names output output′ line line′ : List ℕ) (r : Examined) : Type 0 where
-  pub checks : Checked sheet charter output output′ (r .checked)
+  pub tells : Tells sheet charter output output′ (r .told)
   pub explains : Explained sheet charter names line line′ (r .explained)

@@ -11,7 +11,7 @@ ghost use Rattle.fit.specs.Covers.{permissionAt};
 ghost use Rattle.fit.specs.Uncovered.{firstUncovered};
 ghost use Rattle.naming.specs.Sentence.{sentence};
 ghost use Rattle.naming.specs.Told.{namesAtPlaces};
-ghost use Rattle.service.specs.Told.{Reads, Ready, Delivered, Checked, Judges};
+ghost use Rattle.service.specs.Told.{Reads, Ready, Delivered, Judges};
 ghost use Rattle.explaining.specs.Told.{Says, Explained, ExaminedAs};
 use fit::Missing;
 use fit::uncovered::first_uncovered;
@@ -27,12 +27,12 @@ use reading::system::read;
 use reading::system::why_none;
 use service::Answer;
 use service::Judged;
-use service::checking::deliver;
 use service::judging::judge_read;
+use slack::slack_judged;
 
-// What `check` answers, and what `explain` answers.
+// What `slack` answers, and what `explain` answers.
 pub struct Examined {
-    pub checked: Answer,
+    pub told: Answer,
     pub explained: Answer,
 }
 
@@ -126,18 +126,6 @@ fn explain_judged(
     )
 }
 
-// What `check` answers, from the same.
-fn check_judged(table: &[u16], judged: Judged, output: &mut [u8]) -> Answer
-    requires { ⌜ judged .components ≤ 32 ⌝ }
-    ensures { λ r. ⌜ ((sheet charter nodes : List ℕ) → Judges sheet charter (now (table .entry)) nodes judged
-        → Checked sheet charter (now (output .entry)) (now (output .exit)) r) ⌝ }
-{
-    if judged.fault < 64 {
-        return Answer::Refused(judged.fault);
-    }
-    deliver(table, judged.components, output)
-}
-
 // Both services of a sheet that reads, with a clear table for its components and a table for the charter's nodes.
 fn examine_read(
     sheet: &[u8],
@@ -154,13 +142,13 @@ fn examine_read(
 {
     let judged = judge_read(sheet, charter, table, nodes);
     Examined {
-        checked: check_judged(table, judged, output),
+        told: slack_judged(charter, nodes, table, judged, output),
         explained: explain_judged(names, charter, nodes, table, judged, line),
     }
 }
 
-// Checks a sheet against a charter and, where question 18 refuses it, writes the sentence into the line: both services in one walk of
-// the sheet.
+// Tells the slack of a sheet under a charter and, where question 18 refuses it, writes the sentence into the line: both services in one
+// walk of the sheet.
 pub fn examine(
     sheet: &[u8],
     charter: &[u8],
@@ -175,7 +163,7 @@ pub fn examine(
     let NumberRead::Found(components) = read else {
         let question = refusal(read).question;
         return Examined {
-            checked: Answer::Refused(question),
+            told: Answer::Refused(question),
             explained: Answer::Refused(question),
         };
     };

@@ -1,9 +1,9 @@
--- What an entry of a table lacks, found by its flags and then by the groups of its component, place by place; it is covered where it
--- lacks nothing. And the first question that any entry fails is the least of those of the entries.
+-- The covering of an entry of a table, found by its flags and then by the groups of its component, place by place; the entry is covered
+-- where it lacks nothing. And the first question that any entry fails is the least of those of the entries.
 use Prim.Native.Nat.{ℕ, zero, suc, _+_, _-_, _*_, _<_, _≤_, min}
 use mathlib.Core.Path.{_≡_, refl, sym, ap, ap₂, _∙_}
 use mathlib.Core.List.{List, [], _∷_, _++_, map}
-use mathlib.Core.Bool.{Bool, true, false, cond, not, _&&_, _||_}
+use mathlib.Core.Bool.{Bool, true, false, cond, not, _&&_}
 use mathlib.Core.Option.{Option, some, none}
 use native.Mathlib.Omega.{arith}
 use lib.ListN.{length, take, getD, replicate, length-replicate}
@@ -12,8 +12,8 @@ use lib.Dec.{ltb, eqb}
 use borrow.Author.Needs.{needs}
 use borrow.Author.Tests.{lt-ltb, le-ltb, eq-eqb, ne-eqb, not-true, not-false}
 use Rattle.reading.proofs.TotalLaws.{both-left, both-right}
-use Rattle.inference.specs.Lists.{every, any, only, gather, rising}
-use Rattle.inference.specs.Counts.{Count, atMost, isZero}
+use Rattle.inference.specs.Lists.{every, only, gather, rising}
+use Rattle.inference.specs.Counts.{Count, isZero}
 use Rattle.inference.specs.Interface.{Disclosure, Entry, Permission, reading, writing, accessing, disclosing, flagged, permissions, holdsAny, mapOf, Required}
 use Rattle.inference.specs.Rows.{
   Orderly,
@@ -34,61 +34,94 @@ use Rattle.interface.proofs.InterfaceLaws.{set-count, map-none, map-some}
 use Rattle.interface.proofs.StoreLaws.{clear-zeros}
 use Rattle.interface.proofs.TableLaws.{Clear}
 use Rattle.interface.proofs.WriteLaws.{rising-next, rising-done}
-use Rattle.sharing.specs.Sums.{addRows, anyShared, neededAt, sumCount, Summed}
+use Rattle.sharing.specs.Sums.{addRows, anyShared, Summed}
 use Rattle.sharing.proofs.SharingLaws.{class-sums, lone-sums}
 use Rattle.policy.specs.Syntax.{Tree}
-use Rattle.fit.specs.Satisfies.{pathReached, grantsOne, covered}
+use Rattle.fit.specs.Satisfies.{pathReached, Verdict, flag, counts, verdictOf, covering, holds, grantsOne, covered}
 use Rattle.policy.specs.declared.Trees.{Trees}
 use Rattle.policy.specs.Loads.{AllHeld, Bounded, startOf}
 use Rattle.fit.specs.Givers.{joinedAt, giversIn, indexOf}
-use Rattle.fit.specs.Uncovered.{first, firstMissing}
-use Rattle.fit.specs.Covers.{allGiven, flagGiven, flagCovers, countCovers, missingFlag, orNone, missingFrom, missingAt, permissionAt, missingOf, rowsFault}
+use Rattle.fit.specs.Uncovered.{first, permissionOf, orNone, firstMissing}
+use Rattle.fit.specs.Covers.{verdictsFor, allGiven, flagGiven, flagAt, flagsAt, placeVerdict, placesFrom, verdictsAt, numberOf, lackingIn, missingAt, permissionAt, missingOf, rowsFault}
 use Rattle.fit.specs.Search.{Gives}
 use Rattle.fit.specs.Faults.{entryFault, entriesFault}
-use Rattle.fit.proofs.GrantTrees.{TreeRows, tree-gives, entry-tree, tree-rows, entry-reached, entry-reading, entry-writing, entry-accessing, entry-disclosing}
+use Rattle.fit.proofs.GrantLaws.{every-map}
+use Rattle.fit.proofs.GrantTrees.{TreeRows, tree-gives, span-gives, entry-tree, tree-rows, entry-reached, on-reading, on-writing, on-accessing, on-disclosing}
 
 -- What an entry lacks is the first permission that is not granted, so it is covered where it lacks nothing.
 unfoldable pub isNone : {A : Type 0} → Option A → Bool
 isNone none = true
 isNone (some a) = false
 
-every-first : {A : Type 0} (p : A → Bool) (xs : List A) → every p xs ≡ isNone (first (λ x. not (p x)) xs)
-unfolding every first isNone
-every-first p [] = refl
-every-first p (x ∷ xs) = go (p x) (every-first p xs)
+every-first : (vs : List Verdict) → every holds vs ≡ isNone (orNone (first (λ v. not (holds v)) vs))
+unfolding every first isNone orNone
+every-first [] = refl
+every-first (v ∷ vs) = go (holds v) (every-first vs)
   where
-    go : (b : Bool) → every p xs ≡ isNone (first (λ y. not (p y)) xs) → (b && every p xs) ≡ isNone (cond (not b) (some x) (first (λ y. not (p y)) xs))
+    go : (b : Bool) → every holds vs ≡ isNone (orNone (first (λ w. not (holds w)) vs))
+        → (b && every holds vs) ≡ isNone (orNone (cond (not b) (some v) (first (λ w. not (holds w)) vs)))
     go true e = e
-    go false e = unfold isNone in refl
+    go false e = unfold isNone orNone in refl
 
 pub covered-first : (policy : List Tree) (required : Required) (e : Entry) → covered policy required e ≡ isNone (firstMissing policy required e)
 unfolding covered firstMissing
-covered-first policy required e = every-first (grantsOne policy required e) (permissions e)
+covered-first policy required e = every-first (covering policy required e)
 
--- the first of a list that begins with a flag
-first-flagged : (p : Permission → Bool) (b : Bool) (q : Permission) (rest : List Permission)
-    → first p (flagged b q ++ rest) ≡ cond (not b || not (p q)) (first p rest) (some q)
-unfolding first flagged
-first-flagged p true q rest = go (p q)
+-- Question 18 of an entry, permission by permission.
+pub covered-each : (policy : List Tree) (required : Required) (e : Entry) → covered policy required e ≡ every (grantsOne policy required e) (permissions e)
+unfolding covered covering grantsOne
+covered-each policy required e = every-map (verdictOf policy required e) holds (grantsOne policy required e) (λ p. refl) (permissions e)
+
+-- So is what it lacks.
+verdict-on : (policy : List Tree) (required : Required) (e : Entry) (p : Permission) → permissionOf (verdictOf policy required e p) ≡ p
+unfolding permissionOf verdictOf
+verdict-on policy required e reading = refl
+verdict-on policy required e writing = refl
+verdict-on policy required e accessing = refl
+verdict-on policy required e (disclosing h) = refl
+
+pub missing-first : (policy : List Tree) (required : Required) (e : Entry)
+    → firstMissing policy required e ≡ first (λ p. not (grantsOne policy required e p)) (permissions e)
+unfolding firstMissing covering first orNone grantsOne
+missing-first policy required e = go (permissions e)
   where
-    go : (b : Bool) → cond b (some q) (first p rest) ≡ cond (not b) (first p rest) (some q)
-    go true = refl
-    go false = refl
-first-flagged p false q rest = refl
+    go : (ps : List Permission) → orNone (first (λ v. not (holds v)) (map (verdictOf policy required e) ps)) ≡ first (λ p. not (grantsOne policy required e p)) ps
+    go [] = refl
+    go (p ∷ ps) = here (not (holds (verdictOf policy required e p))) (go ps)
+      where
+        here : (b : Bool) → orNone (first (λ v. not (holds v)) (map (verdictOf policy required e) ps)) ≡ first (λ q. not (grantsOne policy required e q)) ps
+            → orNone (cond b (some (verdictOf policy required e p)) (first (λ v. not (holds v)) (map (verdictOf policy required e) ps)))
+            ≡ cond b (some p) (first (λ q. not (grantsOne policy required e q)) ps)
+        here true later = unfold orNone in ap some (verdict-on policy required e p)
+        here false later = later
 
-group-at : (g : ℕ) → g < 64 → missingOf g ≡ some (disclosing g)
-unfolding missingOf permissionAt
-group-at g h = rw (lt-ltb g 67 (omega arith), ne-eqb g 64 (λ e. absurd (omega arith)), ne-eqb g 65 (λ e. absurd (omega arith)), ne-eqb g 66 (λ e. absurd (omega arith))) refl
+-- Verdicts whose permissions have a number of their own, as all but those on groups from 64 on have: the number of the first that does not
+-- hold tells its permission.
+abbrev Told : Verdict → Type 0
+Told v = missingOf (numberOf (permissionOf v)) ≡ some (permissionOf v)
 
--- flags in their order, then the groups
-three : {a b d a′ b′ d′ : Bool} {groups : Option Permission} (group : ℕ) → a ≡ a′ → b ≡ b′ → d ≡ d′ → groups ≡ missingOf group
-    → cond a (cond b (cond d groups (some accessing)) (some writing)) (some reading)
-    ≡ missingOf (cond (ltb (cond a′ (cond b′ (cond d′ 67 66) 65) 64) 67) (cond a′ (cond b′ (cond d′ 67 66) 65) 64) group)
-unfolding missingOf permissionAt
-three {a′ = false} group p q r e = rw p refl
-three {a′ = true} {b′ = false} group p q r e = rw (p, q) refl
-three {a′ = true} {b′ = true} {d′ = false} group p q r e = rw (p, q, r) refl
-three {a′ = true} {b′ = true} {d′ = true} group p q r e = rw (p, q, r) e
+data AllTold : List Verdict → Type 0 where
+  told-none : AllTold []
+  told-more : {v : Verdict} {rest : List Verdict} → Told v → AllTold rest → AllTold (v ∷ rest)
+
+lacking-told : {vs : List Verdict} → AllTold vs → orNone (first (λ v. not (holds v)) vs) ≡ missingOf (lackingIn vs)
+unfolding first lackingIn orNone
+lacking-told told-none = unfold missingOf in refl
+lacking-told (told-more {v} {rest} here later) = go (holds v) (lacking-told later)
+  where
+    go : (b : Bool) → orNone (first (λ w. not (holds w)) rest) ≡ missingOf (lackingIn rest)
+        → orNone (cond (not b) (some v) (first (λ w. not (holds w)) rest)) ≡ missingOf (cond b (lackingIn rest) (numberOf (permissionOf v)))
+    go true e = e
+    go false e = unfold orNone in sym here
+
+group-told : (g : ℕ) (needed granted : Count) → g < 64 → Told (counts g needed granted)
+unfolding missingOf permissionAt permissionOf numberOf
+group-told g needed granted h =
+    rw (lt-ltb g 67 (omega arith), ne-eqb g 64 (λ e. absurd (omega arith)), ne-eqb g 65 (λ e. absurd (omega arith)), ne-eqb g 66 (λ e. absurd (omega arith))) refl
+
+flag-told : (p : Permission) (x b : Bool) (rest : List Verdict) → Told (flag p x) → AllTold rest → AllTold (cond b (flag p x ∷ []) [] ++ rest)
+flag-told p x true rest here later = told-more here later
+flag-told p x false rest here later = later
 
 none-missing : (column : ℕ) → isNone (missingOf column) ≡ not (ltb column 67)
 unfolding isNone missingOf
@@ -98,85 +131,109 @@ none-missing column = go (ltb column 67)
     go true = refl
     go false = refl
 
-module _ (policy : List Tree) (required : Required) (table : List ℕ) (n k : ℕ) where
-  lacks : Permission → Bool
-  lacks q = not (grantsOne policy required (entryAt table n k) q)
+-- the verdicts on a list that begins with a flag
+map-flagged : (f : Permission → Verdict) (b : Bool) (p : Permission) (rest : List Permission) → map f (flagged b p ++ rest) ≡ cond b (f p ∷ []) [] ++ map f rest
+unfolding flagged
+map-flagged f true p rest = refl
+map-flagged f false p rest = refl
 
+module _ (policy : List Tree) (required : Required) (table : List ℕ) (n k : ℕ) where
   item : ℕ → Disclosure
   item i = record { group = groupAt table n i; count = countOf (cell table n k i) }
 
-  -- the groups that are disclosed to among those at some places
-  groupsOf : List ℕ → List Permission
-  groupsOf places = map (λ d. disclosing (d .group)) (only (λ d. not (isZero (d .count))) (map item places))
+  verdict : Permission → Verdict
+  verdict p = verdictOf policy required (entryAt table n k) p
 
-  missing-parts : firstMissing policy required (entryAt table n k)
-      ≡ cond (not (isSet (cell table n k 8)) || not (lacks reading))
-      (cond (not (isSet (cell table n k 9)) || not (lacks writing))
-      (cond (not (isSet (cell table n k 10)) || not (lacks accessing)) (first lacks (groupsOf (rising 0 (groupCount table n)))) (some accessing))
-      (some writing)) (some reading)
-  unfolding firstMissing permissions entryAt lacks groupsOf disclosuresAt item
-  missing-parts =
-      first-flagged lacks (isSet (cell table n k 8)) reading _
-      ∙ ap (λ (x : Option Permission). cond (not (isSet (cell table n k 8)) || not (lacks reading)) x (some reading))
-      (first-flagged lacks (isSet (cell table n k 9)) writing _
-      ∙ ap (λ (x : Option Permission). cond (not (isSet (cell table n k 9)) || not (lacks writing)) x (some writing))
-      (first-flagged lacks (isSet (cell table n k 10)) accessing _))
+  -- the verdicts on the groups that are disclosed to among those at some places
+  groupsOf : List ℕ → List Verdict
+  groupsOf places = map verdict (map (λ d. disclosing (d .group)) (only (λ d. not (isZero (d .count))) (map item places)))
 
-  module _ (c nodes rows : List ℕ) (gives : Gives c nodes policy k (pathAt table n) rows) (up : Orderly table n)
-      (sums : List ℕ) (sum : Summed table sums required n k) where
-    -- a flag that is not lacking is covered by the rows
-    flag-rows : (col : ℕ) (q : Permission) (v : ℕ) → grantsOne policy required (entryAt table n k) q ≡ flagGiven v c nodes rows
-        → (not (isSet (cell table n k col)) || not (lacks q)) ≡ flagCovers v c nodes rows (cell table n k col)
-    unfolding flagCovers lacks
-    flag-rows col q v e = ap (λ (b : Bool). not (isSet (cell table n k col)) || b) (twice (grantsOne policy required (entryAt table n k) q) ∙ e)
-      where
-        twice : (b : Bool) → not (not b) ≡ b
-        twice true = refl
-        twice false = refl
+  covering-parts : covering policy required (entryAt table n k)
+      ≡ cond (isSet (cell table n k 8)) (verdict reading ∷ []) []
+      ++ (cond (isSet (cell table n k 9)) (verdict writing ∷ []) []
+      ++ (cond (isSet (cell table n k 10)) (verdict accessing ∷ []) [] ++ groupsOf (rising 0 (groupCount table n))))
+  unfolding covering permissions entryAt verdict groupsOf disclosuresAt item
+  covering-parts =
+      map-flagged verdict (isSet (cell table n k 8)) reading _
+      ∙ ap (λ (vs : List Verdict). cond (isSet (cell table n k 8)) (verdict reading ∷ []) [] ++ vs)
+      (map-flagged verdict (isSet (cell table n k 9)) writing _
+      ∙ ap (λ (vs : List Verdict). cond (isSet (cell table n k 9)) (verdict writing ∷ []) [] ++ vs)
+      (map-flagged verdict (isSet (cell table n k 10)) accessing _))
 
-    -- so is a count
-    group-rows : (i : ℕ) → i < groupCount table n
-        → lacks (disclosing (groupAt table n i)) ≡ not (atMost (sumCount (neededAt sums table n k i)) (joinedAt (groupAt table n i) c nodes rows))
-    unfolding lacks
-    group-rows i l =
-        ap not (entry-disclosing gives required (entryAt table n k) (unfold entryAt in refl) (unfold entryAt in refl) (groupAt table n i)
-        ∙ ap (λ (x : Count). atMost x (joinedAt (groupAt table n i) c nodes rows)) (sum .holds i l))
-
-    groups-rows : (from m : ℕ) → from + m ≤ groupCount table n
-        → first lacks (groupsOf (rising from m)) ≡ missingOf (missingFrom from m c nodes rows table sums n k)
-    unfolding rising groupsOf missingFrom first only item countCovers isSet
-    groups-rows from zero l = unfold missingOf orNone in refl
-    groups-rows from (suc m) l =
-        go (isSet (cell table n k from)) (atMost (sumCount (neededAt sums table n k from)) (joinedAt (groupAt table n from) c nodes rows))
-        (set-count (cell table n k from)) (group-rows from (omega arith)) (groups-rows (suc from) m (omega arith))
+  module _ (up : Orderly table n) where
+    groups-told : (from m : ℕ) → from + m ≤ groupCount table n → AllTold (groupsOf (rising from m))
+    unfolding rising groupsOf only item verdict verdictOf
+    groups-told from zero l = told-none
+    groups-told from (suc m) l = go (not (isZero (countOf (cell table n k from)))) (groups-told (suc from) m (omega arith))
       where
         later : List Disclosure
         later = only (λ d. not (isZero (d .count))) (map item (rising (suc from) m))
 
-        found : Option ℕ
-        found = first (λ i. not (countCovers (groupAt table n i) c nodes rows (cell table n k i) (neededAt sums table n k i))) (rising (suc from) m)
+        go : (b : Bool) → AllTold (map verdict (map (λ d. disclosing (d .group)) later))
+            → AllTold (map verdict (map (λ d. disclosing (d .group)) (cond b (item from ∷ later) later)))
+        go false rest = rest
+        go true rest = told-more (group-told (groupAt table n from) _ _ (up .low from (omega arith))) rest
 
-        go : (b a : Bool) → not (isZero (countOf (cell table n k from))) ≡ b → lacks (disclosing (groupAt table n from)) ≡ not a
-            → first lacks (map (λ d. disclosing (d .group)) later) ≡ missingOf (orNone table n found)
-            → first lacks (map (λ d. disclosing (d .group)) (cond (not (isZero (countOf (cell table n k from)))) (item from ∷ later) later))
-            ≡ missingOf (orNone table n (cond (not (not b || a)) (some from) found))
-        go false a e f rest = rw e rest
-        go true true e f rest = rw (e, f) rest
-        go true false e f rest = rw (e, f) (unfold orNone in sym (group-at (groupAt table n from) (up .low from (omega arith))))
+    all-told : AllTold (covering policy required (entryAt table n k))
+    unfolding verdict verdictOf
+    all-told =
+        rw covering-parts
+        (flag-told reading _ (isSet (cell table n k 8)) _ (unfold missingOf permissionAt permissionOf numberOf in refl)
+        (flag-told writing _ (isSet (cell table n k 9)) _ (unfold missingOf permissionAt permissionOf numberOf in refl)
+        (flag-told accessing _ (isSet (cell table n k 10)) _ (unfold missingOf permissionAt permissionOf numberOf in refl)
+        (groups-told 0 (groupCount table n) (omega arith)))))
 
-    -- the first permission that an entry lacks, found among the rows that give to its path
-    pub missing-rows : firstMissing policy required (entryAt table n k) ≡ missingOf (missingAt c nodes rows table sums n k)
-    unfolding missingAt missingFlag flagGiven any
-    missing-rows =
-        missing-parts
-        ∙ three (missingFrom 0 (groupCount table n) c nodes rows table sums n k)
-        (flag-rows 8 reading 1 (entry-reading gives required (entryAt table n k) (unfold entryAt in refl) (unfold entryAt in refl)))
-        (flag-rows 9 writing 2 (entry-writing gives required (entryAt table n k) (unfold entryAt in refl) (unfold entryAt in refl)))
-        (flag-rows 10 accessing 4 (entry-accessing gives required (entryAt table n k) (unfold entryAt in refl) (unfold entryAt in refl)))
-        (groups-rows 0 (groupCount table n) (omega arith))
+    -- the first permission that an entry lacks, by its number
+    pub missing-number : firstMissing policy required (entryAt table n k) ≡ missingOf (lackingIn (covering policy required (entryAt table n k)))
+    unfolding firstMissing
+    missing-number = lacking-told all-told
 
-    pub covered-rows : covered policy required (entryAt table n k) ≡ not (ltb (missingAt c nodes rows table sums n k) 67)
-    covered-rows = covered-first policy required (entryAt table n k) ∙ ap isNone missing-rows ∙ none-missing (missingAt c nodes rows table sums n k)
+  module _ (c nodes rows : List ℕ) (gives : Gives c nodes policy k (pathAt table n) rows) (up : Orderly table n)
+      (sums : List ℕ) (sum : Summed table sums required n k) where
+    -- the verdict on a group, by the sums and the rows
+    group-rows : (i : ℕ) → i < groupCount table n → verdict (disclosing (groupAt table n i)) ≡ placeVerdict c nodes rows table sums n k i
+    unfolding verdict placeVerdict
+    group-rows i l =
+        on-disclosing gives required (entryAt table n k) (unfold entryAt in refl) (unfold entryAt in refl) (groupAt table n i)
+        ∙ ap (λ (x : Count). counts (groupAt table n i) x (joinedAt (groupAt table n i) c nodes rows)) (sum .holds i l)
+
+    groups-rows : (from m : ℕ) → from + m ≤ groupCount table n → groupsOf (rising from m) ≡ placesFrom from m c nodes rows table sums n k
+    unfolding rising groupsOf placesFrom only item
+    groups-rows from zero l = refl
+    groups-rows from (suc m) l =
+        go (isSet (cell table n k from)) (set-count (cell table n k from)) (group-rows from (omega arith)) (groups-rows (suc from) m (omega arith))
+      where
+        later : List Disclosure
+        later = only (λ d. not (isZero (d .count))) (map item (rising (suc from) m))
+
+        left : List ℕ
+        left = only (λ i. isSet (cell table n k i)) (rising (suc from) m)
+
+        go : (b : Bool) → not (isZero (countOf (cell table n k from))) ≡ b → verdict (disclosing (groupAt table n from)) ≡ placeVerdict c nodes rows table sums n k from
+            → map verdict (map (λ d. disclosing (d .group)) later) ≡ map (placeVerdict c nodes rows table sums n k) left
+            → map verdict (map (λ d. disclosing (d .group)) (cond (not (isZero (countOf (cell table n k from)))) (item from ∷ later) later))
+            ≡ map (placeVerdict c nodes rows table sums n k) (cond b (from ∷ left) left)
+        go false e f rest = rw e rest
+        go true e f rest = rw e (ap₂ (λ (v : Verdict) (vs : List Verdict). v ∷ vs) f rest)
+
+    -- the covering of an entry, found in the rows that give to its path
+    pub covering-rows : covering policy required (entryAt table n k) ≡ verdictsAt c nodes rows table sums n k
+    unfolding verdictsAt flagsAt flagAt flagGiven verdict
+    covering-rows =
+        covering-parts
+        ∙ rw (
+          on-reading gives required (entryAt table n k) (unfold entryAt in refl) (unfold entryAt in refl),
+          on-writing gives required (entryAt table n k) (unfold entryAt in refl) (unfold entryAt in refl),
+          on-accessing gives required (entryAt table n k) (unfold entryAt in refl) (unfold entryAt in refl),
+          groups-rows 0 (groupCount table n) (omega arith),
+        ) refl
+
+    covered-rows : covered policy required (entryAt table n k) ≡ not (ltb (missingAt c nodes rows table sums n k) 67)
+    unfolding missingAt
+    covered-rows =
+        covered-first policy required (entryAt table n k) ∙ ap isNone (missing-number up)
+        ∙ none-missing (lackingIn (covering policy required (entryAt table n k)))
+        ∙ ap (λ (vs : List Verdict). not (ltb (lackingIn vs) 67)) covering-rows
 
   -- questions 17 and 18 of an entry, asked of the rows that give to its path
   module _ (c nodes : List ℕ) (start end : ℕ) (tree : TreeRows c nodes policy k start end)
@@ -194,6 +251,14 @@ module _ (policy : List Tree) (required : Required) (table : List ℕ) (n k : �
         split true true = refl
         split true false = refl
         split false b = refl
+
+-- The verdicts that the tree of the kind gives are the covering.
+pub verdicts-for : (c nodes : List ℕ) (trees : Trees) (policy : List Tree) → AllHeld c nodes trees 0 policy → trees .len ≤ 16 → length (trees .kinds) ≡ 16
+    → (table sums : List ℕ) (n k : ℕ) → Orderly table n → (required : Required) → Summed table sums required n k
+    → verdictsFor c nodes trees table sums n k ≡ covering policy required (entryAt table n k)
+unfolding verdictsFor
+verdicts-for c nodes trees policy held few kinds table sums n k up required sum =
+    sym (covering-rows policy required table n k c nodes _ (span-gives c nodes trees policy held few kinds k (pathAt table n) _ refl) up sums sum)
 
 -- The first question that an entry fails; a kind that is not marked has no entry.
 abbrev pub kindFault : List Tree → Required → List ℕ → ℕ → ℕ → ℕ
@@ -235,8 +300,8 @@ module _ (c nodes : List ℕ) (trees : Trees) (table sums : List ℕ) (n k : ℕ
     marks : isSet (cell table n k 11) ≡ true
     marks = both-left (isSet (cell table n k 11)) (holdsAny (entryAt table n k)) both
 
-    holds : holdsAny (entryAt table n k) ≡ true
-    holds = both-right (isSet (cell table n k 11)) (holdsAny (entryAt table n k)) both
+    permits : holdsAny (entryAt table n k) ≡ true
+    permits = both-right (isSet (cell table n k 11)) (holdsAny (entryAt table n k)) both
 
     -- by the tree of the kind
     module _ (bounded : Bounded trees) (kinds : length (trees .kinds) ≡ 16) (t : ℕ) (at : t ≡ indexOf k (take (trees .len) (trees .kinds))) where
@@ -244,14 +309,14 @@ module _ (c nodes : List ℕ) (trees : Trees) (table sums : List ℕ) (n k : ℕ
           → 16 ≡ kindFault policy required table n k
       unfolding entryFault
       no-tree absent policy held up required sum =
-          rw (marks, holds, entry-tree c nodes trees policy held (bounded .few) kinds k t at (entryAt table n k) (unfold entryAt in refl), le-ltb t (trees .len) absent) refl
+          rw (marks, permits, entry-tree c nodes trees policy held (bounded .few) kinds k t at (entryAt table n k) (unfold entryAt in refl), le-ltb t (trees .len) absent) refl
 
       pub in-tree : t < trees .len → (start end r : ℕ) → start ≡ startOf trees t → end ≡ getD (trees .ends) t 0
           → r ≡ rowsFault c nodes (giversIn c nodes (pathAt table n) start (end - start)) table sums n k
           → (policy : List Tree) → AllHeld c nodes trees 0 policy → Orderly table n → (required : Required) → Summed table sums required n k → r ≡ kindFault policy required table n k
       unfolding entryFault
       in-tree here start end r p q e policy held up required sum =
-          rw (marks, holds, entry-tree c nodes trees policy held (bounded .few) kinds k t at (entryAt table n k) (unfold entryAt in refl), lt-ltb t (trees .len) here)
+          rw (marks, permits, entry-tree c nodes trees policy held (bounded .few) kinds k t at (entryAt table n k) (unfold entryAt in refl), lt-ltb t (trees .len) here)
           (e ∙ sym (fault-rows policy required table n k c nodes start end (tree-rows c nodes trees policy held (bounded .few) kinds k t at here start end p q)
           (giversIn c nodes (pathAt table n) start (end - start)) refl up sums sum))
 

@@ -130,7 +130,7 @@ module _ {C : Type 0} (c nodes path : List ℕ) (g : ℕ) (at : ℕ → C) (of :
       (λ l. giver-tells n (start + 1) l (omega arith)))
 
 -- The same asked of each group, through its giver or of the group itself.
-every-map : (f : ℕ → ℕ) (p q : ℕ → Bool) → ((g : ℕ) → p (f g) ≡ q g) → (gs : List ℕ) → every p (map f gs) ≡ every q gs
+pub every-map : {A B : Type 0} (f : A → B) (p : B → Bool) (q : A → Bool) → ((x : A) → p (f x) ≡ q x) → (xs : List A) → every p (map f xs) ≡ every q xs
 unfolding every
 every-map f p q h [] = refl
 every-map f p q h (g ∷ gs) = rw (h g, every-map f p q h gs)

@@ -1,8 +1,8 @@
 -- The loops of src/grants.rt but those of the scan (`ScanSteps`), step by step: each keeps an equation between what is asked of the whole
 -- list and of what is left of it.
 use Prim.Native.Nat.{ℕ, _+_, _-_, _*_, _≤_, _<_}
-use mathlib.Core.Path.{_≡_, refl, sym, ap, _∙_}
-use mathlib.Core.Bool.{Bool, true, false, cond}
+use mathlib.Core.Path.{_≡_, refl, sym, ap₂, _∙_}
+use mathlib.Core.Bool.{Bool, true, false}
 use mathlib.Core.List.{List, [], _∷_}
 use native.Mathlib.Numerals.{add-one}
 use native.Mathlib.Omega.{arith}
@@ -11,23 +11,29 @@ use lib.Dec.{ltb}
 use lib.ListN.{length, getD, take, drop, length-take, drop-of-length-le}
 use lib.Seq.{drop-cons, getD-take}
 use Rattle.inference.specs.Lists.{every, any}
-use Rattle.inference.specs.Counts.{Count, fin, unlimited, _⊕_}
+use Rattle.inference.specs.Counts.{_⊕_}
+use Rattle.inference.specs.Rows.{countOf}
+use Rattle.inference.proofs.CountLaws.{join-assoc, join-nothing, nothing-join}
+use Rattle.sharing.specs.Sums.{added, sumCount}
+use Rattle.sharing.proofs.SharingLaws.{Small, Joined, join-small}
 use Rattle.policy.specs.Syntax.{hasBit}
 use Rattle.fit.specs.Grants.{storedCount, listed}
 use Rattle.policy.specs.Rows.{nodeAt, wordIn, itemsAt, permissionsOf}
-use Rattle.fit.specs.Givers.{givenAt, totalOf, joinedAt, indexOf}
+use Rattle.fit.specs.Givers.{givenAt, joinedAt, indexOf}
 use Rattle.policy.specs.declared.Node.{Node}
 use Rattle.policy.specs.declared.Permissions.{Permissions as Stored}
-use Rattle.fit.specs.declared.Total.{Total}
 use Rattle.policy.proofs.NodeLaws.{node-steps}
-use Rattle.policy.proofs.RowLaws.{items-more, items-none, items-all, kinds-none}
+use Rattle.policy.proofs.RowLaws.{items-more, items-none, items-all}
 
 -- The first n of a list, from the i-th on: none past its end, before it the i-th and what follows.
-pub past-end : (l : List ℕ) (n i : ℕ) → length l ≤ i → drop i (take n l) ≡ []
+pub past-end : {A : Type 0} (l : List A) (n i : ℕ) → length l ≤ i → drop i (take n l) ≡ []
 past-end l n i h = drop-of-length-le (take n l) {i = i} (omega (arith, length-take n l))
 
-pub one-left : (l : List ℕ) (n i : ℕ) → i < n → i < length l → drop i (take n l) ≡ getD l i 0 ∷ drop (i + 1) (take n l)
-one-left l n i h k = rw (drop-cons (take n l) i 0 (omega (arith, length-take n l)), getD-take, add-one)
+pub none-left : {A : Type 0} (l : List A) (n i : ℕ) → n ≤ i → drop i (take n l) ≡ []
+none-left l n i h = drop-of-length-le (take n l) {i = i} (omega (arith, length-take n l))
+
+pub one-left : {A : Type 0} (l : List A) (n i : ℕ) (d : A) → i < n → i < length l → drop i (take n l) ≡ getD l i d ∷ drop (i + 1) (take n l)
+one-left l n i d h k = drop-cons (take n l) i d (omega (arith, length-take n l)) ∙ ap₂ (λ (x : _) (xs : List _). x ∷ xs) (getD-take n l i d h) (rw add-one refl)
 
 -- The search for a kind has come to place i.
 pub record TreeSoFar (kind n : ℕ) (l : List ℕ) (i : ℕ) : Type 0 where
@@ -39,15 +45,15 @@ tree-starts kind n l = record { same = omega arith }
 module _ (kind n : ℕ) (l : List ℕ) (i : ℕ) (s : TreeSoFar kind n l i) where
   pub tree-ends : n ≤ i → i ≡ indexOf kind (take n l)
   unfolding indexOf
-  tree-ends h = omega (arith, rw (kinds-none l n i h) at (s .same))
+  tree-ends h = omega (arith, rw (none-left l n i h) at (s .same))
 
   pub tree-here : n ≤ 16 → length l ≡ 16 → i < n → getD l i 0 ≡ kind → i ≡ indexOf kind (take n l)
   unfolding indexOf
-  tree-here j k h q = omega (arith, rw (one-left l n i h (omega arith), eq-eqb (getD l i 0) kind q) at (s .same))
+  tree-here j k h q = omega (arith, rw (one-left l n i 0 h (omega arith), eq-eqb (getD l i 0) kind q) at (s .same))
 
   pub tree-next : n ≤ 16 → length l ≡ 16 → i < n → (getD l i 0 ≡ kind → ⊥) → TreeSoFar kind n l (i + 1)
   unfolding indexOf
-  tree-next j k h q = record { same = omega (arith, rw (one-left l n i h (omega arith), ne-eqb (getD l i 0) kind q) at (s .same)) }
+  tree-next j k h q = record { same = omega (arith, rw (one-left l n i 0 h (omega arith), ne-eqb (getD l i 0) kind q) at (s .same)) }
 
 pub ruleset tree-steps = (node-steps, tree-starts, tree-ends, tree-here, tree-next)
 
@@ -61,7 +67,7 @@ all-starts n l = record { same = refl }
 module _ (n : ℕ) (l : List ℕ) (i : ℕ) (s : AllSoFar n l i) where
   pub all-end : n ≤ i → true ≡ every (λ row. ltb row 64) (take n l)
   unfolding every
-  all-end h = sym (rw (kinds-none l n i h) at (s .same))
+  all-end h = sym (rw (none-left l n i h) at (s .same))
 
   pub all-eight : length l ≡ 8 → 8 ≤ i → true ≡ every (λ row. ltb row 64) (take n l)
   unfolding every
@@ -69,11 +75,11 @@ module _ (n : ℕ) (l : List ℕ) (i : ℕ) (s : AllSoFar n l i) where
 
   pub all-missing : length l ≡ 8 → i < 8 → i < n → 64 ≤ getD l i 0 → false ≡ every (λ row. ltb row 64) (take n l)
   unfolding every
-  all-missing k j h q = sym (rw (one-left l n i h (omega arith), le-ltb (getD l i 0) 64 q) at (s .same))
+  all-missing k j h q = sym (rw (one-left l n i 0 h (omega arith), le-ltb (getD l i 0) 64 q) at (s .same))
 
   pub all-next : length l ≡ 8 → i < 8 → i < n → getD l i 0 < 64 → AllSoFar n l (i + 1)
   unfolding every
-  all-next k j h q = record { same = rw (one-left l n i h (omega arith), lt-ltb (getD l i 0) 64 q) at (s .same) }
+  all-next k j h q = record { same = rw (one-left l n i 0 h (omega arith), lt-ltb (getD l i 0) 64 q) at (s .same) }
 
 pub ruleset all-steps = (node-steps, all-starts, all-end, all-eight, all-missing, all-next)
 
@@ -108,7 +114,7 @@ flag-starts value nodes n l = record { same = λ c. refl }
 module _ (value : ℕ) (nodes : List ℕ) (n : ℕ) (l : List ℕ) (i : ℕ) (s : FlagSoFar value nodes n l i) where
   pub flag-end : n ≤ i → (c : List ℕ) → false ≡ any (λ row. hasBit value (givenAt c nodes row .map)) (take n l)
   unfolding any
-  flag-end h c = sym (rw (kinds-none l n i h) at (s .same c))
+  flag-end h c = sym (rw (none-left l n i h) at (s .same c))
 
   pub flag-eight : length l ≡ 8 → 8 ≤ i → (c : List ℕ) → false ≡ any (λ row. hasBit value (givenAt c nodes row .map)) (take n l)
   unfolding any
@@ -117,11 +123,11 @@ module _ (value : ℕ) (nodes : List ℕ) (n : ℕ) (l : List ℕ) (i : ℕ) (s 
   module _ (k : length l ≡ 8) (j : i < 8) (h : i < n) (b : Bool) (q : (c : List ℕ) → b ≡ hasBit value (givenAt c nodes (getD l i 0) .map)) where
     pub flag-here : b ≡ true → (c : List ℕ) → true ≡ any (λ row. hasBit value (givenAt c nodes row .map)) (take n l)
     unfolding any
-    flag-here e c = sym (rw (one-left l n i h (omega arith), ← q c, e) at (s .same c))
+    flag-here e c = sym (rw (one-left l n i 0 h (omega arith), ← q c, e) at (s .same c))
 
     pub flag-next : b ≡ false → FlagSoFar value nodes n l (i + 1)
     unfolding any
-    flag-next e = record { same = λ c. rw (one-left l n i h (omega arith), ← q c, e) at (s .same c) }
+    flag-next e = record { same = λ c. rw (one-left l n i 0 h (omega arith), ← q c, e) at (s .same c) }
 
 pub ruleset flag-steps = (node-steps, flag-starts, flag-end, flag-eight, flag-here, flag-next)
 
@@ -148,68 +154,35 @@ module _ (c : List ℕ) (group n at i : ℕ) (s : ItemSoFar c group n at i) wher
 
 pub ruleset item-steps = (node-steps, item-starts, item-ends, item-here, item-next)
 
--- Counts joined.
-join-assoc : (a b d : Count) → (a ⊕ b) ⊕ d ≡ a ⊕ (b ⊕ d)
-unfolding _⊕_
-join-assoc (fin a) (fin b) (fin d) = ap fin (omega arith)
-join-assoc (fin a) (fin b) unlimited = refl
-join-assoc (fin a) unlimited (fin d) = refl
-join-assoc (fin a) unlimited unlimited = refl
-join-assoc unlimited (fin b) (fin d) = refl
-join-assoc unlimited (fin b) unlimited = refl
-join-assoc unlimited unlimited (fin d) = refl
-join-assoc unlimited unlimited unlimited = refl
+-- What is joined so far, and what is left to join; at most eight counts are joined, so the sum stays small.
+pub record SumSoFar (group : ℕ) (c nodes : List ℕ) (n : ℕ) (l : List ℕ) (sum i : ℕ) : Type 0 where
+  pub whole : sumCount sum ⊕ joinedAt group c nodes (drop i (take n l)) ≡ joinedAt group c nodes (take n l)
+  pub small : Small i sum
 
-join-zero : (a : Count) → a ⊕ fin 0 ≡ a
-unfolding _⊕_
-join-zero (fin a) = ap fin (omega arith)
-join-zero unlimited = refl
+pub sum-starts : (group : ℕ) (c nodes : List ℕ) (n : ℕ) (l : List ℕ) → SumSoFar group c nodes n l 0 0
+unfolding sumCount
+sum-starts group c nodes n l = record { whole = nothing-join _; small = record { low = λ h. omega arith; top = omega arith } }
 
-zero-join : (a : Count) → fin 0 ⊕ a ≡ a
-unfolding _⊕_
-zero-join (fin a) = ap fin (omega arith)
-zero-join unlimited = refl
+module _ (group : ℕ) (c nodes : List ℕ) (n : ℕ) (l : List ℕ) (sum i : ℕ) (s : SumSoFar group c nodes n l sum i) where
+  pub sum-low : sum < 4294967296
+  sum-low = omega (arith, s .small .top)
 
-pub join-unlimited : (t : Total) (count : ℕ) → count ≡ 65535 → totalOf (record { unlimited = true; sum = t .sum }) ≡ totalOf t ⊕ storedCount count
-unfolding totalOf storedCount _⊕_
-join-unlimited t count e = rw (eq-eqb count 65535 e) (go (t .unlimited))
-  where
-    go : (b : Bool) → unlimited ≡ cond b unlimited (fin (t .sum)) ⊕ unlimited
-    go true = refl
-    go false = refl
-
-pub join-finite : (t : Total) (count : ℕ) → (count ≡ 65535 → ⊥) → totalOf (record { unlimited = t .unlimited; sum = t .sum + count }) ≡ totalOf t ⊕ storedCount count
-unfolding totalOf storedCount _⊕_
-join-finite t count e = rw (ne-eqb count 65535 e) (go (t .unlimited))
-  where
-    go : (b : Bool) → cond b unlimited (fin (t .sum + count)) ≡ cond b unlimited (fin (t .sum)) ⊕ fin count
-    go true = refl
-    go false = refl
-
--- What is joined so far, and what is left to join.
-pub record SumSoFar (group : ℕ) (c nodes : List ℕ) (n : ℕ) (l : List ℕ) (t : Total) (i : ℕ) : Type 0 where
-  pub whole : totalOf t ⊕ joinedAt group c nodes (drop i (take n l)) ≡ joinedAt group c nodes (take n l)
-  pub small : t .sum ≤ 65536 * i
-
-pub sum-starts : (group : ℕ) (c nodes : List ℕ) (n : ℕ) (l : List ℕ) → SumSoFar group c nodes n l (record { unlimited = false; sum = 0 }) 0
-unfolding totalOf
-sum-starts group c nodes n l = record { whole = zero-join _; small = omega arith }
-
-module _ (group : ℕ) (c nodes : List ℕ) (n : ℕ) (l : List ℕ) (t : Total) (i : ℕ) (s : SumSoFar group c nodes n l t i) where
-  pub sum-end : n ≤ i → totalOf t ≡ joinedAt group c nodes (take n l)
+  pub sum-end : n ≤ i → sumCount sum ≡ joinedAt group c nodes (take n l)
   unfolding joinedAt
-  sum-end h = sym (join-zero (totalOf t)) ∙ (rw (kinds-none l n i h) at (s .whole))
+  sum-end h = sym (join-nothing (sumCount sum)) ∙ (rw (none-left l n i h) at (s .whole))
 
-  pub sum-eight : length l ≡ 8 → 8 ≤ i → totalOf t ≡ joinedAt group c nodes (take n l)
+  pub sum-eight : length l ≡ 8 → 8 ≤ i → sumCount sum ≡ joinedAt group c nodes (take n l)
   unfolding joinedAt
-  sum-eight k h = sym (join-zero (totalOf t)) ∙ (rw (past-end l n i (omega arith)) at (s .whole))
+  sum-eight k h = sym (join-nothing (sumCount sum)) ∙ (rw (past-end l n i (omega arith)) at (s .whole))
 
   pub sum-next : length l ≡ 8 → i < 8 → i < n → (w : ℕ) → storedCount w ≡ listed group (givenAt c nodes (getD l i 0) .list) → w < 65536
-      → (r : Total) → totalOf r ≡ totalOf t ⊕ storedCount w → r .sum ≤ t .sum + w → SumSoFar group c nodes n l r (i + 1)
-  unfolding joinedAt
-  sum-next k j h w q v r e m = record {
-    whole = rw (e, q) (join-assoc _ _ _ ∙ (rw (one-left l n i h (omega arith)) at (s .whole)));
-    small = omega (arith, s .small);
-  }
+      → (r : ℕ) → r ≡ added sum w → SumSoFar group c nodes n l r (i + 1)
+  unfolding joinedAt storedCount countOf
+  sum-next k j h w q v r e =
+      let next : Joined i sum w = join-small i sum w (omega arith) v (s .small) in
+      record {
+        whole = rw (e, next .same, q) (join-assoc _ _ _ ∙ (rw (one-left l n i 0 h (omega arith)) at (s .whole)));
+        small = rw (e, add-one) (next .small);
+      }
 
-pub ruleset sum-steps = (node-steps, join-unlimited, join-finite, sum-starts, sum-end, sum-eight, sum-next)
+pub ruleset sum-steps = (node-steps, sum-starts, sum-low, sum-end, sum-eight, sum-next)

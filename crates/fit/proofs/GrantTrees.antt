@@ -5,18 +5,20 @@ use mathlib.Core.Bool.{Bool, true, false, cond, _||_, true≢false}
 use mathlib.Core.List.{List, [], _∷_, map}
 use mathlib.Core.Option.{Option, some, none as nothing}
 use native.Mathlib.Omega.{arith}
-use borrow.Author.Tests.{lt-ltb}
+use borrow.Author.Tests.{lt-ltb, ltb-true}
 use lib.Dec.{ltb, eqb, leb·suc-suc}
 use lib.ListN.{length, getD, take, drop, length-take, drop-of-length-le}
 use lib.Seq.{drop-cons, getD-take}
 use Rattle.reading.specs.Forms.{member}
 use Rattle.inference.specs.Lists.{every, any, rising}
-use Rattle.inference.specs.Counts.{Count, atMost, _⊕_}
+use Rattle.inference.specs.Counts.{Count, _⊕_}
 use Rattle.inference.specs.Interface.{Entry, reading, writing, accessing, disclosing, Required, needed}
 use Rattle.policy.specs.Syntax.{Node, Tree, hasBit, alone}
 use Rattle.policy.specs.WellFormed.{groupsAt}
 use Rattle.fit.specs.Grants.{treeFor, reached, reachedIn, reachedFor, givenBy, flagGranted, listed, joined, countGranted}
-use Rattle.fit.specs.Satisfies.{isTree, hasTree, pathReached, grantsOne}
+use Rattle.fit.specs.Covers.{spanFor}
+use Rattle.policy.specs.declared.Span.{Span}
+use Rattle.fit.specs.Satisfies.{isTree, hasTree, pathReached, flag, counts, verdictOf}
 use Rattle.policy.specs.Rows.{flats, flatten}
 use Rattle.fit.specs.Givers.{givenAt, joinedAt, indexOf, giverIn, giversIn}
 use Rattle.fit.specs.Search.{Gives}
@@ -174,21 +176,40 @@ module _ (c nodes : List ℕ) where
         count = λ h o f. rw (f, is, given) (no-count h path path);
       }
 
--- Question 18 of one permission of an entry.
+-- The rows of the kind's tree, or none, give to a path what the policy grants it.
+pub span-gives : (c nodes : List ℕ) (trees : Trees) (policy : List Tree) → AllHeld c nodes trees 0 policy → trees .len ≤ 16 → length (trees .kinds) ≡ 16
+    → (kind : ℕ) (path rows : List ℕ) → rows ≡ giversIn c nodes path (spanFor trees kind .from) (spanFor trees kind .to - spanFor trees kind .from)
+    → Gives c nodes policy kind path rows
+unfolding spanFor
+span-gives c nodes trees policy held few kinds kind path rows given = go (ltb t (trees .len)) refl given
+  where
+    t : ℕ
+    t = indexOf kind (take (trees .len) (trees .kinds))
+
+    span : Bool → Span
+    span b = cond b (record { from = startOf trees t; to = getD (trees .ends) t 0 }) (record { from = 0; to = 0 })
+
+    go : (b : Bool) → ltb t (trees .len) ≡ b → rows ≡ giversIn c nodes path (span b .from) (span b .to - span b .from) → Gives c nodes policy kind path rows
+    go true e is =
+        tree-gives c nodes policy kind (startOf trees t) (getD (trees .ends) t 0)
+        (tree-rows c nodes trees policy held few kinds kind t refl (ltb-true t (trees .len) e) (startOf trees t) (getD (trees .ends) t 0) refl refl) path rows is
+    go false e is = none-gives c nodes policy kind path rows (has-tree c nodes trees policy held few kinds kind t refl ∙ e) is
+
+-- The verdict on one permission of an entry.
 module _ {c nodes : List ℕ} {policy : List Tree} {kind : ℕ} {path rows : List ℕ} (gives : Gives c nodes policy kind path rows)
     (required : Required) (e : Entry) (of-kind : e .kind ≡ kind) (of-path : e .component .path ≡ path) where
-  pub entry-reading : grantsOne policy required e reading ≡ any (λ row. hasBit 1 (givenAt c nodes row .map)) rows
-  unfolding grantsOne
-  entry-reading = rw of-kind (gives .flag 1 (e .component) of-path)
+  pub on-reading : verdictOf policy required e reading ≡ flag reading (any (λ row. hasBit 1 (givenAt c nodes row .map)) rows)
+  unfolding verdictOf
+  on-reading = ap (flag reading) (rw of-kind (gives .flag 1 (e .component) of-path))
 
-  pub entry-writing : grantsOne policy required e writing ≡ any (λ row. hasBit 2 (givenAt c nodes row .map)) rows
-  unfolding grantsOne
-  entry-writing = rw of-kind (gives .flag 2 (e .component) of-path)
+  pub on-writing : verdictOf policy required e writing ≡ flag writing (any (λ row. hasBit 2 (givenAt c nodes row .map)) rows)
+  unfolding verdictOf
+  on-writing = ap (flag writing) (rw of-kind (gives .flag 2 (e .component) of-path))
 
-  pub entry-accessing : grantsOne policy required e accessing ≡ any (λ row. hasBit 4 (givenAt c nodes row .map)) rows
-  unfolding grantsOne
-  entry-accessing = rw of-kind (gives .flag 4 (e .component) of-path)
+  pub on-accessing : verdictOf policy required e accessing ≡ flag accessing (any (λ row. hasBit 4 (givenAt c nodes row .map)) rows)
+  unfolding verdictOf
+  on-accessing = ap (flag accessing) (rw of-kind (gives .flag 4 (e .component) of-path))
 
-  pub entry-disclosing : (h : ℕ) → grantsOne policy required e (disclosing h) ≡ atMost (needed required e h) (joinedAt h c nodes rows)
-  unfolding grantsOne
-  entry-disclosing h = ap (atMost (needed required e h)) (rw of-kind (gives .count h (e .component) of-path))
+  pub on-disclosing : (h : ℕ) → verdictOf policy required e (disclosing h) ≡ counts h (needed required e h) (joinedAt h c nodes rows)
+  unfolding verdictOf
+  on-disclosing h = ap (counts h (needed required e h)) (rw of-kind (gives .count h (e .component) of-path))

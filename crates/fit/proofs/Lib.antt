@@ -4,6 +4,7 @@ pub mod GrantTrees
 pub mod ClassGrants
 pub mod GrantSteps
 pub mod ScanSteps
+pub mod CoverSteps
 pub mod EntryLaws
 pub mod EntrySteps
 pub mod SearchLaws

@@ -45,7 +45,7 @@ module _ (n : ℕ) (groups first : List ℕ) (i : ℕ) (s : MarksSoFar n groups 
     long = rw e (length-set first (getD groups i 0) 64 ∙ s .long);
     same = λ g k.
         rw e (go g k (eqb (getD groups i 0) g) refl (member g (drop (i + 1) (take n groups))))
-        ∙ (rw (one-left groups n i h (omega arith)) at (s .same g k));
+        ∙ (rw (one-left groups n i 0 h (omega arith)) at (s .same g k));
   }
     where
       go : (g : ℕ) → g < 64 → (t : Bool) → eqb (getD groups i 0) g ≡ t → (b : Bool)
@@ -220,7 +220,7 @@ module _ (first : List ℕ) (n : ℕ) (groups rows : List ℕ) (i : ℕ) (s : Gi
 
   pub givers-next : length groups ≡ 8 → i < 8 → i < n → (v : ℕ) → v ≡ rowIn first (getD groups i 0) → GiversSoFar first n groups (set rows i v) (i + 1)
   givers-next k j h v q = record {
-    whole = rw (one-more rows i v (s .long) j, append-assoc, q) (rw (one-left groups n i h (omega arith)) at (s .whole));
+    whole = rw (one-more rows i v (s .long) j, append-assoc, q) (rw (one-left groups n i 0 h (omega arith)) at (s .whole));
     few = omega arith;
     long = length-set rows i v ∙ s .long;
   }

@@ -1,31 +1,29 @@
 -- The search for the first uncovered permission: what is left of the entries decides, since those passed lack nothing. And there is an
 -- uncovered permission exactly where question 18 fails.
 use Prim.Native.Nat.{ℕ, _+_, _-_, _<_, _≤_}
-use mathlib.Core.Path.{_≡_, refl, sym, ap, ap₂, _∙_}
+use mathlib.Core.Path.{_≡_, refl, ap, ap₂, _∙_}
 use mathlib.Core.List.{List, [], _∷_, _++_, map}
 use mathlib.Core.Bool.{Bool, true, false, cond, not, _&&_, _||_, true≢false}
 use mathlib.Core.Option.{Option, some, none}
 use native.Mathlib.Omega.{arith}
-use lib.ListN.{length, take, getD, replicate}
+use lib.ListN.{length, replicate}
 use borrow.Author.Needs.{needs}
 use borrow.Author.Tests.{lt-ltb, le-ltb, not-true, not-false}
 use Rattle.inference.specs.Lists.{every, only, gather, rising}
 use Rattle.inference.specs.Interface.{Disclosure, Entry, Permission, reading, writing, accessing, disclosing, isEmpty, flagged, permissions, holdsAny, Required}
-use Rattle.inference.specs.Rows.{Orderly, isSet, cell, pathAt, entryAt, usedKinds, rowEntries, tableEntries, tableRequired}
+use Rattle.inference.specs.Rows.{Orderly, isSet, cell, entryAt, usedKinds, rowEntries, tableEntries, tableRequired}
 use Rattle.interface.proofs.WriteLaws.{rising-next, rising-done}
 use Rattle.sharing.specs.Sums.{addRows, Summed}
 use Rattle.policy.specs.Syntax.{Tree}
-use Rattle.policy.specs.Loads.{AllHeld, startOf}
+use Rattle.policy.specs.Loads.{AllHeld, Bounded}
 use Rattle.policy.specs.declared.Trees.{Trees}
-use Rattle.fit.specs.Satisfies.{covered}
-use Rattle.fit.specs.Givers.{giversIn, indexOf}
-use Rattle.fit.specs.Covers.{missingOf, CoveringIs}
-use Rattle.fit.specs.Uncovered.{first, firstMissing, Uncovered, orFurther, firstUncovered}
-use Rattle.fit.specs.Search.{Gives, uncoveredAt}
+use Rattle.fit.specs.Satisfies.{covering, covered}
+use Rattle.fit.specs.Covers.{verdictsOf, verdictsFor, lackingIn, missingOf}
+use Rattle.fit.specs.Uncovered.{first, orNone, firstMissing, Uncovered, orFurther, firstUncovered}
+use Rattle.fit.specs.Search.{uncoveredAt}
 use Rattle.fit.specs.declared.Covering.{Covering}
 use Rattle.fit.specs.declared.Missing.{Missing}
-use Rattle.fit.proofs.GrantTrees.{has-tree, tree-rows, tree-gives, none-gives}
-use Rattle.fit.proofs.EntryLaws.{isNone, covered-first, missing-rows, all-sums}
+use Rattle.fit.proofs.EntryLaws.{isNone, covered-first, missing-number, verdicts-for, all-sums}
 
 -- Question 18 of some entries fails exactly where one of them lacks a permission.
 pub uncovered-none : (policy : List Tree) (required : Required) (es : List Entry)
@@ -50,7 +48,7 @@ no-permissions false false false [] h = refl
 no-permissions false false false (x ∷ ds) h = absurd (true≢false h)
 
 lacks-none : (policy : List Tree) (required : Required) (e : Entry) → holdsAny e ≡ false → firstMissing policy required e ≡ none
-unfolding firstMissing permissions holdsAny first
+unfolding firstMissing covering permissions holdsAny first orNone
 lacks-none policy required e h = rw (no-permissions (e .read) (e .write) (e .access) (e .disclose) h) refl
 
 uncovered-only : (policy : List Tree) (required : Required) (es : List Entry)
@@ -93,18 +91,6 @@ module _ (table : List ℕ) (m : Missing) where
   unfolding uncoveredAt orElse
   some-at rest h = rw (lt-ltb (m .column) 67 h) refl
 
--- The rows that give to a path, where its kind has a tree and where it has none.
-module _ (trees : Trees) (few : trees .len ≤ 16) (kinds : length (trees .kinds) ≡ 16) (kind t : ℕ) (at : t ≡ indexOf kind (take (trees .len) (trees .kinds)))
-    (c nodes : List ℕ) (policy : List Tree) (held : AllHeld c nodes trees 0 policy) (path rows : List ℕ) where
-  pub absent-gives : trees .len ≤ t → rows ≡ giversIn c nodes path 0 (0 - 0) → Gives c nodes policy kind path rows
-  absent-gives h given =
-      none-gives c nodes policy kind path rows (has-tree c nodes trees policy held few kinds kind t at ∙ le-ltb t (trees .len) h) given
-
-  pub present-gives : t < trees .len → (start end : ℕ) → start ≡ startOf trees t → end ≡ getD (trees .ends) t 0
-      → rows ≡ giversIn c nodes path start (end - start) → Gives c nodes policy kind path rows
-  present-gives h start end p q given =
-      tree-gives c nodes policy kind start end (tree-rows c nodes trees policy held few kinds kind t at h start end p q) path rows given
-
 -- What an entry lacks; a kind that is not marked has no entry.
 abbrev pub kindMissing : List Tree → Required → List ℕ → ℕ → ℕ → Option Permission
 kindMissing policy required table n k = cond (isSet (cell table n k 11)) (firstMissing policy required (entryAt table n k)) none
@@ -115,18 +101,14 @@ module _ (c nodes : List ℕ) (trees : Trees) (table sums : List ℕ) (n k : ℕ
   unfolding missingOf
   none-marked h policy held up required sum = rw (← is, not-true u h) refl
 
-  -- what `covering` finds for an entry in the rows of its kind
-  pub lacks-at : not u ≡ false → (start end : ℕ) (r : Covering)
-      → ((b ns : List ℕ) (policy : List Tree) → AllHeld b ns trees 0 policy → (path rows : List ℕ)
-      → rows ≡ giversIn b ns path start (end - start) → Gives b ns policy k path rows)
-      → CoveringIs c nodes (giversIn c nodes (pathAt table n) start (end - start)) table sums n k r
+  -- what `entry_covering` finds for an entry
+  pub lacks-at : Bounded trees → length (trees .kinds) ≡ 16 → not u ≡ false → (r : Covering) (column : ℕ)
+      → verdictsOf r ≡ verdictsFor c nodes trees table sums n k → column ≡ lackingIn (verdictsOf r)
       → (policy : List Tree) → AllHeld c nodes trees 0 policy → Orderly table n → (required : Required) → Summed table sums required n k
-      → kindMissing policy required table n k ≡ missingOf (r .column)
-  lacks-at h start end r gives found policy held up required sum =
-      rw (← is, not-false u h)
-      (missing-rows policy required table n k c nodes (giversIn c nodes (pathAt table n) start (end - start))
-      (gives c nodes policy held (pathAt table n) (giversIn c nodes (pathAt table n) start (end - start)) refl) up sums sum
-      ∙ ap missingOf (sym (found .column)))
+      → kindMissing policy required table n k ≡ missingOf column
+  lacks-at bounded kinds h r column told e policy held up required sum =
+      rw (← is, not-false u h, e, told, verdicts-for c nodes trees policy held (bounded .few) kinds table sums n k up required sum)
+      (missing-number policy required table n k up)
 
 -- The kinds passed so far lack nothing, so that those left decide, of which those that are marked count.
 abbrev kindsFrom : List ℕ → ℕ → ℕ → ℕ → List Entry

@@ -7,11 +7,10 @@ use mathlib.Core.Bool.{cond}
 use lib.ListN.{take, getD}
 use lib.Dec.{ltb, eqb}
 use Rattle.reading.specs.Forms.{member}
-use Rattle.inference.specs.Counts.{Count, fin, unlimited, _⊕_}
+use Rattle.inference.specs.Counts.{Count, fin, _⊕_}
 use Rattle.policy.specs.Syntax.{Permissions, Head}
 use Rattle.fit.specs.Grants.{listed}
 use Rattle.policy.specs.Rows.{nodeAt, permissionsOf, Flat, flats}
-use Rattle.fit.specs.declared.Total.{Total}
 use Rattle.fit.specs.declared.Givers.{Givers}
 
 -- The nodes of a tree's rows that a path reaches: a node at a depth above `limit` stands below one that is not reached.
@@ -50,10 +49,6 @@ givenRows g = take (g .len) (g .rows)
 -- What a giver gives: the permissions of its row, nothing at 64.
 unfoldable pub givenAt : List ℕ → List ℕ → ℕ → Permissions
 givenAt c nodes row = cond (ltb row 64) (permissionsOf c (nodeAt nodes row .permissions)) (record { map = 0; list = [] })
-
--- A sum of counts as a count.
-unfoldable pub totalOf : Total → Count
-totalOf t = cond (t .unlimited) unlimited (fin (t .sum))
 
 -- the counts for group h that rows give, joined
 unfoldable pub joinedAt : ℕ → List ℕ → List ℕ → List ℕ → Count

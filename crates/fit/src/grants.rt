@@ -6,14 +6,13 @@ ghost use Prim.Native.Nat.{ℕ, _<_, _≤_, _+_, _-_};
 ghost use lib.Dec.{ltb, eqb};
 ghost use lib.ListN.{take, set};
 ghost use Rattle.reading.specs.Told.{pathOf};
-ghost use Rattle.inference.specs.Counts.{_⊕_};
 ghost use Rattle.inference.specs.Lists.{every, any};
+ghost use Rattle.sharing.specs.Sums.{sumCount};
 ghost use Rattle.policy.specs.Syntax.{hasBit};
 ghost use Rattle.fit.specs.Grants.{storedCount, listed as listedIn};
 ghost use Rattle.policy.specs.Rows.{itemsAt, permissionsOf, flats};
-ghost use Rattle.fit.specs.Givers.{indexOf, giverIn, Marked, rowIn, givenRows, givenAt, totalOf, joinedAt};
+ghost use Rattle.fit.specs.Givers.{indexOf, giverIn, Marked, rowIn, givenRows, givenAt, joinedAt};
 use crate::Givers;
-use crate::Total;
 use policy::Permissions;
 use policy::Span;
 use policy::Trees;
@@ -22,6 +21,7 @@ use policy::nodes::node_at;
 use policy::nodes::word_in;
 use reading::Path;
 use reading::bytes::byte_in;
+use sharing::add;
 
 // The tree of a kind: its number, or the number of trees where there is none.
 pub fn tree_for(trees: Trees, kind: usize) -> usize
@@ -233,25 +233,6 @@ fn listed(c: &[u8], p: Permissions, group: usize) -> usize
     0
 }
 
-// A stored count joined to a sum; 65,535 is unlimited.
-fn join(total: Total, count: usize) -> Total
-    requires { ⌜ (total .sum < 1000000) × (count < 65536) ⌝ }
-    ensures { λ r. ⌜ totalOf r ≡ totalOf total ⊕ storedCount count ⌝ }
-    ensures { λ r. ⌜ r .sum ≤ total .sum + count ⌝ }
-{
-    if count == 65535 {
-        Total {
-            unlimited: true,
-            sum: total.sum,
-        }
-    } else {
-        Total {
-            unlimited: total.unlimited,
-            sum: total.sum + count,
-        }
-    }
-}
-
 // The stored count for a group that a row gives.
 fn count_at(c: &[u8], nodes: &[usize], row: usize, group: usize) -> usize
     ensures { λ r. ⌜ storedCount r ≡ listedIn group (givenAt (now (c .entry)) (now (nodes .entry)) row .list) ⌝ }
@@ -260,22 +241,19 @@ fn count_at(c: &[u8], nodes: &[usize], row: usize, group: usize) -> usize
     listed(c, given_at(nodes, row), group)
 }
 
-// The sum of what the path's groups grant for a group.
-pub fn count_granted(c: &[u8], nodes: &[usize], givers: Givers, group: usize) -> Total
-    ensures { λ r. ⌜ totalOf r ≡ joinedAt group (now (c .entry)) (now (nodes .entry)) (givenRows givers) ⌝ }
+// The sum of what the path's groups grant for a group; 4,000,000 is unlimited.
+pub fn count_granted(c: &[u8], nodes: &[usize], givers: Givers, group: usize) -> usize
+    ensures { λ r. ⌜ sumCount r ≡ joinedAt group (now (c .entry)) (now (nodes .entry)) (givenRows givers) ⌝ }
 {
     let rows = givers.rows;
     let len = givers.len;
-    let mut total = Total {
-        unlimited: false,
-        sum: 0,
-    };
+    let mut total: usize = 0;
     let mut i: usize = 0;
     while i < 8 {
         if len <= i {
             return total;
         }
-        total = join(total, count_at(c, nodes, rows[i], group));
+        total = add(total, count_at(c, nodes, rows[i], group));
         i += 1;
     }
     total

@@ -1,14 +1,9 @@
-// Whether a policy satisfies the interface that a table of components holds: questions 16 to 18; and the first permission that it does
-// not cover.
+// Whether a policy satisfies the interface that a table of components holds: what it grants of what an entry needs, questions 16 to 18,
+// and the first permission that it does not cover.
+pub mod cover;
 pub mod entries;
 pub mod grants;
 pub mod uncovered;
-
-// A sum of counts.
-pub struct Total {
-    pub unlimited: bool,
-    pub sum: usize,
-}
 
 // What gives to a path: for each of its groups the row of the group's first reached node, or 64.
 pub struct Givers {
@@ -16,11 +11,37 @@ pub struct Givers {
     pub len: usize,
 }
 
-// What an entry comes to in the tree of its kind: is each group of its path at a reached node, and the number of the first permission
-// that is not covered (see Missing), or 67.
+// What a policy says to a flag: the entry does not need it, it is granted, or it is not.
+pub enum Flag {
+    Unneeded,
+    Granted,
+    Lacking,
+}
+
+pub struct Flags {
+    pub read: Flag,
+    pub write: Flag,
+    pub access: Flag,
+}
+
+// A group that an entry discloses to: the sum that its class needs, and the one that its path is granted; 4,000,000 is unlimited.
+pub struct Sum {
+    pub group: usize,
+    pub needed: usize,
+    pub granted: usize,
+}
+
+// The first `len` are those of an entry, by rising group.
+pub struct Sums {
+    pub items: [Sum; 8],
+    pub len: usize,
+}
+
+// What an entry comes to in the tree of its kind: is each group of its path at a reached node, and what is granted of what it needs.
 pub struct Covering {
     pub reached: bool,
-    pub column: usize,
+    pub flags: Flags,
+    pub sums: Sums,
 }
 
 // A permission of the entry of a component and a kind by its number: 64 read, 65 write, 66 access, below 64 the group disclosed to;

@@ -4,39 +4,22 @@ ghost use mathlib.Core.Path.{_≡_};
 ghost use mathlib.Core.List.{List};
 ghost use mathlib.Core.Bool.{cond};
 ghost use mathlib.Core.Option.{none};
-ghost use Prim.Native.Nat.{ℕ, _<_, _≤_, _-_};
+ghost use Prim.Native.Nat.{ℕ, _<_, _≤_};
 ghost use lib.ListN.{length};
 ghost use Rattle.inference.specs.Interface.{Required};
 ghost use Rattle.inference.specs.Rows.{Orderly, isSet, cell, entryAt, rowEntries, tableEntries, tableRequired};
 ghost use Rattle.sharing.specs.Sums.{Summed};
 ghost use Rattle.policy.specs.Syntax.{Tree};
 ghost use Rattle.policy.specs.Loads.{Bounded, AllHeld};
-ghost use Rattle.fit.specs.Givers.{giversIn};
 ghost use Rattle.fit.specs.Covers.{missingOf};
 ghost use Rattle.fit.specs.Uncovered.{firstMissing, firstUncovered};
-ghost use Rattle.fit.specs.Search.{Gives, uncoveredAt};
+ghost use Rattle.fit.specs.Search.{uncoveredAt};
 use crate::Missing;
-use crate::entries::covering;
-use crate::grants::tree_for;
+use crate::cover::entry_covering;
+use crate::cover::first_lacking;
 use interface::is_used;
-use policy::Span;
 use policy::Trees;
-use policy::nodes::span_of;
 use sharing::sum_classes;
-
-// The rows of a kind's tree; none where there is no such tree.
-fn rows_of(trees: Trees, kind: usize) -> Span
-    requires { ⌜ Bounded trees ⌝ }
-    ensures { λ r. ⌜ ((c nodes : List ℕ) (policy : List Tree) → AllHeld c nodes trees 0 policy → (path rows : List ℕ)
-        → rows ≡ giversIn c nodes path (r .from) (r .to - r .from) → Gives c nodes policy kind path rows) ⌝ }
-    ensures few { λ r. ⌜ r .to ≤ 64 ⌝ }
-{
-    let t = tree_for(trees, kind);
-    if trees.len <= t {
-        return Span { from: 0, to: 0 };
-    }
-    span_of(trees, t)
-}
 
 // The number of the first permission of an entry that is not covered, or 67; a kind that is not marked has no entry.
 fn entry_missing(
@@ -57,8 +40,7 @@ fn entry_missing(
     if !is_used(table, component, kind) {
         return 67;
     }
-    let found = covering(c, nodes, rows_of(trees, kind), table, sums, component, kind);
-    found.column
+    first_lacking(entry_covering(c, nodes, trees, table, sums, component, kind))
 }
 
 // The first uncovered permission of a component.

@@ -111,9 +111,12 @@ unfoldable pub listBytes : List Disclosure → List ℕ
 listBytes [] = []
 listBytes (d ∷ ds) = length (d ∷ ds) ∷ gather disclosureBytes (d ∷ ds)
 
+-- an entry up to its map, and what follows
+abbrev pub headThen : Entry → List ℕ → List ℕ
+headThen e rest = e .kind ∷ length (e .component .path) ∷ (e .component .path ++ (mapOf e ∷ rest))
+
 unfoldable pub entryBytes : Entry → List ℕ
-entryBytes e =
-    e .kind ∷ length (e .component .path) ∷ (e .component .path ++ (mapOf e ∷ listBytes (e .disclose)))
+entryBytes e = headThen e (listBytes (e .disclose))
 
 unfoldable pub interfaceBytes : List Entry → List ℕ
 interfaceBytes es = gather entryBytes es

@@ -1,25 +1,25 @@
 -- The numbers of an interface's bytes are bytes: kinds, groups, lengths and maps are small, and counts are stored by their
 -- low and high byte.
-use Prim.Native.Nat.{ℕ, zero, suc, _+_, _/_, _%_, _<_, _≤_}
-use mathlib.Core.Path.{_≡_, refl, sym, ap, ap₂, _∙_}
-use mathlib.Core.List.{List, [], _∷_, _++_, map}
-use mathlib.Core.Bool.{Bool, true, false, cond, not, _&&_}
+use Prim.Native.Nat.{ℕ, suc, _/_, _%_, _<_, _≤_}
+use mathlib.Core.List.{List, [], _∷_}
+use mathlib.Core.Bool.{Bool, true, false, not}
 use native.Mathlib.Omega.{arith}
 use lib.ListN.{length, getD}
 use Rattle.reading.specs.Syntax.{Sheet}
 use Rattle.reading.proofs.TreeLaws.{SheetParts}
-use Rattle.inference.specs.Lists.{only, gather, rising}
+use Rattle.inference.specs.Lists.{gather}
 use Rattle.inference.specs.Counts.{countNumber, isZero}
-use Rattle.inference.specs.Acts.{Act, Component, Located, actsOf, located}
+use Rattle.inference.specs.Acts.{Act, Component, Located, actsOf}
 use Rattle.inference.specs.Needs.{disclosed}
-use Rattle.inference.specs.Interface.{Disclosure, Entry, disclosuresOf, entryOf, isEmpty, holdsAny, entriesOf, interface, bit, mapOf, disclosureBytes, listBytes, entryBytes, interfaceBytes}
-use Rattle.interface.proofs.TableLaws.{FitsRow, Storable, AllStorable, store-none, store-more}
+use Rattle.inference.specs.Interface.{Disclosure, Entry, disclosuresOf, entryOf, isEmpty, holdsAny, entriesOf, interface, bit, mapOf, disclosureBytes, listBytes, headThen, entryBytes, interfaceBytes}
+use Rattle.interface.proofs.Alls.{All, done, also, all-map, all-append, all-chosen}
+use Rattle.interface.proofs.TableLaws.{FitsRow, AllStorable, store-none, store-more}
 use Rattle.interface.proofs.StoreLaws.{sheet-storable}
-use Rattle.interface.proofs.InterfaceLaws.{gather-append}
+use Rattle.interface.proofs.InterfaceLaws.{chosen-few}
 use Rattle.interface.proofs.WriteLaws.{Bytes, no-byte, a-byte, bytes-append}
 
 -- one byte more
-byte-more : (b : ℕ) {bs : List ℕ} → b < 256 → Bytes bs → Bytes (b ∷ bs)
+pub byte-more : (b : ℕ) {bs : List ℕ} → b < 256 → Bytes bs → Bytes (b ∷ bs)
 byte-more b p more = a-byte p more
 
 -- a path that fits a row is bytes
@@ -29,33 +29,29 @@ path-bytes (g ∷ rest) h =
     let first : g < 64 = h 0 (omega arith) in
     byte-more g (omega arith) (path-bytes rest (λ i p. h (suc i) (omega arith)))
 
--- groups of a list are bytes, and there are at most 64
-pub record SmallList (ds : List Disclosure) (n : ℕ) : Type 0 where
-  pub few : length ds ≤ n
-  pub bytes : Bytes (gather disclosureBytes ds)
+-- An entry that can be stored in bytes.
+pub record Small (e : Entry) : Type 0 where
+  pub kind : e .kind < 16
+  pub path : FitsRow (e .component .path)
+  pub few : length (e .disclose) ≤ 64
+  pub groups : All (λ d. d .group < 64) (e .disclose)
 
-item-bytes : (d : Disclosure) → d .group < 64 → {rest : List ℕ} → Bytes rest → Bytes (disclosureBytes d ++ rest)
+-- Its bytes are bytes.
+pub gather-bytes : {A : Type 0} {f : A → List ℕ} {xs : List A} → All (λ x. Bytes (f x)) xs → Bytes (gather f xs)
+unfolding gather
+gather-bytes done = no-byte
+gather-bytes (also b bs) = bytes-append b (gather-bytes bs)
+
+item-bytes : (d : Disclosure) → d .group < 64 → Bytes (disclosureBytes d)
 unfolding disclosureBytes
-item-bytes d h more =
+item-bytes d h =
     byte-more (d .group) (omega arith) (byte-more (countNumber (d .count) % 256) (omega arith)
-    (byte-more (countNumber (d .count) / 256 % 256) (omega arith) more))
+    (byte-more (countNumber (d .count) / 256 % 256) (omega arith) no-byte))
 
-small-cond : (b : Bool) (d : Disclosure) (ds : List Disclosure) (n : ℕ) → d .group < 64 → SmallList ds n → SmallList (cond b (d ∷ ds) ds) (suc n)
-small-cond true d ds n h s = record { few = omega (arith, s .few); bytes = unfold gather in item-bytes d h (s .bytes) }
-small-cond false d ds n h s = record { few = omega (arith, s .few); bytes = s .bytes }
-
-small-list : (p : Disclosure → Bool) (f : ℕ → Disclosure) → ((g : ℕ) → f g .group ≡ g) → (start n : ℕ) → start + n ≤ 64
-    → SmallList (only p (map f (rising start n))) n
-unfolding rising only
-small-list p f e start zero h = record { few = omega arith; bytes = unfold gather in no-byte }
-small-list p f e start (suc n) h =
-    small-cond (p (f start)) (f start) (only p (map f (rising (suc start) n))) n (omega (arith, e start))
-    (small-list p f e (suc start) n (omega arith))
-
-list-bytes : (ds : List Disclosure) → SmallList ds 64 → Bytes (listBytes ds)
+list-bytes : (ds : List Disclosure) → length ds ≤ 64 → All (λ d. d .group < 64) ds → Bytes (listBytes ds)
 unfolding listBytes
-list-bytes [] s = no-byte
-list-bytes (d ∷ ds) s = byte-more (length (d ∷ ds)) (omega (arith, s .few)) (s .bytes)
+list-bytes [] few low = no-byte
+list-bytes (d ∷ ds) few low = byte-more (length (d ∷ ds)) (omega arith) (gather-bytes (all-map item-bytes low))
 
 bit-small : (b : Bool) (v : ℕ) → bit b v ≤ v
 unfolding bit
@@ -66,41 +62,36 @@ map-small : (e : Entry) → mapOf e < 256
 unfolding mapOf
 map-small e = omega (arith, bit-small (e .read) 1, bit-small (e .write) 2, bit-small (e .access) 4, bit-small (not (isEmpty (e .disclose))) 16)
 
-entry-bytes : (e : Entry) → e .kind < 16 → FitsRow (e .component .path) → SmallList (e .disclose) 64 → Bytes (entryBytes e)
+pub head-bytes : (e : Entry) (rest : List ℕ) → Small e → Bytes rest → Bytes (headThen e rest)
+head-bytes e rest s more =
+    byte-more (e .kind) (omega (arith, s .kind)) (byte-more (length (e .component .path)) (omega (arith, s .path .short))
+    (bytes-append (path-bytes (e .component .path) (s .path .groups)) (byte-more (mapOf e) (map-small e) more)))
+
+entry-bytes : (e : Entry) → Small e → Bytes (entryBytes e)
 unfolding entryBytes
-entry-bytes e k p s =
-    byte-more (e .kind) (omega arith) (byte-more (length (e .component .path)) (omega (arith, p .short))
-    (bytes-append (path-bytes (e .component .path) (p .groups)) (byte-more (mapOf e) (map-small e) (list-bytes (e .disclose) s))))
+entry-bytes e s = head-bytes e (listBytes (e .disclose)) s (list-bytes (e .disclose) (s .few) (s .groups))
 
-entry-of-bytes : (c : Component) (acts : List Act) (k : ℕ) → k < 16 → FitsRow (c .path) → Bytes (entryBytes (entryOf c acts k))
-entry-of-bytes c acts k h p =
-    entry-bytes (entryOf c acts k) (unfold entryOf in h) (unfold entryOf in p)
-    (unfold entryOf disclosuresOf in small-list (λ d. not (isZero (d .count))) (λ g. record { group = g; count = disclosed k g acts }) (λ g. refl) 0 64 (omega arith))
+-- The entries of a sheet that was read are small.
+entry-small : (c : Component) (acts : List Act) (k : ℕ) → FitsRow (c .path) → k < 16 → Small (entryOf c acts k)
+unfolding entryOf disclosuresOf
+entry-small c acts k p h = record {
+  kind = h;
+  path = p;
+  few = chosen-few (λ d. not (isZero (d .count))) (λ g. record { group = g; count = disclosed k g acts }) 0 64;
+  groups = all-chosen (λ d. not (isZero (d .count))) (λ g. record { group = g; count = disclosed k g acts }) 0 64 (λ g l. l);
+}
 
-row-bytes : (c : Component) (acts : List Act) → FitsRow (c .path) → (start n : ℕ) → start + n ≤ 16
-    → Bytes (gather entryBytes (only holdsAny (map (entryOf c acts) (rising start n))))
-unfolding rising only gather
-row-bytes c acts p start zero h = no-byte
-row-bytes c acts p start (suc n) h =
-    entry-cond (holdsAny (entryOf c acts start)) (entryOf c acts start) (only holdsAny (map (entryOf c acts) (rising (suc start) n)))
-    (entry-of-bytes c acts start (omega arith) p) (row-bytes c acts p (suc start) n (omega arith))
-  where
-    entry-cond : (b : Bool) (e : Entry) (es : List Entry) → Bytes (entryBytes e) → Bytes (gather entryBytes es) → Bytes (gather entryBytes (cond b (e ∷ es) es))
-    entry-cond true e es h k = bytes-append h k
-    entry-cond false e es h k = k
+all-small : (n : ℕ) {ls : List Located} → AllStorable n ls → All Small (gather entriesOf ls)
+unfolding gather entriesOf
+all-small n store-none = done
+all-small n (store-more {l = l} ok more) =
+    all-append (all-chosen holdsAny (entryOf (l .component) (actsOf l)) 0 16 (λ k h. entry-small (l .component) (actsOf l) k (ok .fits) h)) (all-small (suc n) more)
 
-located-bytes : (l : Located) → FitsRow (l .component .path) → Bytes (gather entryBytes (entriesOf l))
-unfolding entriesOf
-located-bytes l p = row-bytes (l .component) (actsOf l) p 0 16 (omega arith)
-
-all-bytes : (n : ℕ) {ls : List Located} → AllStorable n ls → Bytes (gather entryBytes (gather entriesOf ls))
-unfolding gather
-all-bytes n store-none = no-byte
-all-bytes n (store-more {l = l} {rest = rest} ok more) =
-    rw (gather-append entryBytes (entriesOf l) (gather entriesOf rest))
-    (bytes-append (located-bytes l (ok .fits)) (all-bytes (suc n) more))
+pub interface-small : (s charter : List ℕ) (sheet : Sheet) (k : ℕ) → SheetParts s charter sheet k → All Small (interface sheet)
+unfolding interface
+interface-small s charter sheet k h = all-small 0 (sheet-storable s charter sheet k h)
 
 -- An interface's bytes are bytes.
 pub interface-bytes : (s charter : List ℕ) (sheet : Sheet) (k : ℕ) → SheetParts s charter sheet k → Bytes (interfaceBytes (interface sheet))
-unfolding interfaceBytes interface
-interface-bytes s charter sheet k h = all-bytes 0 (sheet-storable s charter sheet k h)
+unfolding interfaceBytes
+interface-bytes s charter sheet k h = gather-bytes (all-map entry-bytes (interface-small s charter sheet k h))

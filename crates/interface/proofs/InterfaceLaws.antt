@@ -11,7 +11,7 @@ use lib.ListN.{length, take, drop, getD, length-append, length-take}
 use lib.Seq.{drop-cons}
 use Rattle.inference.specs.Lists.{only, gather, rising}
 use Rattle.inference.specs.Counts.{fin, unlimited, isZero, countNumber}
-use Rattle.inference.specs.Interface.{Disclosure, Entry, isEmpty, holdsAny, bit, mapOf, disclosureBytes, listBytes, entryBytes, interfaceBytes}
+use Rattle.inference.specs.Interface.{Disclosure, Entry, isEmpty, holdsAny, bit, mapOf, disclosureBytes, headThen, listBytes, entryBytes, interfaceBytes}
 use Rattle.inference.specs.Rows.{pathAt, cell, countOf, isSet, groupCount, groupAt, disclosuresAt, entryAt, usedKinds, rowEntries, tableEntries}
 use Rattle.interface.specs.Writes.{groupBytes, entryBytesAt}
 use Rattle.interface.proofs.WriteLaws.{partsFrom}
@@ -62,12 +62,21 @@ unfolding rising
 rising-length zero i = refl
 rising-length (suc n) i = ap suc (rising-length n (suc i))
 
+pub chosen-few : {A : Type 0} (q : A → Bool) (f : ℕ → A) (start n : ℕ) → length (only q (map f (rising start n))) ≤ n
+unfolding only rising
+chosen-few q f start zero = omega arith
+chosen-few {A} q f start (suc n) = go (q (f start)) (only q (map f (rising (suc start) n))) (chosen-few q f (suc start) n)
+  where
+    go : (b : Bool) (l : List A) → length l ≤ n → length (cond b (f start ∷ l) l) ≤ suc n
+    go true l h = omega arith
+    go false l h = omega arith
+
 pub parts-few : {A : Type 0} (f : ℕ → List A) (b n : ℕ) → ((j : ℕ) → length (f j) ≤ b) → length (partsFrom f n 0) ≤ b * n
 unfolding partsFrom
 parts-few f b n k =
     let e : length (rising 0 (n - 0)) ≡ n = rising-length (n - 0) 0 ∙ omega arith in rw e at (gather-few f b k (rising 0 (n - 0)))
 
-cond-few : {A : Type 0} (b : Bool) (xs : List A) (n : ℕ) → length xs ≤ n → length (cond b xs []) ≤ n
+pub cond-few : {A : Type 0} (b : Bool) (xs : List A) (n : ℕ) → length xs ≤ n → length (cond b xs []) ≤ n
 cond-few true xs n h = h
 cond-few false xs n h = omega arith
 
@@ -202,9 +211,16 @@ path-few table component =
       length-take 8 (drop (component * 210 + 1) table),
     )
 
+-- An entry up to its map, and what follows.
+pub head-then : (e : Entry) (rest : List ℕ) → headThen e [] ++ rest ≡ headThen e rest
+head-then e rest = ap (λ (l : List ℕ). e .kind ∷ length (e .component .path) ∷ l) (append-assoc (e .component .path) (mapOf e ∷ []) rest)
+
+pub head-length : (e : Entry) (rest : List ℕ) → length (headThen e rest) ≡ 3 + (length (e .component .path) + length rest)
+head-length e rest = omega (arith, length-append (e .component .path) (mapOf e ∷ rest))
+
 pub entry-length : (e : Entry) → length (entryBytes e) ≡ 3 + (length (e .component .path) + length (listBytes (e .disclose)))
 unfolding entryBytes
-entry-length e = omega (arith, length-append (e .component .path) (mapOf e ∷ listBytes (e .disclose)))
+entry-length e = head-length e (listBytes (e .disclose))
 
 module _ (table : List ℕ) (component : ℕ) where
   pub entry-few : (kind : ℕ) → length (entryBytesAt table component kind) ≤ 36
@@ -221,13 +237,18 @@ module _ (table : List ℕ) (component : ℕ) where
         list-few (disclosuresAt table component kind) (disclosures-few table component kind),
       )
 
-  -- A component's entries, kind by kind.
-  pub row-bytes-are : interfaceBytes (rowEntries table component) ≡ partsFrom (entryBytesAt table component) 16 0
-  unfolding interfaceBytes rowEntries partsFrom entryBytesAt
-  row-bytes-are =
-      gather-only entryBytes holdsAny (entryAt table component) (usedKinds table component)
+  -- What a component's entries make together, kind by kind.
+  pub row-parts : {A : Type 0} (f : Entry → List A) → gather f (rowEntries table component)
+      ≡ partsFrom (λ k. cond (isSet (cell table component k 11)) (cond (holdsAny (entryAt table component k)) (f (entryAt table component k)) []) []) 16 0
+  unfolding rowEntries partsFrom
+  row-parts f =
+      gather-only f holdsAny (entryAt table component) (usedKinds table component)
       ∙ unfold usedKinds in gather-chosen (λ k. isSet (cell table component k 11))
-      (λ k. cond (holdsAny (entryAt table component k)) (entryBytes (entryAt table component k)) []) (rising 0 16)
+      (λ k. cond (holdsAny (entryAt table component k)) (f (entryAt table component k)) []) (rising 0 16)
+
+  pub row-bytes-are : interfaceBytes (rowEntries table component) ≡ partsFrom (entryBytesAt table component) 16 0
+  unfolding interfaceBytes entryBytesAt
+  row-bytes-are = row-parts entryBytes
 
   pub row-few : length (interfaceBytes (rowEntries table component)) ≤ 576
   row-few = rw row-bytes-are (parts-few (entryBytesAt table component) 36 16 entry-few)
@@ -236,6 +257,11 @@ module _ (table : List ℕ) (component : ℕ) where
 abbrev pub rowBytesAt : List ℕ → ℕ → List ℕ
 rowBytesAt table component = interfaceBytes (rowEntries table component)
 
+pub table-parts : {A : Type 0} (f : Entry → List A) (table : List ℕ) (n : ℕ)
+    → gather f (tableEntries table n) ≡ partsFrom (λ component. gather f (rowEntries table component)) n 0
+unfolding tableEntries partsFrom
+table-parts f table n = let z : n - 0 ≡ n = omega arith in rw z (gather-gather f (rowEntries table) (rising 0 n))
+
 pub table-bytes-are : (table : List ℕ) (n : ℕ) → interfaceBytes (tableEntries table n) ≡ partsFrom (rowBytesAt table) n 0
-unfolding interfaceBytes tableEntries partsFrom
-table-bytes-are table n = let z : n - 0 ≡ n = omega arith in rw z (gather-gather entryBytes (rowEntries table) (rising 0 n))
+unfolding interfaceBytes
+table-bytes-are table n = table-parts entryBytes table n

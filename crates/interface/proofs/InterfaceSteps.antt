@@ -15,7 +15,7 @@ use lib.Seq.{take-append-seam}
 use Rattle.reading.specs.Told.{pathOf}
 use Rattle.reading.specs.declared.Path.{Path}
 use Rattle.inference.specs.Lists.{gather}
-use Rattle.inference.specs.Interface.{Disclosure, isEmpty, bit, mapOf, disclosureBytes, listBytes, entryBytes, interfaceBytes}
+use Rattle.inference.specs.Interface.{Disclosure, isEmpty, bit, mapOf, disclosureBytes, headThen, listBytes, entryBytes, interfaceBytes}
 use Rattle.inference.specs.Rows.{pathAt, cellOf, cell, isSet, groupCount, groupAt, disclosuresAt, entryAt, rowEntries, tableEntries}
 use Rattle.interface.specs.Writes.{storeBytes, Stored, groupBytes, entryBytesAt}
 use Rattle.reading.proofs.Tables.{unset}
@@ -49,6 +49,7 @@ use Rattle.interface.proofs.InterfaceLaws.{
   map-none,
   map-some,
   path-few,
+  head-then,
   entry-length,
   entry-few,
   row-bytes-are,
@@ -228,6 +229,13 @@ module _ (o : List ℕ) (at : ℕ) where
         → Stored o₁ o₂ m (gather disclosureBytes (disclosuresAt t c k)) r → Stored o o₂ at (listBytes (disclosuresAt t c k)) r
     list-written n e h s u = rw (list-bytes (disclosuresAt t c k) (λ q. h (e ∙ q)), ← e) (stored-more s u)
 
+    -- An entry up to its map.
+    pub head-written : {o₁ o₂ o₃ : List ℕ} {a b r : ℕ} (m : ℕ) → m ≡ mapOf (entryAt t c k)
+        → Stored o o₁ at (k ∷ []) a → Stored o₁ o₂ a (length (pathAt t c) ∷ pathAt t c) b → Stored o₂ o₃ b (m ∷ []) r
+        → Stored o o₃ at (headThen (entryAt t c k) []) r
+    unfolding entryAt
+    head-written m e s v w = rw e at (stored-more s (stored-more v w))
+
     -- An entry.
     module _ (u : Bool) (is : u ≡ isSet (cell t c k 11)) where
       pub unused-unwritten : not u ≡ true → Stored o o at (entryBytesAt t c k) at
@@ -236,11 +244,11 @@ module _ (o : List ℕ) (at : ℕ) where
       pub entry-unwritten : (m : ℕ) → not u ≡ false → m ≡ mapOf (entryAt t c k) → m ≡ 0 → Stored o o at (entryBytesAt t c k) at
       entry-unwritten m i e h = rw (entry-none t c k u is m i e h) (stored-none o at)
 
-      pub entry-written : {o₁ o₂ o₃ o₄ : List ℕ} {a b d r : ℕ} (m : ℕ) → not u ≡ false → m ≡ mapOf (entryAt t c k) → (m ≡ 0 → ⊥)
-          → Stored o o₁ at (k ∷ []) a → Stored o₁ o₂ a (length (pathAt t c) ∷ pathAt t c) b → Stored o₂ o₃ b (m ∷ []) d
-          → Stored o₃ o₄ d (listBytes (disclosuresAt t c k)) r → Stored o o₄ at (entryBytesAt t c k) r
+      pub entry-written : {o₁ o₂ : List ℕ} {a r : ℕ} (m : ℕ) → not u ≡ false → m ≡ mapOf (entryAt t c k) → (m ≡ 0 → ⊥)
+          → Stored o o₁ at (headThen (entryAt t c k) []) a → Stored o₁ o₂ a (listBytes (disclosuresAt t c k)) r → Stored o o₂ at (entryBytesAt t c k) r
       unfolding entryBytes entryAt
-      entry-written m i e h s v w x = rw (entry-some t c k u is m i e h) (rw e at (stored-more s (stored-more v (stored-more w x))))
+      entry-written m i e h s v =
+          rw (entry-some t c k u is m i e h) (rw (head-then (entryAt t c k) (listBytes (disclosuresAt t c k))) at (stored-more s v))
 
   -- A component's entries, and the interface.
   module _ (t : List ℕ) (c : ℕ) where
@@ -297,6 +305,7 @@ pub ruleset interface-steps = (
   list-written,
   unused-unwritten,
   entry-unwritten,
+  head-written,
   entry-written,
   row-written-first,
   row-written,

@@ -6,6 +6,7 @@ pub mod MarkLaws
 pub mod RowLaws
 pub mod TableLaws
 pub mod StoreLaws
+pub mod Alls
 pub mod ByteLaws
 pub mod WriteLaws
 pub mod InterfaceLaws

@@ -3,7 +3,7 @@
 -- 18,432 bytes of interface.
 use Prim.Native.Nat.{ℕ, zero, suc, _+_, _*_, _<_, _≤_}
 use mathlib.Core.Option.{Option, some}
-use mathlib.Core.Path.{_≡_, refl, ap, _∙_}
+use mathlib.Core.Path.{_≡_, refl}
 use mathlib.Core.List.{List, [], _∷_, _++_, map}
 use mathlib.Core.Bool.{Bool, true, false, cond, not, _&&_}
 use native.Mathlib.Omega.{arith}
@@ -26,13 +26,14 @@ use Rattle.needs.specs.declared.Need.{Need}
 use Rattle.needs.specs.declared.Need.the-variants.{Nothing, Read as Reading, Write, Access, Disclose}
 use Rattle.inference.specs.Lists.{only, gather, rising}
 use Rattle.inference.specs.Counts.{Count, _⊕_, repeatedly, isZero}
-use Rattle.inference.specs.Acts.{Act, Component as Owner, componentAt, Located, acts, actsOf, locate, located}
+use Rattle.inference.specs.Acts.{Act, Component as Owner, componentAt, Located, actsOf, locate, located}
 use Rattle.inference.specs.Needs.{needOf, disclosures, weigh, total, disclosed}
 use Rattle.inference.specs.Interface.{Entry, disclosuresOf, entryOf, holdsAny, entriesOf, interface, entryBytes, interfaceBytes}
 use Rattle.inference.proofs.CountLaws.{nothing-join}
-use Rattle.interface.proofs.TableLaws.{AllStorable, store-none, store-more}
-use Rattle.interface.proofs.StoreLaws.{actCount, open-acts, acts-read, located-count, sheet-storable, sheet-components}
-use Rattle.interface.proofs.InterfaceLaws.{gather-append, entry-length, list-most}
+use Rattle.interface.proofs.Alls.{All, done, also}
+use Rattle.interface.proofs.StoreLaws.{actCount, open-acts, acts-read, located-count, sheet-components}
+use Rattle.interface.proofs.InterfaceLaws.{gather-few, chosen-few, entry-length, list-most}
+use Rattle.interface.proofs.ByteLaws.{Small, interface-small}
 
 -- The sum over the numbers from a start on.
 sum : (ℕ → ℕ) → ℕ → ℕ → ℕ
@@ -48,11 +49,6 @@ sum-plus : (v w : ℕ → ℕ) (start n : ℕ) → sum (λ i. v i + w i) start n
 unfolding sum
 sum-plus v w start zero = refl
 sum-plus v w start (suc n) = omega (arith, sum-plus v w (suc start) n)
-
-sum-entries : (v : ℕ → ℕ) (start n : ℕ) → sum (λ i. 12 + 3 * v i) start n ≡ 12 * n + 3 * sum v start n
-unfolding sum
-sum-entries v start zero = refl
-sum-entries v start (suc n) = omega (arith, sum-entries v (suc start) n)
 
 sum-nothing : (start n : ℕ) → sum (λ i. 0) start n ≡ 0
 unfolding sum
@@ -168,43 +164,40 @@ held-few (a ∷ rest) = omega (
   held-few rest,
 )
 
--- An entry, and the entries of a component.
-entry-size : (c : Owner) (l : List Act) (k : ℕ) → length (c .path) ≤ 8 → length (entryBytes (entryOf c l k)) ≤ 12 + 3 * heldOf l k
-unfolding entryOf disclosuresOf
-entry-size c l k h = omega (
-  arith,
-  entry-length (entryOf c l k),
-  list-most (disclosuresOf k l),
-  chosen,
-)
-  where
-    chosen : length (disclosuresOf k l) ≡ heldOf l k
-    chosen = unfold heldOf held in
-        chosen-count (λ d. not (isZero (d .count))) (λ g. record { group = g; count = disclosed k g l }) 0 64
+-- The groups that entries disclose to, together.
+unfoldable pub itemsIn : List Entry → ℕ
+itemsIn [] = 0
+itemsIn (e ∷ es) = length (e .disclose) + itemsIn es
 
-entries-size : (f : ℕ → Entry) (w : ℕ → ℕ) → ((k : ℕ) → length (entryBytes (f k)) ≤ w k) → (start n : ℕ)
-    → length (interfaceBytes (only holdsAny (map f (rising start n)))) ≤ sum w start n
-unfolding sum only rising interfaceBytes gather
-entries-size f w h start zero = omega arith
-entries-size f w h start (suc n) = go (holdsAny (f start)) (only holdsAny (map f (rising (suc start) n)))
-    (entries-size f w h (suc start) n)
-  where
-    go : (b : Bool) (es : List Entry) → length (gather entryBytes es) ≤ sum w (suc start) n
-        → length (gather entryBytes (cond b (f start ∷ es) es)) ≤ w start + sum w (suc start) n
-    go true es e = unfold gather in omega (arith, length-append (entryBytes (f start)) (gather entryBytes es), h start)
-    go false es e = omega arith
+items-append : (xs ys : List Entry) → itemsIn (xs ++ ys) ≡ itemsIn xs + itemsIn ys
+unfolding itemsIn
+items-append [] ys = omega arith
+items-append (e ∷ xs) ys = omega (arith, items-append xs ys)
 
-component-size : (l : Located) → length (l .component .path) ≤ 8 → length (interfaceBytes (entriesOf l)) ≤ 192 + 3 * length (actsOf l)
+items-chosen : (f : ℕ → Entry) (start n : ℕ) → itemsIn (only holdsAny (map f (rising start n))) ≤ sum (λ k. length (f k .disclose)) start n
+unfolding sum only rising itemsIn
+items-chosen f start zero = omega arith
+items-chosen f start (suc n) = go (holdsAny (f start)) (only holdsAny (map f (rising (suc start) n))) (items-chosen f (suc start) n)
+  where
+    go : (b : Bool) (es : List Entry) {m : ℕ} → itemsIn es ≤ m → itemsIn (cond b (f start ∷ es) es) ≤ length (f start .disclose) + m
+    go true es h = omega arith
+    go false es h = omega arith
+
+entry-items : (c : Owner) (l : List Act) (k : ℕ) → length (entryOf c l k .disclose) ≡ heldOf l k
+unfolding entryOf disclosuresOf heldOf held
+entry-items c l k = chosen-count (λ d. not (isZero (d .count))) (λ g. record { group = g; count = disclosed k g l }) 0 64
+
+component-items : (l : Located) → itemsIn (entriesOf l) ≤ length (actsOf l)
 unfolding entriesOf
-component-size l h = omega (
+component-items l = omega (
   arith,
-  entries-size (entryOf (l .component) (actsOf l)) (λ k. 12 + 3 * heldOf (actsOf l) k) (λ k. entry-size (l .component) (actsOf l) k h) 0 16,
-  sum-entries (heldOf (actsOf l)) 0 16,
+  items-chosen (entryOf (l .component) (actsOf l)) 0 16,
+  sum-most (λ k. length (entryOf (l .component) (actsOf l) k .disclose)) (heldOf (actsOf l)) (λ k. omega (arith, entry-items (l .component) (actsOf l) k)) 0 16,
   held-few (actsOf l),
 )
 
 -- The acts of components together.
-actsIn : List Located → ℕ
+unfoldable pub actsIn : List Located → ℕ
 actsIn [] = 0
 actsIn (l ∷ rest) = length (actsOf l) + actsIn rest
 
@@ -213,19 +206,27 @@ unfolding actsIn
 acts-append [] ys = omega arith
 acts-append (x ∷ xs) ys = omega (arith, acts-append xs ys)
 
-bytes-append : (xs ys : List Entry) → length (interfaceBytes (xs ++ ys)) ≡ length (interfaceBytes xs) + length (interfaceBytes ys)
-unfolding interfaceBytes
-bytes-append xs ys = ap length (gather-append entryBytes xs ys) ∙ length-append (gather entryBytes xs) (gather entryBytes ys)
-
-all-size : (n : ℕ) (ls : List Located) → AllStorable n ls → length (interfaceBytes (gather entriesOf ls)) ≤ 192 * length ls + 3 * actsIn ls
+all-items : (ls : List Located) → itemsIn (gather entriesOf ls) ≤ actsIn ls
 unfolding gather actsIn
-all-size n [] store-none = unfold interfaceBytes gather in omega arith
-all-size n (l ∷ rest) (store-more ok more) = omega (
+all-items [] = unfold itemsIn in omega arith
+all-items (l ∷ rest) = omega (arith, items-append (entriesOf l) (gather entriesOf rest), component-items l, all-items rest)
+
+-- Entries by their number and their groups.
+entries-size : {es : List Entry} → All Small es → length (interfaceBytes es) ≤ 12 * length es + 3 * itemsIn es
+unfolding interfaceBytes gather itemsIn
+entries-size done = omega arith
+entries-size (also {x = e} {xs = es} s more) = omega (
   arith,
-  bytes-append (entriesOf l) (gather entriesOf rest),
-  component-size l (ok .fits .short),
-  all-size (suc n) rest more,
+  length-append (entryBytes e) (gather entryBytes es),
+  entry-length e,
+  list-most (e .disclose),
+  s .path .short,
+  entries-size more,
 )
+
+component-entries : (l : Located) → length (entriesOf l) ≤ 16
+unfolding entriesOf
+component-entries l = chosen-few holdsAny (entryOf (l .component) (actsOf l)) 0 16
 
 -- Each act takes at least one byte of the sheet.
 module _ (read : ℕ → List ℕ → ℕ → ℕ → Read System) (process : ℕ → Read Process)
@@ -285,16 +286,30 @@ located-acts (suc n) s names path preceding at scope p k e =
     (omega (arith, place-after (at + 1) (λ b. systemAt b at (suc n) names path preceding) (system-local current at (suc n) names path preceding) s (x .first)))
     (x .rest)
 
--- The interface of a sheet that was read has at most 18,432 bytes.
-pub interface-short : (s charter : List ℕ) (sheet : Sheet) (k : ℕ) → SheetParts s charter sheet k
-    → length (interfaceBytes (interface sheet)) ≤ 18432
-unfolding interface located
-interface-short s charter sheet k h = omega (
-  arith,
-  all-size 0 (locate 0 [] (map some (sheet .free)) (sheet .system)) (sheet-storable s charter sheet k h),
-  located-count 0 [] (map some (sheet .free)) (sheet .system),
-  sheet-components s charter sheet k h,
-  located-acts 64 s (length (sheet .free)) [] 0 (h .start) (map some (sheet .free)) (sheet .system) k (h .body),
-  h .end,
-  h .short,
-)
+-- So a sheet that was read has at most 4,096 acts, its entries disclose together to at most 4,096 groups, and its interface has at most
+-- 18,432 bytes.
+module _ (s charter : List ℕ) (sheet : Sheet) (k : ℕ) (h : SheetParts s charter sheet k) where
+  pub acts-few : actsIn (located sheet) ≤ 4096
+  unfolding located
+  acts-few = omega (
+    arith,
+    located-acts 64 s (length (sheet .free)) [] 0 (h .start) (map some (sheet .free)) (sheet .system) k (h .body),
+    h .end,
+    h .short,
+  )
+
+  pub items-few : itemsIn (interface sheet) ≤ 4096
+  unfolding interface
+  items-few = omega (arith, all-items (located sheet), acts-few)
+
+  entries-few : length (interface sheet) ≤ 512
+  unfolding interface located
+  entries-few = omega (
+    arith,
+    gather-few entriesOf 16 component-entries (located sheet),
+    located-count 0 [] (map some (sheet .free)) (sheet .system),
+    sheet-components s charter sheet k h,
+  )
+
+  pub interface-short : length (interfaceBytes (interface sheet)) ≤ 18432
+  interface-short = omega (arith, entries-size (interface-small s charter sheet k h), entries-few, items-few)

@@ -5,7 +5,7 @@ ghost use Prim.Native.Nat.{_+_, _<_, _≤_, _%_};
 ghost use lib.ListN.{length, set};
 ghost use Rattle.reading.specs.Told.{pathOf};
 ghost use Rattle.inference.specs.Rows.{isSet, cell, pathAt, disclosuresAt, entryAt, rowEntries, tableEntries};
-ghost use Rattle.inference.specs.Interface.{Disclosure, bit as flag, mapOf, disclosureBytes, listBytes, interfaceBytes};
+ghost use Rattle.inference.specs.Interface.{Disclosure, bit as flag, mapOf, disclosureBytes, headThen, listBytes, interfaceBytes};
 ghost use Rattle.inference.specs.Lists.{gather};
 ghost use Rattle.interface.specs.Writes.{Stored, groupBytes, entryBytesAt};
 use inference::rows::cell_at;
@@ -48,7 +48,8 @@ pub fn disclosed_groups(table: &[u16], component: usize, kind: usize) -> usize
     n
 }
 
-fn bit(count: usize, value: usize) -> usize
+// A value where a count is not 0.
+pub fn bit(count: usize, value: usize) -> usize
     ensures { λ r. ⌜ r ≡ flag (isSet count) value ⌝ }
     ensures few { λ r. ⌜ r ≤ value ⌝ }
 {
@@ -222,6 +223,24 @@ fn put_list(
     put_disclosures(table, component, kind, out, next)
 }
 
+// Writes an entry up to its map: kind, path, map.
+pub fn put_head(
+    table: &[u16],
+    component: usize,
+    kind: usize,
+    map: usize,
+    out: &mut [u8],
+    at: usize,
+) -> usize
+    requires { ⌜ (component < 32) × (kind < 16) × (map ≡ mapOf (entryAt (now table) component kind)) × (at < 3500000000) ⌝ }
+    ensures { λ r. ⌜ Stored (now (out .entry)) (now (out .exit)) at (headThen (entryAt (now (table .entry)) component kind) []) r ⌝ }
+    ensures near { λ r. ⌜ r ≤ at + 11 ⌝ }
+{
+    let first = put(out, at, kind);
+    let second = put_path(table, component, out, first);
+    put(out, second, map)
+}
+
 // Writes the entry of a component and a kind, where there is one.
 fn put_entry(table: &[u16], component: usize, kind: usize, out: &mut [u8], at: usize) -> usize
     requires { ⌜ (component < 32) × (kind < 16) × (at < 3000000000) ⌝ }
@@ -235,10 +254,8 @@ fn put_entry(table: &[u16], component: usize, kind: usize, out: &mut [u8], at: u
     if map == 0 {
         return at;
     }
-    let first = put(out, at, kind);
-    let second = put_path(table, component, out, first);
-    let third = put(out, second, map);
-    put_list(table, component, kind, groups, out, third)
+    let next = put_head(table, component, kind, map, out, at);
+    put_list(table, component, kind, groups, out, next)
 }
 
 // Writes the entries of a component.

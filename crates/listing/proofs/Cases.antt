@@ -1,9 +1,14 @@
--- Worked cases: the lines of document 01's example W, of an entry that discloses to two groups, to one of them without limit,
--- and of one with numbers of two and of five digits.
+-- Worked cases: the lines of document 01's example W; of entries whose sums are unlimited on one side, on both sides and on neither; of one
+-- with numbers of two and of five digits; and the line of an entry and its covering.
+use mathlib.Core.Bool.{true, false}
 use mathlib.Core.List.{List, [], _∷_}
 use mathlib.Core.Path.{_≡_, refl}
 use Prim.Native.Nat.{ℕ}
 use Rattle.inference.specs.Lists.{gather}
+use Rattle.inference.specs.Counts.{fin, unlimited, countNumber}
+use Rattle.inference.specs.Interface.{Entry, reading}
+use Rattle.policy.specs.Syntax.{hasBit}
+use Rattle.fit.specs.Satisfies.{flag, counts}
 use Rattle.listing.specs.Text.{
   decimalOf,
   decimal,
@@ -15,9 +20,11 @@ use Rattle.listing.specs.Text.{
   textOf,
   itemsText,
   headText,
-  hasBit,
   flagsText,
   lineText,
+  verdictText,
+  lineOf,
+  numberAt,
   itemAt,
   itemsAt,
   bytesAt,
@@ -29,26 +36,51 @@ use Rattle.listing.specs.Text.{
   itemCount,
   lineAt,
   nextAt,
+  linesIn,
+  placeAfter,
 }
 
--- Two entries, the second from byte 9 on.
+-- Two entries.
 abbrev exampleW : List ℕ
-exampleW = 0 ∷ 2 ∷ 0 ∷ 1 ∷ 16 ∷ 1 ∷ 0 ∷ 1 ∷ 0 ∷ 0 ∷ 2 ∷ 0 ∷ 2 ∷ 5 ∷ []
+exampleW = 0 ∷ 2 ∷ 0 ∷ 1 ∷ 16 ∷ 1 ∷ 0 ∷ 1 ∷ 0 ∷ 1 ∷ 0 ∷ 0 ∷ 2 ∷ 0 ∷ 2 ∷ 5 ∷ []
+
+-- Group 1 within group 0: reads, and discloses to group 0.
+abbrev entry : Entry
+entry = record {
+  component = record { number = 0; path = 0 ∷ 1 ∷ [] };
+  kind = 0;
+  read = true;
+  write = false;
+  access = false;
+  disclose = record { group = 0; count = fin 1 } ∷ [];
+}
 
 pub record Lines : Type 0 where
-  -- "0 0.1 d0:1"
-  pub first : lineAt exampleW 0 ≡ 48 ∷ 32 ∷ 48 ∷ 46 ∷ 49 ∷ 32 ∷ 100 ∷ 48 ∷ 58 ∷ 49 ∷ 10 ∷ []
-  pub after-first : nextAt exampleW 0 ≡ 9
-  -- "0 0.2 r a"
-  pub second : lineAt exampleW 9 ≡ 48 ∷ 32 ∷ 48 ∷ 46 ∷ 50 ∷ 32 ∷ 114 ∷ 32 ∷ 97 ∷ 10 ∷ []
-  pub after-second : nextAt exampleW 9 ≡ 14
-  -- "0 0.1 d0:* d1:1"
-  pub without-limit : lineAt (0 ∷ 2 ∷ 0 ∷ 1 ∷ 16 ∷ 2 ∷ 0 ∷ 255 ∷ 255 ∷ 1 ∷ 1 ∷ 0 ∷ []) 0
-      ≡ 48 ∷ 32 ∷ 48 ∷ 46 ∷ 49 ∷ 32 ∷ 100 ∷ 48 ∷ 58 ∷ 42 ∷ 32 ∷ 100 ∷ 49 ∷ 58 ∷ 49 ∷ 10 ∷ []
-  -- "15 63 w d12:65534"
-  pub long-numbers : lineAt (15 ∷ 1 ∷ 63 ∷ 18 ∷ 1 ∷ 12 ∷ 254 ∷ 255 ∷ []) 0
-      ≡ 49 ∷ 53 ∷ 32 ∷ 54 ∷ 51 ∷ 32 ∷ 119 ∷ 32 ∷ 100 ∷ 49 ∷ 50 ∷ 58 ∷ 54 ∷ 53 ∷ 53 ∷ 51 ∷ 52 ∷ 10 ∷ []
+  -- "0 0.1 d0:1/1" and "0 0.2 r a"
+  pub of-w : linesIn 2 exampleW 0
+      ≡ (48 ∷ 32 ∷ 48 ∷ 46 ∷ 49 ∷ 32 ∷ 100 ∷ 48 ∷ 58 ∷ 49 ∷ 47 ∷ 49 ∷ 10 ∷ [])
+      ∷ (48 ∷ 32 ∷ 48 ∷ 46 ∷ 50 ∷ 32 ∷ 114 ∷ 32 ∷ 97 ∷ 10 ∷ []) ∷ []
+  pub end-of-w : placeAfter 2 exampleW 0 ≡ 16
+  -- "0 0.1 d0:1/*"
+  pub granted-freely : lineAt (0 ∷ 2 ∷ 0 ∷ 1 ∷ 16 ∷ 1 ∷ 0 ∷ 1 ∷ 0 ∷ 255 ∷ 255 ∷ []) 0
+      ≡ 48 ∷ 32 ∷ 48 ∷ 46 ∷ 49 ∷ 32 ∷ 100 ∷ 48 ∷ 58 ∷ 49 ∷ 47 ∷ 42 ∷ 10 ∷ []
+  -- "0 0.1 d0:*/* d1:1/8190"
+  pub two-groups : lineAt (0 ∷ 2 ∷ 0 ∷ 1 ∷ 16 ∷ 2 ∷ 0 ∷ 255 ∷ 255 ∷ 255 ∷ 255 ∷ 1 ∷ 1 ∷ 0 ∷ 254 ∷ 31 ∷ []) 0
+      ≡ 48 ∷ 32 ∷ 48 ∷ 46 ∷ 49 ∷ 32 ∷ 100 ∷ 48 ∷ 58 ∷ 42 ∷ 47 ∷ 42 ∷ 32 ∷ 100 ∷ 49 ∷ 58 ∷ 49 ∷ 47 ∷ 56 ∷ 49 ∷ 57 ∷ 48 ∷ 10 ∷ []
+  -- "15 63 w d12:12345/65534"
+  pub long-numbers : lineAt (15 ∷ 1 ∷ 63 ∷ 18 ∷ 1 ∷ 12 ∷ 57 ∷ 48 ∷ 254 ∷ 255 ∷ []) 0
+      ≡ 49 ∷ 53 ∷ 32 ∷ 54 ∷ 51 ∷ 32 ∷ 119 ∷ 32 ∷ 100 ∷ 49 ∷ 50 ∷ 58 ∷ 49 ∷ 50 ∷ 51 ∷ 52 ∷ 53 ∷ 47 ∷ 54 ∷ 53 ∷ 53 ∷ 51 ∷ 52 ∷ 10 ∷ []
+  -- "0 0.1 r d0:3/*"
+  pub of-an-entry : lineOf entry (flag reading true ∷ counts 0 (fin 3) unlimited ∷ [])
+      ≡ 48 ∷ 32 ∷ 48 ∷ 46 ∷ 49 ∷ 32 ∷ 114 ∷ 32 ∷ 100 ∷ 48 ∷ 58 ∷ 51 ∷ 47 ∷ 42 ∷ 10 ∷ []
 
 pub lines : Lines
-unfolding decimalOf decimal dots pathText flagText countText itemText textOf itemsText headText hasBit flagsText lineText itemAt itemsAt bytesAt pathLen mapIn listPlace itemsIn endOf itemCount lineAt nextAt gather
-lines = record { first = refl; after-first = refl; second = refl; after-second = refl; without-limit = refl; long-numbers = refl }
+unfolding decimalOf decimal dots pathText flagText countText itemText textOf itemsText headText hasBit flagsText lineText verdictText lineOf numberAt itemAt itemsAt bytesAt pathLen mapIn listPlace itemsIn endOf itemCount lineAt nextAt linesIn placeAfter gather countNumber
+lines = record {
+  of-w = refl;
+  end-of-w = refl;
+  granted-freely = refl;
+  two-groups = refl;
+  long-numbers = refl;
+  of-an-entry = refl;
+}

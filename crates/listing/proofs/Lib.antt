@@ -1,4 +1,5 @@
--- The lemmas that the proofs of the functions share, and worked cases.
+-- The lemmas that the proofs of the functions share, the law of a line, and worked cases.
 pub mod TextLaws
 pub mod ListingSteps
+pub mod LineLaws
 pub mod Cases

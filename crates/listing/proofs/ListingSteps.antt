@@ -9,6 +9,7 @@ use lib.ListN.{getD}
 use Rattle.interface.specs.Writes.{Stored}
 use Rattle.reading.proofs.Tables.{unset, unread}
 use Rattle.interface.proofs.InterfaceSteps.{put-is}
+use Rattle.policy.specs.Syntax.{hasBit}
 use Rattle.interface.proofs.WriteLaws.{stored-none, stored-more, Writing, write-first, write-next, write-last}
 use Rattle.listing.specs.Text.{
   decimalOf,
@@ -21,9 +22,9 @@ use Rattle.listing.specs.Text.{
   textOf,
   itemsText,
   headText,
-  hasBit,
   flagsText,
   lineText,
+  numberAt,
   itemAt,
   itemsAt,
   bytesAt,
@@ -110,29 +111,33 @@ module _ (o : List ℕ) (at : ℕ) where
   unfolding countText
   count-written n h s = rw (ne-eqb n 65535 h) s
 
-  pub item-written : {o₁ o₂ o₃ o₄ : List ℕ} {a b d r : ℕ} (g n : ℕ) → Stored o o₁ at (32 ∷ []) a → Stored o₁ o₂ a (100 ∷ []) b
-      → Stored o₂ o₃ b (decimal g) d → Stored o₃ o₄ d (58 ∷ countText n) r → Stored o o₄ at (itemText g n) r
+  pub sums-written : {o₁ o₂ : List ℕ} {d r : ℕ} (n m : ℕ) → Stored o o₁ at (58 ∷ countText n) d → Stored o₁ o₂ d (47 ∷ countText m) r
+      → Stored o o₂ at (58 ∷ (countText n ++ (47 ∷ countText m))) r
+  sums-written n m s u = stored-more s u
+
+  pub item-written : {o₁ o₂ o₃ o₄ : List ℕ} {a b d r : ℕ} (g n m : ℕ) → Stored o o₁ at (32 ∷ []) a → Stored o₁ o₂ a (100 ∷ []) b
+      → Stored o₂ o₃ b (decimal g) d → Stored o₃ o₄ d (58 ∷ (countText n ++ (47 ∷ countText m))) r → Stored o o₄ at (itemText g n m) r
   unfolding itemText
-  item-written g n s u v w = stored-more s (stored-more u (stored-more v w))
+  item-written g n m s u v w = stored-more s (stored-more u (stored-more v w))
 
   module _ (b : List ℕ) where
-    pub item-read : {o₁ : List ℕ} {r : ℕ} (place g x y : ℕ) → g ≡ getD b place 0 → x ≡ getD b (place + 1) 0 → y ≡ getD b (place + 2) 0
-        → Stored o o₁ at (itemText g (x + 256 * y)) r
+    pub item-read : {o₁ : List ℕ} {r : ℕ} (place g n m : ℕ) → g ≡ getD b place 0 → n ≡ numberAt b (place + 1) → m ≡ numberAt b (place + 3)
+        → Stored o o₁ at (itemText g n m) r
         → Stored o o₁ at (textOf (itemAt b place)) r
     unfolding textOf itemAt
-    item-read place g x y e f h s = rw (e, f, h) at s
+    item-read place g n m e f h s = rw (e, f, h) at s
 
     module _ (from n : ℕ) where
-      pub items-first : Writing (itemPart b from) 13 n o at o at 0
-      items-first = write-first (itemPart b from) 13 n o at (part-few b from)
+      pub items-first : Writing (itemPart b from) 19 n o at o at 0
+      items-first = write-first (itemPart b from) 19 n o at (part-few b from)
 
-      pub items-next : {o₁ o₂ : List ℕ} {m r : ℕ} (i : ℕ) → Writing (itemPart b from) 13 n o at o₁ m i → i < n
-          → Stored o₁ o₂ m (textOf (itemAt b (from + 3 * i))) r
-          → Writing (itemPart b from) 13 n o at o₂ r (i + 1)
+      pub items-next : {o₁ o₂ : List ℕ} {m r : ℕ} (i : ℕ) → Writing (itemPart b from) 19 n o at o₁ m i → i < n
+          → Stored o₁ o₂ m (textOf (itemAt b (from + 5 * i))) r
+          → Writing (itemPart b from) 19 n o at o₂ r (i + 1)
       unfolding itemPart
       items-next i w h s = write-next w h s
 
-      pub items-last : {o₁ : List ℕ} {m i : ℕ} → Writing (itemPart b from) 13 n o at o₁ m i → n ≤ i
+      pub items-last : {o₁ : List ℕ} {m i : ℕ} → Writing (itemPart b from) 19 n o at o₁ m i → n ≤ i
           → Stored o o₁ at (itemsText (itemsAt n b from)) m
       items-last w h = rw (items-are b from n) at (write-last w h)
 
@@ -146,6 +151,11 @@ module _ (o : List ℕ) (at : ℕ) where
   pub tail-written : {o₁ o₂ o₃ : List ℕ} {a d r : ℕ} (xs ys : List ℕ) → Stored o o₁ at xs a → Stored o₁ o₂ a ys d
       → Stored o₂ o₃ d (10 ∷ []) r → Stored o o₃ at (xs ++ (ys ++ (10 ∷ []))) r
   tail-written xs ys s u v = stored-more s (stored-more u v)
+
+-- A number of two bytes.
+pub number-is : (b : List ℕ) (at x y : ℕ) → x ≡ getD b at 0 → y ≡ getD b (at + 1) 0 → x + 256 * y ≡ numberAt b at
+unfolding numberAt
+number-is b at x y e f = rw (e, f)
 
 -- The list of an entry.
 module _ (map list : ℕ) where
@@ -161,7 +171,7 @@ module _ (map list : ℕ) where
   unfolding endOf hasBit
   no-list items h = rw (eq-eqb (map / 16 % 2) 0 h)
 
-  pub some-list : (items : ℕ) → (map / 16 % 2 ≡ 0 → ⊥) → list + 1 + 3 * items ≡ endOf (hasBit 16 map) list items
+  pub some-list : (items : ℕ) → (map / 16 % 2 ≡ 0 → ⊥) → list + 1 + 5 * items ≡ endOf (hasBit 16 map) list items
   unfolding endOf hasBit
   some-list items h = rw (ne-eqb (map / 16 % 2) 0 h)
 
@@ -198,6 +208,7 @@ pub ruleset listing-steps = (
   flags-written,
   star-written,
   count-written,
+  sums-written,
   item-written,
   item-read,
   items-first,
@@ -205,6 +216,7 @@ pub ruleset listing-steps = (
   items-last,
   head-written,
   tail-written,
+  number-is,
   no-items,
   some-items,
   no-list,

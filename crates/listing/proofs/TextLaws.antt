@@ -49,29 +49,37 @@ dots-are s from n =
 
 -- An item of a list, and what they make together.
 unfoldable pub itemPart : List ℕ → ℕ → ℕ → List ℕ
-itemPart s from j = textOf (itemAt s (from + 3 * j))
+itemPart s from j = textOf (itemAt s (from + 5 * j))
 
 count-few : (n : ℕ) → length (countText n) ≤ 5
 unfolding countText
 count-few n = few-of (eqb n 65535) 5 (42 ∷ []) (decimal n) (omega arith) (decimal-few n)
 
-item-few : (g n : ℕ) → length (itemText g n) ≤ 13
+item-few : (g n m : ℕ) → length (itemText g n m) ≤ 19
 unfolding itemText
-item-few g n = omega (arith, length-append (decimal g) (58 ∷ countText n), decimal-few g, count-few n)
+item-few g n m =
+    omega (
+      arith,
+      length-append (decimal g) (58 ∷ (countText n ++ (47 ∷ countText m))),
+      length-append (countText n) (47 ∷ countText m),
+      decimal-few g,
+      count-few n,
+      count-few m,
+    )
 
-pub part-few : (s : List ℕ) (from j : ℕ) → length (itemPart s from j) ≤ 13
+pub part-few : (s : List ℕ) (from j : ℕ) → length (itemPart s from j) ≤ 19
 unfolding itemPart textOf
-part-few s from j = item-few _ _
+part-few s from j = item-few _ _ _
 
-items-from : (s : List ℕ) (from n i : ℕ) → gather (itemPart s from) (rising i n) ≡ itemsText (itemsAt n s (from + 3 * i))
+items-from : (s : List ℕ) (from n i : ℕ) → gather (itemPart s from) (rising i n) ≡ itemsText (itemsAt n s (from + 5 * i))
 unfolding gather rising itemsText itemsAt itemPart
 items-from s from zero i = refl
 items-from s from (suc n) i =
-    let z : from + 3 * i + 3 ≡ from + 3 * suc i = omega arith in rw (z, items-from s from n (suc i))
+    let z : from + 5 * i + 5 ≡ from + 5 * suc i = omega arith in rw (z, items-from s from n (suc i))
 
 pub items-are : (s : List ℕ) (from n : ℕ) → partsFrom (itemPart s from) n 0 ≡ itemsText (itemsAt n s from)
 unfolding partsFrom
 items-are s from n =
     let z : n - 0 ≡ n = omega arith in
-    let w : from + 3 * 0 ≡ from = omega arith in
+    let w : from + 5 * 0 ≡ from = omega arith in
     rw (z, items-from s from n 0, w)

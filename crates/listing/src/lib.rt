@@ -1,21 +1,22 @@
-// What the program `list` prints for an entry of an interface: kind, path, then of r, w, a, dG:count those held.
+// What the program `list` prints for an entry that is stored with its slack: kind, path, then of r, w, a, dG:needed/granted those held.
 ghost use mathlib.Core.Path.{_≡_};
 ghost use mathlib.Core.List.{[], _∷_, _++_};
 ghost use Prim.Native.Nat.{_+_, _*_, _<_, _≤_, _%_};
 ghost use lib.ListN.{set, getD};
 ghost use Rattle.interface.specs.Writes.{Stored};
+ghost use Rattle.policy.specs.Syntax.{hasBit};
 ghost use Rattle.listing.specs.Text.{
   decimalOf,
   decimal,
   dots,
   pathText,
   bytesAt,
-  hasBit,
   flagText,
   flagsText,
   countText,
   itemText,
   textOf,
+  numberAt,
   itemAt,
   itemsText,
   itemsAt,
@@ -43,6 +44,14 @@ fn byte(s: &[u8], at: usize) -> usize
     ensures { λ r. ⌜ (r ≡ getD (now (s .entry)) at 0) × (r < 256) ⌝ }
 {
     if at < s.len() { wide(s[at]) } else { 0 }
+}
+
+// The number at a place in two bytes, the low byte first.
+fn number(s: &[u8], at: usize) -> usize
+    requires { ⌜ at < 2100000000 ⌝ }
+    ensures { λ r. ⌜ r ≡ numberAt (now (s .entry)) at ⌝ }
+{
+    byte(s, at) + 256 * byte(s, at + 1)
 }
 
 // Stores a byte, where there is room.
@@ -141,6 +150,7 @@ fn put_flag(map: usize, value: usize, letter: usize, out: &mut [u8], at: usize) 
 fn put_count(count: usize, out: &mut [u8], at: usize) -> usize
     requires { ⌜ at < 900000 ⌝ }
     ensures { λ r. ⌜ Stored (now (out .entry)) (now (out .exit)) at (countText count) r ⌝ }
+    ensures near { λ r. ⌜ r ≤ at + 5 ⌝ }
 {
     if count == 65535 {
         put(out, at, 42)
@@ -149,24 +159,34 @@ fn put_count(count: usize, out: &mut [u8], at: usize) -> usize
     }
 }
 
-// A colon and a count.
-fn put_colon(count: usize, out: &mut [u8], at: usize) -> usize
+// A mark and a count.
+fn put_marked(mark: usize, count: usize, out: &mut [u8], at: usize) -> usize
     requires { ⌜ at < 800000 ⌝ }
-    ensures { λ r. ⌜ Stored (now (out .entry)) (now (out .exit)) at (58 ∷ countText count) r ⌝ }
+    ensures { λ r. ⌜ Stored (now (out .entry)) (now (out .exit)) at (mark ∷ countText count) r ⌝ }
+    ensures near { λ r. ⌜ r ≤ at + 6 ⌝ }
 {
-    let next = put(out, at, 58);
+    let next = put(out, at, mark);
     put_count(count, out, next)
 }
 
-// A space, d, the group, a colon, the count.
-fn put_item(group: usize, count: usize, out: &mut [u8], at: usize) -> usize
+// A colon and what is needed, a slash and what is granted.
+fn put_sums(needed: usize, granted: usize, out: &mut [u8], at: usize) -> usize
+    requires { ⌜ at < 750000 ⌝ }
+    ensures { λ r. ⌜ Stored (now (out .entry)) (now (out .exit)) at (58 ∷ (countText needed ++ (47 ∷ countText granted))) r ⌝ }
+{
+    let next = put_marked(58, needed, out, at);
+    put_marked(47, granted, out, next)
+}
+
+// A space, d, the group, and the two sums.
+fn put_item(group: usize, needed: usize, granted: usize, out: &mut [u8], at: usize) -> usize
     requires { ⌜ at < 700000 ⌝ }
-    ensures { λ r. ⌜ Stored (now (out .entry)) (now (out .exit)) at (itemText group count) r ⌝ }
+    ensures { λ r. ⌜ Stored (now (out .entry)) (now (out .exit)) at (itemText group needed granted) r ⌝ }
 {
     let space = put(out, at, 32);
     let letter = put(out, space, 100);
     let number = put_decimal(out, letter, group);
-    put_colon(count, out, number)
+    put_sums(needed, granted, out, number)
 }
 
 // The item that stands at a place.
@@ -175,21 +195,21 @@ fn put_item_at(s: &[u8], place: usize, out: &mut [u8], at: usize) -> usize
     ensures { λ r. ⌜ Stored (now (out .entry)) (now (out .exit)) at (textOf (itemAt (now (s .entry)) place)) r ⌝ }
 {
     let group = byte(s, place);
-    let low = byte(s, place + 1);
-    let high = byte(s, place + 2);
-    put_item(group, low + 256 * high, out, at)
+    let needed = number(s, place + 1);
+    let granted = number(s, place + 3);
+    put_item(group, needed, granted, out, at)
 }
 
 // The items that stand from a place on.
 fn put_items(s: &[u8], from: usize, count: usize, out: &mut [u8], at: usize) -> usize
     requires { ⌜ (from < 1000000000) × (count < 256) × (at < 100000) ⌝ }
     ensures { λ r. ⌜ Stored (now (out .entry)) (now (out .exit)) at (itemsText (itemsAt count (now (s .entry)) from)) r ⌝ }
-    ensures near { λ r. ⌜ r ≤ at + 13 * count ⌝ }
+    ensures near { λ r. ⌜ r ≤ at + 19 * count ⌝ }
 {
     let mut next = at;
     let mut i: usize = 0;
     while i < count {
-        next = put_item_at(s, from + 3 * i, out, next);
+        next = put_item_at(s, from + 5 * i, out, next);
         i += 1;
     }
     next
@@ -222,7 +242,7 @@ fn after(map: usize, list: usize, items: usize) -> usize
     if map / 16 % 2 == 0 {
         list
     } else {
-        list + 1 + 3 * items
+        list + 1 + 5 * items
     }
 }
 
@@ -249,7 +269,7 @@ fn put_tail(s: &[u8], map: usize, from: usize, items: usize, out: &mut [u8], at:
     put(out, end, 10)
 }
 
-// Composes the line of the entry at a place of an interface, from the first byte of `out` on.
+// Composes the line of the entry that is stored with its slack at a place, from the first byte of `out` on.
 pub fn entry_line(s: &[u8], at: usize, out: &mut [u8]) -> Line
     requires { ⌜ at < 1000000 ⌝ }
     ensures { λ r. ⌜ r .next ≡ nextAt (now (s .entry)) at ⌝ }

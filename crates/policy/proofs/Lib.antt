@@ -4,6 +4,7 @@ pub mod NodeLaws
 pub mod RowLaws
 pub mod SpanSteps
 pub mod ListLaws
+pub mod CountLaws
 pub mod ListSteps
 pub mod OpeningSteps
 pub mod StoreLaws

@@ -8,12 +8,11 @@ use mathlib.Core.List.{List, [], _∷_, _++_, map, List·Memᴰ, List·Memᴰ·h
 use mathlib.Core.Path.{_≡_, refl, sym, ap, _∙_}
 use lib.Dec.{eqb}
 use borrow.Author.Tests.{eqb-true, eqb-false, eq-eqb, le-leb}
-use Rattle.reading.specs.Read.{Read, got, refused}
 use Rattle.reading.proofs.TreeLaws.{sheet-parts}
 use Rattle.needs.specs.declared.Need.{Need}
 use Rattle.needs.specs.declared.Need.the-variants.{Nothing, Read as Reads, Write as Writes, Access as Accesses, Disclose as Discloses}
 use Rattle.needs.proofs.NeedLaws.{NeedRange}
-use Rattle.inference.specs.Lists.{every, any, only, gather, rising}
+use Rattle.inference.specs.Lists.{any, only, gather, rising}
 use Rattle.inference.specs.Counts.{Count, fin, unlimited, _⊕_, atMost, isZero, repeatedly}
 use Rattle.inference.specs.Acts.{Act, Located, located, actsOf, sheetActs}
 use Rattle.inference.specs.Classes.{shares}
@@ -27,82 +26,25 @@ use Rattle.interface.proofs.TableLaws.{NoneTwice, AllStorable, store-none, stor
 use Rattle.interface.proofs.StoreLaws.{sheet-storable}
 use Rattle.policy.specs.Syntax.{Tree}
 use Rattle.fit.specs.Grants.{flagGranted, countGranted}
-use Rattle.fit.specs.Satisfies.{hasTree, pathReached, grantsOne, covered}
+use Rattle.fit.specs.Satisfies.{verdictOf, holds, grantsOne, covered}
+use Rattle.fit.proofs.EntryLaws.{covered-each}
 use Rattle.fit.proofs.ClassGrants.{count-class}
-use Rattle.service.specs.Questions.{Asked, passed, ask, afterReading, typed, satisfied, Accepted, judgedFrom, judged}
-use Rattle.service.proofs.PassedLaws.{ask-yes, ask-rest, formed-rest}
+use Rattle.service.specs.Questions.{passed, Accepted, judged}
+use Rattle.service.proofs.PassedLaws.{Typed, Passed, judged-passed}
 use Rattle.running.specs.Guarantees.{passes, grantsNeed, isFine, actsWhere}
 use Rattle.running.proofs.Alls.{All, done, also, any-member, all-both, all-right, all-head, all-each, all-gather, all-member, all-from, all-every}
 use Rattle.running.proofs.Components.{acts-component}
 use Rattle.running.proofs.ClassCounts.{needed-disclosed, none-disclosed, one-disclosed}
-
-record Typed (all : List Act) : Type 0 where
-  scopes : every inScope all ≡ true
-  channels : every onChannel all ≡ true
-  carries : every carriesObject all ≡ true
-  paths : every inPath all ≡ true
-
-typed-yes : {A : Type 0} (all : List Act) (rest : Asked A) (a : A) → typed all rest ≡ passed a → Typed all
-unfolding typed
-typed-yes all rest a h =
-    let r₈ : ask 8 (every onChannel all) (ask 9 (every carriesObject all) (ask 10 (every inPath all) rest)) ≡ passed a = ask-rest 7 (every inScope all) _ a h in
-    let r₉ : ask 9 (every carriesObject all) (ask 10 (every inPath all) rest) ≡ passed a = ask-rest 8 (every onChannel all) _ a r₈ in
-    let r₁₀ : ask 10 (every inPath all) rest ≡ passed a = ask-rest 9 (every carriesObject all) _ a r₉ in
-    record {
-      scopes = ask-yes 7 (every inScope all) _ a h;
-      channels = ask-yes 8 (every onChannel all) _ a r₈;
-      carries = ask-yes 9 (every carriesObject all) _ a r₉;
-      paths = ask-yes 10 (every inPath all) _ a r₁₀;
-    }
-
-typed-rest : {A : Type 0} (all : List Act) (rest : Asked A) (a : A) → typed all rest ≡ passed a → rest ≡ passed a
-unfolding typed
-typed-rest all rest a h = ask-rest 10 (every inPath all) _ a (ask-rest 9 (every carriesObject all) _ a (ask-rest 8 (every onChannel all) _ a (ask-rest 7 (every inScope all) _ a h)))
-
-module _ {A : Type 0} (policy : List Tree) (required : Required) (rest : Asked A) (a : A) (h : satisfied policy required rest ≡ passed a) where
-  last-asked : ask 18 (every (covered policy required) (required .entries)) rest ≡ passed a
-  unfolding satisfied
-  last-asked = ask-rest 17 (every (pathReached policy) (required .entries)) _ a (ask-rest 16 (every (hasTree policy) (required .entries)) _ a h)
-
-  satisfied-yes : every (covered policy required) (required .entries) ≡ true
-  satisfied-yes = ask-yes 18 (every (covered policy required) (required .entries)) _ a last-asked
-
-  satisfied-rest : rest ≡ passed a
-  satisfied-rest = ask-rest 18 (every (covered policy required) (required .entries)) _ a last-asked
-
-on-reading : {A B : Type 0} (R : Type 0) (r : Read A) (f : A → Asked B) (b : B) → afterReading r f ≡ passed b
-    → ((x : A) (next : ℕ) → r ≡ got x next → f x ≡ passed b → R) → R
-unfolding afterReading
-on-reading R (got x next) f b h go = go x next refl h
-on-reading R (refused q at) f b h go = let z : _≡_ {A = ℕ} 0 1 = cc in absurd (omega arith)
 
 -- Question 6 of what was read.
 storable-once : {n : ℕ} {ls : List Located} → AllStorable n ls → All (λ l. NoneTwice (l .component .path)) ls
 storable-once store-none = done
 storable-once (store-more ok more) = also (ok .fits .once) (storable-once more)
 
--- Questions 6 to 10 and 18 of what is accepted.
-record Passed (a : Accepted) : Type 0 where
-  paths-once : All (λ l. NoneTwice (l .component .path)) (located (a .sheet))
-  acts-typed : Typed (sheetActs (a .sheet))
-  entries-covered : every (covered (a .policy) (requiredOf (a .sheet))) (requiredOf (a .sheet) .entries) ≡ true
-
-passed-as : (a b : Accepted) → passed a ≡ passed b → Passed a → Passed b
-passed-as a b e p = let z : a ≡ b = cc in rw z at p
-
-judged-passed : (s c : List ℕ) (a : Accepted) → judged s c ≡ passed a → Passed a
-unfolding judged judgedFrom
-judged-passed s c a h =
-    on-reading (Passed a) _ _ a h (λ sheet end e k.
-    let t : Typed (sheetActs sheet) = typed-yes (sheetActs sheet) _ a k in
-    on-reading (Passed a) _ _ a (typed-rest (sheetActs sheet) _ a k) (λ policy next f l.
-    let m : satisfied policy (requiredOf sheet) (passed (record { sheet = sheet; policy = policy })) ≡ passed a = formed-rest policy _ a l in
-    passed-as (record { sheet = sheet; policy = policy }) a (satisfied-rest policy (requiredOf sheet) _ a m)
-    (record {
-      paths-once = storable-once (sheet-storable s c sheet end (sheet-parts s c e));
-      acts-typed = t;
-      entries-covered = satisfied-yes policy (requiredOf sheet) _ a m;
-    })))
+paths-once : (s c : List ℕ) (a : Accepted) → judged s c ≡ passed a → All (λ l. NoneTwice (l .component .path)) (located (a .sheet))
+paths-once s c a h =
+    let p : Passed s c a = judged-passed s c a h in
+    storable-once (sheet-storable s c (a .sheet) (p .place) (sheet-parts s c (p .reads)))
 
 passes-all : (a : Act) → inScope a ≡ true → onChannel a ≡ true → carriesObject a ≡ true → inPath a ≡ true → passes a ≡ true
 unfolding passes
@@ -115,7 +57,7 @@ typed-acts (also {x = x} h hs) (also i is) (also j js) (also k ks) = also (passe
 
 pub accepted-typed : (s c : List ℕ) (a : Accepted) → judged s c ≡ passed a → All (λ x. passes x ≡ true) (sheetActs (a .sheet))
 accepted-typed s c a h =
-    let t : Typed (sheetActs (a .sheet)) = judged-passed s c a h .acts-typed in
+    let t : Typed (sheetActs (a .sheet)) = judged-passed s c a h .acts in
     typed-acts (all-every inScope _ (t .scopes)) (all-every onChannel _ (t .channels)) (all-every carriesObject _ (t .carries)) (all-every inPath _ (t .paths))
 
 -- What is kept of a list of numbered things holds of each that is kept.
@@ -164,25 +106,25 @@ zero-at-most unlimited b h = let z : _≡_ {A = ℕ} 0 1 = cc in absurd (omega a
 module _ (policy : List Tree) (required : Required) (l : Located) (cover : All (λ e. covered policy required e ≡ true) (entriesOf l)) where
   granted-at : (k : ℕ) → k < 16 → holdsAny (entryOf (l .component) (actsOf l) k) ≡ true
       → All (λ p. grantsOne policy required (entryOf (l .component) (actsOf l) k) p ≡ true) (permissions (entryOf (l .component) (actsOf l) k))
-  unfolding entriesOf covered
+  unfolding entriesOf
   granted-at k h e =
       all-every (grantsOne policy required (entryOf (l .component) (actsOf l) k)) (permissions (entryOf (l .component) (actsOf l) k))
-      (kept-at holdsAny (entryOf (l .component) (actsOf l)) 0 16 k cover (omega arith) (omega arith) e)
+      (sym (covered-each policy required (entryOf (l .component) (actsOf l) k)) ∙ kept-at holdsAny (entryOf (l .component) (actsOf l)) 0 16 k cover (omega arith) (omega arith) e)
 
   read-granted : (k : ℕ) → k < 16 → any (λ a. isRead k (needOf a)) (actsOf l) ≡ true → flagGranted 1 policy k (l .component) ≡ true
-  unfolding permissions entryOf holdsAny grantsOne
+  unfolding permissions entryOf holdsAny grantsOne verdictOf holds
   read-granted k h e =
       let q : holdsAny (entryOf (l .component) (actsOf l) k) ≡ true = or-first _ _ (or-first _ _ e) in
       first-flag _ reading _ e (granted-at k h q)
 
   write-granted : (k : ℕ) → k < 16 → any (λ a. isWrite k (needOf a)) (actsOf l) ≡ true → flagGranted 2 policy k (l .component) ≡ true
-  unfolding permissions entryOf holdsAny grantsOne
+  unfolding permissions entryOf holdsAny grantsOne verdictOf holds
   write-granted k h e =
       let q : holdsAny (entryOf (l .component) (actsOf l) k) ≡ true = or-first _ _ (or-second (any (λ a. isRead k (needOf a)) (actsOf l)) _ e) in
       first-flag _ writing _ e (all-right (flagged (any (λ a. isRead k (needOf a)) (actsOf l)) reading) _ (granted-at k h q))
 
   access-granted : (k : ℕ) → k < 16 → any (λ a. isAccess k (needOf a)) (actsOf l) ≡ true → flagGranted 4 policy k (l .component) ≡ true
-  unfolding permissions entryOf holdsAny grantsOne
+  unfolding permissions entryOf holdsAny grantsOne verdictOf holds
   access-granted k h e =
       let q : holdsAny (entryOf (l .component) (actsOf l) k) ≡ true
       = or-second (any (λ a. isRead k (needOf a)) (actsOf l) || any (λ a. isWrite k (needOf a)) (actsOf l)) _ (or-first _ _ e) in
@@ -202,7 +144,7 @@ module _ (policy : List Tree) (required : Required) (l : Located) (cover : All (
   -- "each count at most the granted sum", of what its class needs
   class-covered : (k h : ℕ) → k < 16 → h < 64 → isZero (disclosed k h (actsOf l)) ≡ false
       → atMost (neededBy (shares (l .component)) k h (required .entries)) (countGranted h policy k (l .component)) ≡ true
-  unfolding permissions entryOf holdsAny grantsOne disclosuresOf needed
+  unfolding permissions entryOf holdsAny grantsOne verdictOf holds disclosuresOf needed
   class-covered k h i j e =
       let n : isEmpty (disclosuresOf k (actsOf l)) ≡ false = lists-it k h j e (isEmpty (disclosuresOf k (actsOf l))) refl in
       let q : holdsAny (entryOf (l .component) (actsOf l) k) ≡ true
@@ -257,7 +199,7 @@ covers : (s c : List ℕ) (a : Accepted) → judged s c ≡ passed a → (l : Lo
     → All (λ e. covered (a .policy) (requiredOf (a .sheet)) e ≡ true) (entriesOf l)
 unfolding requiredOf interface
 covers s c a h l m =
-    all-member m (all-each entriesOf (located (a .sheet)) (all-every (covered (a .policy) (requiredOf (a .sheet))) (interface (a .sheet)) (judged-passed s c a h .entries-covered)))
+    all-member m (all-each entriesOf (located (a .sheet)) (all-every (covered (a .policy) (requiredOf (a .sheet))) (interface (a .sheet)) (judged-passed s c a h .satisfies .covers)))
 
 -- What the components of a class disclose together is at most what the path of any of them is granted: question 18 was asked at an
 -- entry of each that discloses.
@@ -273,7 +215,7 @@ module _ (s c : List ℕ) (a : Accepted) (accepted : judged s c ≡ passed a) (l
       → atMost together grant ≡ true
   unfolding requiredOf
   asked-at d n t z =
-      let once : All (λ x. NoneTwice (x .component .path)) (located (a .sheet)) = judged-passed s c a accepted .paths-once in
+      let once : All (λ x. NoneTwice (x .component .path)) (located (a .sheet)) = paths-once s c a accepted in
       let same : neededBy (shares (d .component)) k h (interface (a .sheet)) ≡ together
       = sym (needed-class (l .component) (d .component) t k h (interface (a .sheet))) ∙ needed-disclosed (shares (l .component)) k h i j (a .sheet) in
       let g : countGranted h (a .policy) k (d .component) ≡ grant

@@ -9,22 +9,11 @@ use native.Mathlib.Omega.{arith}
 use Rattle.reading.proofs.TotalLaws.{both-left, both-right}
 use Rattle.inference.specs.Lists.{gather, every, any}
 use Rattle.inference.proofs.ClassLaws.{or-first, or-second}
-
-pub data All {A : Type 0} (P : A → Type 0) : List A → Type 0 where
-  done : All P []
-  also : {x : A} {xs : List A} → P x → All P xs → All P (x ∷ xs)
-
-pub all-map : {A : Type 0} {P Q : A → Type 0} {xs : List A} → ((x : A) → P x → Q x) → All P xs → All Q xs
-all-map f done = done
-all-map f (also {x = x} p ps) = also (f x p) (all-map f ps)
+pub use Rattle.interface.proofs.Alls.{All, done, also, all-map, all-append}
 
 pub all-both : {A : Type 0} {P Q R : A → Type 0} {xs : List A} → ((x : A) → P x → Q x → R x) → All P xs → All Q xs → All R xs
 all-both f done done = done
 all-both f (also {x = x} p ps) (also q qs) = also (f x p q) (all-both f ps qs)
-
-pub all-append : {A : Type 0} {P : A → Type 0} {xs ys : List A} → All P xs → All P ys → All P (xs ++ ys)
-all-append done qs = qs
-all-append (also p ps) qs = also p (all-append ps qs)
 
 pub all-left : {A : Type 0} {P : A → Type 0} (xs ys : List A) → All P (xs ++ ys) → All P xs
 all-left [] ys ps = done

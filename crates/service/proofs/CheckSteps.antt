@@ -32,7 +32,7 @@ all-bytes : (bs : List ℕ) → ((i : ℕ) → getD bs i 0 < 256) → Bytes bs
 all-bytes [] h = no-byte
 all-bytes (b ∷ bs) h = a-byte (h 0) (all-bytes bs (λ i. h (suc i)))
 
-each-byte : {bs : List ℕ} → Bytes bs → (i : ℕ) → getD bs i 0 < 256
+pub each-byte : {bs : List ℕ} → Bytes bs → (i : ℕ) → getD bs i 0 < 256
 each-byte no-byte i = omega arith
 each-byte (a-byte p more) zero = p
 each-byte (a-byte p more) (suc i) = each-byte more i

@@ -27,16 +27,16 @@ use Rattle.sharing.proofs.KeyLaws.{componentOf, key-groups, shares-key}
 use Rattle.sharing.proofs.ClassSums.{class-high, same-class, same-key, length-row, row-noted, row-kept, row-off, row-on}
 
 -- A sum of at most so many counts.
-record Small (n sum : ℕ) : Type 0 where
-  low : sum < 4000000 → sum ≤ n * 65535
-  top : sum < 4100000
+pub record Small (n sum : ℕ) : Type 0 where
+  pub low : sum < 4000000 → sum ≤ n * 65535
+  pub top : sum < 4100000
 
-record Joined (n sum count : ℕ) : Type 0 where
-  same : sumCount (added sum count) ≡ sumCount sum ⊕ countOf count
-  small : Small (suc n) (added sum count)
+pub record Joined (n sum count : ℕ) : Type 0 where
+  pub same : sumCount (added sum count) ≡ sumCount sum ⊕ countOf count
+  pub small : Small (suc n) (added sum count)
 
 -- A count joined to such a sum.
-join-small : (n sum count : ℕ) → n < 32 → count < 65536 → Small n sum → Joined n sum count
+pub join-small : (n sum count : ℕ) → n < 32 → count < 65536 → Small n sum → Joined n sum count
 unfolding added sumCount countOf _⊕_
 join-small n sum count few c s = go (ltb count 65535) refl (ltb sum 4000000) refl
   where

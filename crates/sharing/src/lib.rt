@@ -58,7 +58,7 @@ fn put(sums: &mut [u32], at: usize, value: usize)
 }
 
 // A count joined to a sum; 65,535 is an unlimited count.
-fn add(sum: usize, count: usize) -> usize
+pub fn add(sum: usize, count: usize) -> usize
     requires { ⌜ sum < 4294967296 ⌝ }
     ensures { λ r. ⌜ r ≡ added sum count ⌝ }
 {

@@ -15,13 +15,15 @@ use Rattle.service.proofs.FirstLaws.{failed-below}
 use Rattle.service.proofs.RoomLaws.{InRange, check-in-range}
 use Rattle.explaining.specs.Explain.{explained}
 use Rattle.explaining.proofs.ExplainLaws.{SaidInRange, explain-in-range}
+use Rattle.slack.specs.Slack.{slackTold}
+use Rattle.slack.proofs.SlackSizes.{SlackInRange, slack-in-range}
 use Rattle.running.specs.State.{State}
 use Rattle.running.specs.Products.{start}
 use Rattle.running.specs.Moves.{Move, hasRoom}
 use Rattle.running.specs.Script.{movesFrom, asTwentyOne, readScript}
 use Rattle.running.specs.Play.{openedFrom, opened, logged, outcomeOf, played}
 use Rattle.script.proofs.ScriptLaws.{script-moves, script-few}
-use Rattle.velimhaw.specs.Codes.{codeOf, CheckedAs, PlayedAs, ExplainedAs}
+use Rattle.velimhaw.specs.Codes.{codeOf, CheckedAs, PlayedAs, ExplainedAs, ToldAs}
 
 -- A number that tells an answer.
 pub data Tells : Asked ℕ → ℕ → Type 0 where
@@ -59,6 +61,17 @@ pub explain-tells : (sheet charter names line line′ : List ℕ) (r : ℕ) → 
 explain-tells sheet charter names line line′ r x =
     rw (x .answer) (code-tells (explained sheet charter names line .answer)
     (small-explained (explained sheet charter names line .answer) (explain-in-range sheet charter names line)))
+
+small-told : (x : Asked ℕ) → SlackInRange x → Small x
+unfolding Small SlackInRange
+small-told (passed n) h = omega arith
+small-told (failed q) h = omega arith
+
+pub slack-tells : (sheet charter output output′ : List ℕ) (r : ℕ) → ToldAs sheet charter output output′ r
+    → Tells (slackTold sheet charter output .answer) r
+slack-tells sheet charter output output′ r x =
+    rw (x .answer) (code-tells (slackTold sheet charter output .answer)
+    (small-told (slackTold sheet charter output .answer) (slack-in-range sheet charter output)))
 
 -- the only number that a script is refused with
 twenty-one : (x : Read (List Move)) {q at : ℕ} → asTwentyOne x ≡ refused q at → q ≡ 21

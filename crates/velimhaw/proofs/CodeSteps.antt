@@ -13,7 +13,8 @@ use Rattle.running.specs.Play.{played}
 use Rattle.execution.specs.Told.{Played}
 use Rattle.explaining.specs.Explain.{explained}
 use Rattle.explaining.specs.Told.{Explained}
-use Rattle.velimhaw.specs.Codes.{codeOf, CheckedAs, PlayedAs, ExplainedAs}
+use Rattle.slack.specs.Told.{Tells}
+use Rattle.velimhaw.specs.Codes.{codeOf, CheckedAs, PlayedAs, ExplainedAs, ToldAs}
 
 module _ (a : Answer) (n : ℕ) where
   pub accepted-short : a ≡ answer-case.Accepted n → n < 4294967296 → n + 64 ≡ codeOf (told a)
@@ -41,4 +42,7 @@ played-as sheet charter script log log′ a r p e = record { answer = e ∙ ap c
 pub explained-as : (sheet charter names line line′ : List ℕ) (a : Answer) (r : ℕ) → Explained sheet charter names line line′ a → r ≡ codeOf (told a) → ExplainedAs sheet charter names line line′ r
 explained-as sheet charter names line line′ a r x e = record { answer = e ∙ ap codeOf (x .answer); lent = x .lent }
 
-pub ruleset code-steps = (needs, accepted-short, accepted-long, refused-small, refused-large, checked-as, played-as, explained-as)
+pub told-as : (sheet charter output output′ : List ℕ) (a : Answer) (r : ℕ) → Tells sheet charter output output′ a → r ≡ codeOf (told a) → ToldAs sheet charter output output′ r
+told-as sheet charter output output′ a r t e = record { answer = e ∙ ap codeOf (t .answer); lent = t .lent }
+
+pub ruleset code-steps = (needs, accepted-short, accepted-long, refused-small, refused-large, checked-as, played-as, explained-as, told-as)

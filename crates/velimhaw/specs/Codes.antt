@@ -8,6 +8,7 @@ use Rattle.service.specs.Questions.{Asked, passed, failed}
 use Rattle.service.specs.Check.{checked}
 use Rattle.running.specs.Play.{played}
 use Rattle.explaining.specs.Explain.{explained}
+use Rattle.slack.specs.Slack.{slackTold}
 
 unfoldable pub codeOf : Asked ℕ → ℕ
 codeOf (passed n) = cond (ltb n 4294967296) (n + 64) 63
@@ -24,3 +25,7 @@ pub record PlayedAs (sheet charter script log log′ : List ℕ) (r : ℕ) : Typ
 pub record ExplainedAs (sheet charter names line line′ : List ℕ) (r : ℕ) : Type 0 where
   pub answer : r ≡ codeOf (explained sheet charter names line .answer)
   pub lent : line′ ≡ explained sheet charter names line .lent
+
+pub record ToldAs (sheet charter output output′ : List ℕ) (r : ℕ) : Type 0 where
+  pub answer : r ≡ codeOf (slackTold sheet charter output .answer)
+  pub lent : output′ ≡ slackTold sheet charter output .lent

@@ -3,11 +3,12 @@
 // less.
 ghost use mathlib.Core.Path.{_≡_};
 ghost use Rattle.service.specs.Told.{told};
-ghost use Rattle.velimhaw.specs.Codes.{codeOf, CheckedAs, PlayedAs, ExplainedAs};
+ghost use Rattle.velimhaw.specs.Codes.{codeOf, CheckedAs, PlayedAs, ExplainedAs, ToldAs};
 use execution::play;
 use explaining::explain;
 use service::Answer;
 use service::checking::check;
+use slack::slack;
 
 // An answer as one number. No length comes near the bound; one that did would be told as 63, which is no question's number.
 fn code(answer: Answer) -> u64
@@ -47,4 +48,13 @@ pub extern "C" fn velimhaw_explain(
     ensures { λ r. ⌜ ExplainedAs (now (sheet .entry)) (now (charter .entry)) (now (names .entry)) (now (line .entry)) (now (line .exit)) r ⌝ }
 {
     code(explain(sheet, charter, names, line))
+}
+
+// Writes for each entry of a sheet that its charter accepts, and for each group that it discloses to, the granted sum beside the needed
+// one into the output.
+#[no_mangle]
+pub extern "C" fn velimhaw_slack(sheet: &[u8], charter: &[u8], output: &mut [u8]) -> u64
+    ensures { λ r. ⌜ ToldAs (now (sheet .entry)) (now (charter .entry)) (now (output .entry)) (now (output .exit)) r ⌝ }
+{
+    code(slack(sheet, charter, output))
 }

@@ -5,10 +5,10 @@ use Rattle.commands.proofs.print_entries.Statement.{statement}
 use Rattle.commands.proofs.print_entries.Tie as tie
 
 abbrev Inv-loop : tie.InvT-loop
-Inv-loop interface between at₀ turns₀ at turns = turns ≤ 4608
+Inv-loop slack between at₀ turns₀ at turns = turns ≤ 6656
 
 abbrev μ-loop : tie.MeasureT-loop
-μ-loop interface between at₀ turns₀ at turns = turns
+μ-loop slack between at₀ turns₀ at turns = turns
 
 pub print-entries-spec : {M : Type 1} → statement M
 print-entries-spec =

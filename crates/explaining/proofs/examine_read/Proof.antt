@@ -9,7 +9,7 @@ examine-read-spec =
     tie.close
     (tie.spec
     (λ c κs. search needs)
-    (λ c κs. search needs)
+    (λ c κs. search explaining)
     (λ c κs. search explaining)
     (λ c. search needs)
     (λ c. search needs)

@@ -1,4 +1,4 @@
--- An entry: its kind, path, map and list, stored one after the other; nothing where its kind is not marked or its map is 0.
+-- An entry: its head and its list, stored one after the other; nothing where its kind is not marked or its map is 0.
 use Rattle.interface.proofs.InterfaceSteps.{interface-steps}
 use borrow.Author.Needs.{needs}
 use Rattle.interface.proofs.put_entry.Statement.{statement}
@@ -13,8 +13,6 @@ put-entry-spec =
     (λ c κs. search needs)
     (λ c κs. search needs)
     (λ c. search interface-steps)
-    (λ c κs. search needs)
-    (λ c κs. search needs)
     (λ c κs. search needs)
     (λ c κs. search needs)
     (λ c. search needs)

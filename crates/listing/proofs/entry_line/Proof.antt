@@ -1,4 +1,4 @@
--- The line of an entry is its two halves, composed of what stands in the interface; the next entry's place is the end of its list.
+-- The line of an entry is its two halves, composed of what is stored; the next entry's place is the end of its list.
 use Rattle.listing.proofs.ListingSteps.{listing-steps}
 use borrow.Author.Needs.{needs}
 use Rattle.listing.proofs.entry_line.Statement.{statement}

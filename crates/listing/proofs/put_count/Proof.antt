@@ -1,4 +1,4 @@
--- A star for the count 65,535, and any other count's digits.
+-- A star for the count 65,535, and any other count's digits; at most five bytes.
 use Rattle.listing.proofs.ListingSteps.{listing-steps}
 use borrow.Author.Needs.{needs}
 use Rattle.listing.proofs.put_count.Statement.{statement}

@@ -1,4 +1,4 @@
--- An item's parts, stored one after the other: a space, d, the group, and the count after its colon.
+-- An item's parts, stored one after the other: a space, d, the group, and the two sums.
 use Rattle.listing.proofs.ListingSteps.{listing-steps}
 use borrow.Author.Needs.{needs}
 use Rattle.listing.proofs.put_item.Statement.{statement}

@@ -1,4 +1,4 @@
--- An item as it is stored: its group's byte, and the two of its count, the low one first.
+-- An item as it is stored: its group's byte, and two of each sum.
 use Rattle.listing.proofs.ListingSteps.{listing-steps}
 use borrow.Author.Needs.{needs}
 use Rattle.listing.proofs.put_item_at.Statement.{statement}
@@ -13,8 +13,6 @@ put-item-at-spec =
     (λ c κs. search needs)
     (λ c. search needs)
     (λ c κs. search needs)
-    (λ c. search needs)
-    (λ c. search needs)
     (λ c κs. search needs)
     (λ c. search needs)
     (λ c. search listing-steps))

@@ -1,4 +1,4 @@
--- A list's items. Invariant: storing the items left makes of the output now what storing all makes of it at first, at most 13
+-- A list's items. Invariant: storing the items left makes of the output now what storing all makes of it at first, at most 19
 -- bytes an item.
 use Rattle.listing.proofs.ListingSteps.{listing-steps}
 use borrow.Author.Needs.{needs}
@@ -9,7 +9,7 @@ use Rattle.listing.proofs.put_items.Statement.{statement}
 use Rattle.listing.proofs.put_items.Tie as tie
 
 abbrev Inv-loop : tie.InvT-loop
-Inv-loop s from count out₀ at next₀ i₀ out next i = Writing (itemPart s from) 13 count out₀ at out next i
+Inv-loop s from count out₀ at next₀ i₀ out next i = Writing (itemPart s from) 19 count out₀ at out next i
 
 abbrev μ-loop : tie.MeasureT-loop
 μ-loop s from count out₀ at next₀ i₀ out next i = count - i

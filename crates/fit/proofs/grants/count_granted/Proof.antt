@@ -15,7 +15,7 @@ loop-again c = (
   search sum-steps,
   sum-next _ _ _ _ _ _ _ (c .before .before .before .before .loop .inv .1)
       (search sum-steps) (search sum-steps) (search sum-steps) _ (c .before .count-at .ensures .0) (c .before .count-at .ensures .1)
-      _ (c .join .ensures .0) (c .join .ensures .1),
+      _ (c .add .ensures),
 )
 
 pub count-granted-spec : {M : Type 1} → statement M
