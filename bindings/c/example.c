@@ -1,5 +1,5 @@
-/* Checks and plays example W through the static library, and prints the entries of its interface and the records of its log; then
- * explains why another charter refuses it. */
+/* Checks and plays example W through the static library, and prints the entries of its interface, what its charter leaves over and the
+ * records of its log; then explains why another charter refuses it. */
 #include "velimhaw.h"
 #include "w.h"
 #include <inttypes.h>
@@ -22,6 +22,11 @@ static bool show_answer(const char *service, uint64_t answer) {
     return false;
 }
 
+static void show_path(const uint8_t *path, int length) {
+    for (int i = 0; i < length; i++)
+        printf("%c%d", i == 0 ? ' ' : '.', path[i]);
+}
+
 static void show_disclosure(const velimhaw_disclosure *d) {
     if (d->count == VELIMHAW_UNLIMITED)
         printf(", disclose into group %d (unlimited)", d->group);
@@ -31,11 +36,31 @@ static void show_disclosure(const velimhaw_disclosure *d) {
 
 static void show_entry(const velimhaw_entry *e) {
     printf("  kind %d, path", e->kind);
-    for (int i = 0; i < e->path_length; i++)
-        printf("%c%d", i == 0 ? ' ' : '.', e->path[i]);
+    show_path(e->path, e->path_length);
     printf("%s%s%s", e->read ? ", read" : "", e->write ? ", write" : "", e->access ? ", access" : "");
     for (int i = 0; i < e->disclose_length; i++)
         show_disclosure(&e->disclose[i]);
+    printf("\n");
+}
+
+static void show_sum(uint16_t sum) {
+    if (sum == VELIMHAW_UNLIMITED)
+        printf("*");
+    else
+        printf("%d", sum);
+}
+
+/* An entry of the slack form as the program list prints it. */
+static void show_slack_entry(const velimhaw_slack_entry *e) {
+    printf("  %d", e->kind);
+    show_path(e->path, e->path_length);
+    printf("%s%s%s", e->read ? " r" : "", e->write ? " w" : "", e->access ? " a" : "");
+    for (int i = 0; i < e->disclose_length; i++) {
+        printf(" d%d:", e->disclose[i].group);
+        show_sum(e->disclose[i].needed);
+        printf("/");
+        show_sum(e->disclose[i].granted);
+    }
     printf("\n");
 }
 
@@ -76,6 +101,16 @@ static void check_and_show(const char *service, velimhaw_bytes against, velimhaw
         show_entry(&entry);
 }
 
+static void slack_and_show(const char *service, velimhaw_lent output) {
+    uint64_t answer = velimhaw_slack(sheet, charter, output);
+    if (!show_answer(service, answer))
+        return;
+    velimhaw_bytes written = {output.bytes, (size_t)(answer - VELIMHAW_ACCEPTED)};
+    velimhaw_slack_entry entry;
+    while (velimhaw_next_slack(&written, &entry))
+        show_slack_entry(&entry);
+}
+
 /* The sentence for a refusal with 18. It has no zero byte at its end, so its length is given. */
 static void explain_and_show(const char *service, velimhaw_bytes against) {
     char line[VELIMHAW_SENTENCE_MAX];
@@ -98,12 +133,13 @@ static void play_and_show(const char *service, velimhaw_lent log) {
 }
 
 int main(void) {
-    static uint8_t output[VELIMHAW_INTERFACE_MAX];
+    static uint8_t output[VELIMHAW_SLACK_MAX];
     static uint8_t log[VELIMHAW_LOG_MAX];
     velimhaw_lent whole_output = {output, sizeof output};
     velimhaw_lent whole_log = {log, sizeof log};
     velimhaw_lent three_bytes = {output, 3};
     check_and_show("check", charter, whole_output);
+    slack_and_show("slack", whole_output);
     play_and_show("play", whole_log);
     check_and_show("check with 3 bytes of output", charter, three_bytes);
     check_and_show("check against a stricter charter", strict_charter, whole_output);

@@ -1,5 +1,5 @@
-// Checks and plays example W from C++ over the C header: entries and records as vectors, a refusal as an exception; then explains why
-// another charter refuses it.
+// Checks and plays example W from C++ over the C header: entries of its interface and of what its charter leaves over, and records, as
+// vectors, a refusal as an exception; then explains why another charter refuses it.
 #include "velimhaw.h"
 #include "w.h"
 #include <array>
@@ -31,6 +31,15 @@ std::vector<velimhaw_entry> check(velimhaw_bytes charter, velimhaw_lent output) 
     return entries;
 }
 
+std::vector<velimhaw_slack_entry> slack(velimhaw_lent output) {
+    std::size_t length = accepted(velimhaw_slack(bytes(w_sheet), bytes(w_charter), output));
+    velimhaw_bytes rest = {output.bytes, length};
+    std::vector<velimhaw_slack_entry> entries;
+    for (velimhaw_slack_entry entry; velimhaw_next_slack(&rest, &entry);)
+        entries.push_back(entry);
+    return entries;
+}
+
 std::vector<velimhaw_record> play(velimhaw_lent log) {
     std::size_t moves = accepted(velimhaw_play(bytes(w_sheet), bytes(w_charter), bytes(w_script), log));
     velimhaw_bytes rest = {log.bytes, moves * VELIMHAW_RECORD_LENGTH};
@@ -54,6 +63,15 @@ void show(const velimhaw_entry &entry) {
               << int(entry.disclose_length) << " groups\n";
 }
 
+std::string sum(std::uint16_t number) { return number == VELIMHAW_UNLIMITED ? "*" : std::to_string(number); }
+
+void show(const velimhaw_slack_entry &entry) {
+    std::cout << "  kind " << int(entry.kind) << ", component's group " << int(entry.path[entry.path_length - 1]);
+    for (int i = 0; i < entry.disclose_length; i++)
+        std::cout << " d" << int(entry.disclose[i].group) << ':' << sum(entry.disclose[i].needed) << '/' << sum(entry.disclose[i].granted);
+    std::cout << '\n';
+}
+
 void show(const velimhaw_record &record) {
     std::cout << "  refused " << int(record.refused) << ", label " << int(record.label) << ", name " << record.name << '\n';
 }
@@ -61,10 +79,13 @@ void show(const velimhaw_record &record) {
 } // namespace
 
 int main() {
-    std::array<std::uint8_t, VELIMHAW_INTERFACE_MAX> output{};
+    std::array<std::uint8_t, VELIMHAW_SLACK_MAX> output{};
     std::array<std::uint8_t, VELIMHAW_LOG_MAX> log{};
     std::cout << "C++, check:\n";
     for (const velimhaw_entry &entry : check(bytes(w_charter), {output.data(), output.size()}))
+        show(entry);
+    std::cout << "C++, slack:\n";
+    for (const velimhaw_slack_entry &entry : slack({output.data(), output.size()}))
         show(entry);
     std::cout << "C++, play:\n";
     for (const velimhaw_record &record : play({log.data(), log.size()}))

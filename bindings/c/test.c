@@ -1,6 +1,6 @@
-/* Tests velimhaw.h: entries and records taken off whole, truncated and malformed bytes, the lines of the questions, the memory lent to a
- * refused call, a count that components share, and the sentence. All bytes stand right before a page that may not be touched, so a read
- * past their end is a fault. */
+/* Tests velimhaw.h: entries of both forms and records taken off whole, truncated and malformed bytes, the lines of the questions, the
+ * memory lent to a refused call, a count that components share, what a charter leaves over, and the sentence. All bytes stand right before
+ * a page that may not be touched, so a read past their end is a fault. */
 #define _DEFAULT_SOURCE
 #include "velimhaw.h"
 #include "w.h"
@@ -12,13 +12,19 @@
 #include <unistd.h>
 
 static const uint8_t w_interface[] = {0x00, 0x02, 0x00, 0x01, 0x10, 0x01, 0x00, 0x01, 0x00, 0x00, 0x02, 0x00, 0x02, 0x05};
+static const uint8_t w_slack[] = {0x00, 0x02, 0x00, 0x01, 0x10, 0x01, 0x00, 0x01, 0x00, 0x01, 0x00, 0x00, 0x02, 0x00, 0x02, 0x05};
 static const uint8_t w_log[] = {0x00, 0x01, 0x00, 0x00, 0x01, 0x00, 0x00, 0x01, 0x00, 0x05, 0xff, 0xff,
                                 0x02, 0x00, 0xff, 0xff, 0x00, 0x02, 0x01, 0x00, 0x02, 0x00, 0x01, 0xff};
 
 static const velimhaw_bytes sheet_of_w = {w_sheet, sizeof w_sheet};
+static const velimhaw_bytes charter_of_w = {w_charter, sizeof w_charter};
 static const velimhaw_bytes strict_charter = {w_strict_charter, sizeof w_strict_charter};
 static const velimhaw_bytes names_of_w = {(const uint8_t *)w_names, W_NAMES_LENGTH};
 static const char sentence_of_w[] = "Society/Indexers may not disclose to Society: Entries";
+
+/* Two components of one path, each of which discloses a link into group 0. */
+static const uint8_t two_of_one_path[] = {2, 2, 0, 0, 0, 1, 0, 0, 2, 0, 1, 4, 1, 6, 0, 1, 0, 4, 1, 6, 0, 1, 0};
+static const velimhaw_bytes sheet_of_two = {two_of_one_path, sizeof two_of_one_path};
 
 static uint8_t *page_end;
 
@@ -47,6 +53,14 @@ static int count_entries(velimhaw_bytes *bytes) {
     return count;
 }
 
+static int count_slack(velimhaw_bytes *bytes) {
+    velimhaw_slack_entry entry;
+    int count = 0;
+    while (velimhaw_next_slack(bytes, &entry))
+        count++;
+    return count;
+}
+
 static int count_records(velimhaw_bytes *bytes) {
     velimhaw_record record;
     int count = 0;
@@ -65,6 +79,18 @@ static void test_entries_of_w(void) {
     assert(e.kind == 0 && e.path_length == 2 && e.path[0] == 0 && e.path[1] == 2 && e.read && !e.write && e.access);
     assert(e.disclose_length == 0);
     assert(!velimhaw_next_entry(&rest, &e) && rest.length == 0);
+}
+
+static void test_slack_of_w(void) {
+    velimhaw_bytes rest = at_end(w_slack, sizeof w_slack);
+    velimhaw_slack_entry e;
+    assert(velimhaw_next_slack(&rest, &e));
+    assert(e.kind == 0 && e.path_length == 2 && e.path[0] == 0 && e.path[1] == 1 && !e.read && !e.write && !e.access);
+    assert(e.disclose_length == 1 && e.disclose[0].group == 0 && e.disclose[0].needed == 1 && e.disclose[0].granted == 1);
+    assert(velimhaw_next_slack(&rest, &e));
+    assert(e.kind == 0 && e.path_length == 2 && e.path[0] == 0 && e.path[1] == 2 && e.read && !e.write && e.access);
+    assert(e.disclose_length == 0);
+    assert(!velimhaw_next_slack(&rest, &e) && rest.length == 0);
 }
 
 static void test_records_of_w(void) {
@@ -87,6 +113,11 @@ static void test_truncated(void) {
         int whole = (length >= 9) + (length >= 14);
         assert(count_entries(&rest) == whole && rest.length == length - (whole == 2 ? 14 : whole == 1 ? 9 : 0));
     }
+    for (size_t length = 0; length <= sizeof w_slack; length++) {
+        velimhaw_bytes rest = at_end(w_slack, length);
+        int whole = (length >= 11) + (length >= 16);
+        assert(count_slack(&rest) == whole && rest.length == length - (whole == 2 ? 16 : whole == 1 ? 11 : 0));
+    }
     for (size_t length = 0; length <= sizeof w_log; length++) {
         velimhaw_bytes rest = at_end(w_log, length);
         assert(count_records(&rest) == (int)(length / 8) && rest.length == length % 8);
@@ -104,6 +135,18 @@ static void test_malformed_entries(void) {
     }
 }
 
+/* The same of W's slack form, whose granted sum may not be below the needed one. */
+static void test_malformed_slack(void) {
+    static const struct { int at; uint8_t value; } changes[] = {
+        {0, 16}, {1, 0}, {1, 9}, {2, 64}, {3, 255}, {4, 0}, {4, 0x08}, {4, 0x18}, {4, 0x20}, {5, 0}, {5, 65}, {6, 64}, {7, 0}, {7, 2},
+        {8, 0x10}, {9, 0}, {10, 0x80}};
+    for (size_t i = 0; i < sizeof changes / sizeof changes[0]; i++) {
+        velimhaw_bytes rest = at_end(w_slack, sizeof w_slack);
+        page_end[changes[i].at - (int)sizeof w_slack] = changes[i].value;
+        assert(count_slack(&rest) == 0 && rest.length == sizeof w_slack);
+    }
+}
+
 /* Groups of a list rise strictly, and 65,535 is unlimited. */
 static void test_lists(void) {
     static const uint8_t rising[] = {0, 1, 0, 0x10, 2, 3, 0xff, 0x0f, 5, 0xff, 0xff};
@@ -117,6 +160,30 @@ static void test_lists(void) {
     assert(count_entries(&rest) == 0);
     rest = at_end(equal, sizeof equal);
     assert(count_entries(&rest) == 0);
+}
+
+/* The bytes of an entry whose list has one group with these sums. */
+static velimhaw_bytes with_sums(unsigned needed, unsigned granted) {
+    const uint8_t bytes[] = {0, 1, 0, 0x10, 1, 7, (uint8_t)needed, (uint8_t)(needed >> 8), (uint8_t)granted, (uint8_t)(granted >> 8)};
+    return at_end(bytes, sizeof bytes);
+}
+
+/* Sums on both sides of their limits, and what is left over. */
+static void test_sums(void) {
+    static const struct { unsigned needed, granted, left_over; } fine[] = {
+        {1, 1, 0}, {3, 8190, 8187}, {4096, 32760, 28664}, {1, 65535, 65535}, {65535, 65535, 65535}};
+    static const unsigned malformed[][2] = {{0, 1}, {1, 0}, {2, 1}, {4097, 32760}, {1, 32761}, {1, 65534}, {65535, 4095}};
+    velimhaw_slack_entry e;
+    for (size_t i = 0; i < sizeof fine / sizeof fine[0]; i++) {
+        velimhaw_bytes rest = with_sums(fine[i].needed, fine[i].granted);
+        assert(velimhaw_next_slack(&rest, &e) && rest.length == 0 && e.disclose_length == 1 && e.disclose[0].group == 7);
+        assert(e.disclose[0].needed == fine[i].needed && e.disclose[0].granted == fine[i].granted);
+        assert(velimhaw_left_over(&e.disclose[0]) == fine[i].left_over);
+    }
+    for (size_t i = 0; i < sizeof malformed / sizeof malformed[0]; i++) {
+        velimhaw_bytes rest = with_sums(malformed[i][0], malformed[i][1]);
+        assert(!velimhaw_next_slack(&rest, &e) && rest.length == 10);
+    }
 }
 
 static void test_malformed_records(void) {
@@ -161,10 +228,13 @@ static void test_refused_calls(void) {
     uint8_t kept[23], bytes[23];
     memset(kept, 0xaa, sizeof kept);
     memset(bytes, 0xaa, sizeof bytes);
-    velimhaw_lent output = {bytes, 13}, log = {bytes, 23};
-    for (size_t length = 0; length < sizeof w_sheet; length++)
+    velimhaw_lent output = {bytes, 13}, slack = {bytes, 15}, log = {bytes, 23};
+    for (size_t length = 0; length < sizeof w_sheet; length++) {
         assert(velimhaw_check(at_end(w_sheet, length), charter, output) == 2);
+        assert(velimhaw_slack(at_end(w_sheet, length), charter, slack) == 2);
+    }
     assert(velimhaw_check(sheet, charter, output) == 19);
+    assert(velimhaw_slack(sheet, charter, slack) == 19);
     assert(velimhaw_play(sheet, charter, script, log) == 22);
     assert(memcmp(bytes, kept, sizeof kept) == 0);
 }
@@ -191,19 +261,49 @@ static void test_accepted_calls(void) {
     assert(memcmp(log.bytes, w_log, sizeof w_log) == 0);
 }
 
-/* Two components of one path, each of which discloses a link: accepted, each entry with its own count, where the charter's count covers
- * both, and refused with 18 where it is one less. */
+/* Two components of one path: accepted, each entry with its own count, where the charter's count covers both, and refused with 18 where
+ * it is one less. */
 static void test_shared_count(void) {
-    static const uint8_t sheet_bytes[] = {2, 2, 0, 0, 0, 1, 0, 0, 2, 0, 1, 4, 1, 6, 0, 1, 0, 4, 1, 6, 0, 1, 0};
     static const uint8_t both[] = {1, 0, 0, 8, 1, 1, 0x10, 1, 0, 2, 0, 0};
     static const uint8_t one_less[] = {1, 0, 0, 8, 1, 1, 0x10, 1, 0, 1, 0, 0};
     static const uint8_t entries[] = {0, 2, 0, 1, 0x10, 1, 0, 1, 0, 0, 2, 0, 1, 0x10, 1, 0, 1, 0};
-    velimhaw_bytes sheet = {sheet_bytes, sizeof sheet_bytes};
     velimhaw_bytes covering = {both, sizeof both}, strict = {one_less, sizeof one_less};
     velimhaw_lent output = {page_end - sizeof entries, sizeof entries};
-    assert(velimhaw_check(sheet, strict, output) == 18);
-    assert(velimhaw_check(sheet, covering, output) == VELIMHAW_ACCEPTED + sizeof entries);
+    assert(velimhaw_check(sheet_of_two, strict, output) == 18);
+    assert(velimhaw_check(sheet_of_two, covering, output) == VELIMHAW_ACCEPTED + sizeof entries);
     assert(memcmp(output.bytes, entries, sizeof entries) == 0);
+}
+
+/* The slack form of W: in an output of its length right before the page that may not be touched, and in a longer output, which keeps the
+ * bytes past it. */
+static void test_accepted_slack(void) {
+    velimhaw_lent output = {page_end - sizeof w_slack, sizeof w_slack};
+    assert(velimhaw_slack(sheet_of_w, charter_of_w, output) == VELIMHAW_ACCEPTED + sizeof w_slack);
+    assert(memcmp(output.bytes, w_slack, sizeof w_slack) == 0);
+    static uint8_t bytes[VELIMHAW_SLACK_MAX], kept[VELIMHAW_SLACK_MAX];
+    memset(kept, 0xaa, sizeof kept);
+    memset(bytes, 0xaa, sizeof bytes);
+    velimhaw_lent longer = {bytes, sizeof bytes};
+    assert(velimhaw_slack(sheet_of_w, strict_charter, longer) == 18 && memcmp(bytes, kept, sizeof kept) == 0);
+    assert(velimhaw_slack(sheet_of_w, charter_of_w, longer) == VELIMHAW_ACCEPTED + sizeof w_slack);
+    assert(memcmp(bytes, w_slack, sizeof w_slack) == 0 && memcmp(bytes + sizeof w_slack, kept, sizeof kept - sizeof w_slack) == 0);
+}
+
+/* Two components of one path: each entry tells what both need, beside the counts of both groups. */
+static void test_slack_of_a_class(void) {
+    static const uint8_t most[] = {1, 0, 0, 0x10, 1, 0, 0xff, 0x0f, 1, 1, 0x10, 1, 0, 0xff, 0x0f, 0};
+    static const uint8_t unlimited[] = {1, 0, 0, 0x10, 1, 0, 0xff, 0xff, 1, 1, 0x10, 1, 0, 0xff, 0x0f, 0};
+    static const uint8_t of_most[] = {0, 2, 0, 1, 0x10, 1, 0, 2, 0, 0xfe, 0x1f, 0, 2, 0, 1, 0x10, 1, 0, 2, 0, 0xfe, 0x1f};
+    velimhaw_bytes finite = {most, sizeof most}, infinite = {unlimited, sizeof unlimited};
+    velimhaw_lent output = {page_end - sizeof of_most, sizeof of_most};
+    assert(velimhaw_slack(sheet_of_two, finite, output) == VELIMHAW_ACCEPTED + sizeof of_most);
+    assert(memcmp(output.bytes, of_most, sizeof of_most) == 0);
+    assert(velimhaw_slack(sheet_of_two, infinite, output) == VELIMHAW_ACCEPTED + sizeof of_most);
+    velimhaw_bytes rest = {output.bytes, output.length};
+    velimhaw_slack_entry e;
+    while (velimhaw_next_slack(&rest, &e))
+        assert(e.disclose[0].needed == 2 && e.disclose[0].granted == VELIMHAW_UNLIMITED);
+    assert(rest.length == 0);
 }
 
 /* The sentence of W under a stricter charter: in a line of its length right before the page that may not be touched, and in a longer
@@ -282,10 +382,13 @@ static void test_longest_sentence(void) {
 int main(void) {
     map_pages();
     test_entries_of_w();
+    test_slack_of_w();
     test_records_of_w();
     test_truncated();
     test_malformed_entries();
+    test_malformed_slack();
     test_lists();
+    test_sums();
     test_malformed_records();
     test_refused_record();
     test_questions();
@@ -293,6 +396,8 @@ int main(void) {
     test_shared_inputs();
     test_accepted_calls();
     test_shared_count();
+    test_accepted_slack();
+    test_slack_of_a_class();
     test_sentence_of_w();
     test_no_sentence();
     test_broken_names();

@@ -1,10 +1,10 @@
-/* Velimhaw's three services for C and C++: check a sheet against a charter, explain a refusal with 18, play a script on an accepted
- * sheet; and what takes the bytes they write apart. Link target/staticlib/libvelimhaw.a, which `rt staticlib velimhaw` writes (x86-64
- * Linux).
+/* Velimhaw's four services for C and C++: check a sheet against a charter, tell how much the charter leaves over, explain a refusal with
+ * 18, play a script on an accepted sheet; and what takes the bytes they write apart. Link target/staticlib/libvelimhaw.a, which
+ * `rt staticlib velimhaw` writes (x86-64 Linux).
  *
  * An answer is one number. Below VELIMHAW_ACCEPTED it is the number of the first question that fails (docs/REFERENCE.md, question N;
  * velimhaw_question gives its line), and the output, line or log keeps its bytes. From VELIMHAW_ACCEPTED on the call was accepted: the
- * answer less VELIMHAW_ACCEPTED is the length written (check, explain) or the number of moves (play), and the bytes past what was
+ * answer less VELIMHAW_ACCEPTED is the length written (check, slack, explain) or the number of moves (play), and the bytes past what was
  * written keep theirs.
  *
  * Memory lent to a call:
@@ -31,6 +31,7 @@ extern "C" {
 #define VELIMHAW_SCRIPT_MAX 7168u     /* 1,024 moves of seven bytes, the longest */
 #define VELIMHAW_NAMES_FILE_MAX 1680u /* 80 names of 20 letters, each with the byte that ends it */
 #define VELIMHAW_INTERFACE_MAX 18432u /* with so much output check never refuses with 19 */
+#define VELIMHAW_SLACK_MAX 26624u     /* with so much output slack never refuses with 19 */
 #define VELIMHAW_SENTENCE_MAX 230u    /* with so long a line explain never refuses with 19 */
 #define VELIMHAW_RECORD_LENGTH 8u
 #define VELIMHAW_LOG_MAX 8192u        /* with so much log play never refuses with 22 */
@@ -43,9 +44,11 @@ extern "C" {
 #define VELIMHAW_COMPONENTS_MAX 32u
 #define VELIMHAW_NAMES_MAX 1024u
 #define VELIMHAW_COUNT_MAX 4095u
+#define VELIMHAW_NEEDED_MAX 4096u
+#define VELIMHAW_GRANTED_MAX 32760u /* a count for each group of a path */
 
 /* Values that are no number of their field. */
-#define VELIMHAW_UNLIMITED 65535u   /* a count */
+#define VELIMHAW_UNLIMITED 65535u   /* a count or a sum */
 #define VELIMHAW_NO_NAME 65535u     /* a channel or name that a record does not have */
 #define VELIMHAW_NO_COMPONENT 255u  /* a component that a record does not have */
 
@@ -61,6 +64,10 @@ typedef struct {
 
 /* Checks a sheet against a charter, and writes the interface, the permissions that the sheet needs, into the output. */
 uint64_t velimhaw_check(velimhaw_bytes sheet, velimhaw_bytes charter, velimhaw_lent output);
+
+/* Checks a sheet against a charter as check does, and writes the slack form, what the sheet needs beside what the charter grants, into
+ * the output. */
+uint64_t velimhaw_slack(velimhaw_bytes sheet, velimhaw_bytes charter, velimhaw_lent output);
 
 /* Says in words why a sheet is refused with 18, and writes that sentence into the line: the first permission that the charter does not
  * cover, entries in order, and within one read, write, access, then disclose by rising group. As in
@@ -126,54 +133,110 @@ static inline bool velimhaw_take_word(velimhaw_bytes *rest, uint16_t *word) {
     return true;
 }
 
-static inline bool velimhaw_take_path(velimhaw_bytes *rest, velimhaw_entry *entry) {
-    if (!velimhaw_take_byte(rest, 1, VELIMHAW_PATH_MAX, &entry->path_length))
+/* Takes a count or a sum off, if it is from least to most or unlimited. */
+static inline bool velimhaw_take_count(velimhaw_bytes *rest, unsigned least, unsigned most, uint16_t *count) {
+    return velimhaw_take_word(rest, count) && ((*count >= least && *count <= most) || *count == VELIMHAW_UNLIMITED);
+}
+
+static inline bool velimhaw_take_path(velimhaw_bytes *rest, uint8_t *path, uint8_t *length) {
+    if (!velimhaw_take_byte(rest, 1, VELIMHAW_PATH_MAX, length))
         return false;
-    for (unsigned i = 0; i < entry->path_length; i++)
-        if (!velimhaw_take_byte(rest, 0, VELIMHAW_GROUPS - 1, &entry->path[i]))
+    for (unsigned i = 0; i < *length; i++)
+        if (!velimhaw_take_byte(rest, 0, VELIMHAW_GROUPS - 1, &path[i]))
             return false;
     return true;
 }
 
-/* Takes a group and its count off; the group is at least the one given. */
-static inline bool velimhaw_take_disclosure(velimhaw_bytes *rest, unsigned least, velimhaw_disclosure *taken) {
-    if (!velimhaw_take_byte(rest, least, VELIMHAW_GROUPS - 1, &taken->group) || !velimhaw_take_word(rest, &taken->count))
+/* Takes a permission map off, of whose bits at least one of 0, 1, 2 and 4 stands, and no other; and, if bit 4 stands, how many groups its
+ * list has. */
+static inline bool velimhaw_take_map(velimhaw_bytes *rest, uint8_t *map, uint8_t *list_length) {
+    *list_length = 0;
+    if (!velimhaw_take_byte(rest, 1, 0x17, map) || (*map & 0x08) != 0)
         return false;
-    return (taken->count >= 1 && taken->count <= VELIMHAW_COUNT_MAX) || taken->count == VELIMHAW_UNLIMITED;
+    return (*map & 0x10) == 0 || velimhaw_take_byte(rest, 1, VELIMHAW_GROUPS, list_length);
 }
 
-static inline bool velimhaw_take_disclosures(velimhaw_bytes *rest, velimhaw_entry *entry) {
+/* Takes the groups of an interface's list off, each with its count. */
+static inline bool velimhaw_take_disclosures(velimhaw_bytes *rest, velimhaw_disclosure *list, unsigned length) {
     unsigned least = 0;
-    if (!velimhaw_take_byte(rest, 1, VELIMHAW_GROUPS, &entry->disclose_length))
-        return false;
-    for (unsigned i = 0; i < entry->disclose_length; i++) {
-        if (!velimhaw_take_disclosure(rest, least, &entry->disclose[i]))
+    for (unsigned i = 0; i < length; i++) {
+        if (!velimhaw_take_byte(rest, least, VELIMHAW_GROUPS - 1, &list[i].group) ||
+            !velimhaw_take_count(rest, 1, VELIMHAW_COUNT_MAX, &list[i].count))
             return false;
-        least = entry->disclose[i].group + 1u;
+        least = list[i].group + 1u;
     }
     return true;
-}
-
-/* Takes a permission map off, and its list. At least one of the bits 0, 1, 2 and 4 stands, and no other. */
-static inline bool velimhaw_take_permissions(velimhaw_bytes *rest, velimhaw_entry *entry) {
-    uint8_t map;
-    if (!velimhaw_take_byte(rest, 1, 0x17, &map) || (map & 0x08) != 0)
-        return false;
-    entry->read = (map & 0x01) != 0;
-    entry->write = (map & 0x02) != 0;
-    entry->access = (map & 0x04) != 0;
-    entry->disclose_length = 0;
-    return (map & 0x10) == 0 || velimhaw_take_disclosures(rest, entry);
 }
 
 /* Takes the next entry off the bytes of an interface. False if none is left, or if the bytes do not begin with a whole entry, each
  * field in its range; the bytes then stay as they were (a length of 0 tells the end), and what the entry holds means nothing. */
 static inline bool velimhaw_next_entry(velimhaw_bytes *interface_bytes, velimhaw_entry *entry) {
     velimhaw_bytes rest = *interface_bytes;
-    if (!velimhaw_take_byte(&rest, 0, VELIMHAW_KINDS - 1, &entry->kind) || !velimhaw_take_path(&rest, entry) ||
-        !velimhaw_take_permissions(&rest, entry))
+    uint8_t map;
+    if (!velimhaw_take_byte(&rest, 0, VELIMHAW_KINDS - 1, &entry->kind) ||
+        !velimhaw_take_path(&rest, entry->path, &entry->path_length) || !velimhaw_take_map(&rest, &map, &entry->disclose_length) ||
+        !velimhaw_take_disclosures(&rest, entry->disclose, entry->disclose_length))
         return false;
+    entry->read = (map & 0x01) != 0;
+    entry->write = (map & 0x02) != 0;
+    entry->access = (map & 0x04) != 0;
     *interface_bytes = rest;
+    return true;
+}
+
+/* ---- The slack form: the entries of the interface, with what the charter grants beside what is needed. ----
+ *
+ * Bytes of an entry: as in the interface, but that each group of the list has two sums of two bytes, low byte first: the needed one, then
+ * the granted one. */
+
+/* Links that are disclosed into a group, and those that may be. VELIMHAW_UNLIMITED may stand for either; granted is at least needed. */
+typedef struct {
+    uint8_t group;
+    uint16_t needed;  /* by all components whose paths have the same groups: 1 to VELIMHAW_NEEDED_MAX */
+    uint16_t granted; /* to the groups of that path together: 1 to VELIMHAW_GRANTED_MAX */
+} velimhaw_sums;
+
+typedef struct {
+    uint8_t kind;
+    uint8_t path_length; /* 1 to VELIMHAW_PATH_MAX */
+    uint8_t path[VELIMHAW_PATH_MAX];
+    bool read;
+    bool write;
+    bool access;
+    uint8_t disclose_length; /* 0 to VELIMHAW_GROUPS */
+    velimhaw_sums disclose[VELIMHAW_GROUPS];
+} velimhaw_slack_entry;
+
+/* How much less the charter could grant: granted less needed, VELIMHAW_UNLIMITED where granted is unlimited. */
+static inline uint16_t velimhaw_left_over(const velimhaw_sums *sums) {
+    return sums->granted == VELIMHAW_UNLIMITED ? sums->granted : (uint16_t)(sums->granted - sums->needed);
+}
+
+/* Takes the groups of a slack form's list off, each with its sums. */
+static inline bool velimhaw_take_sums(velimhaw_bytes *rest, velimhaw_sums *list, unsigned length) {
+    unsigned least = 0;
+    for (unsigned i = 0; i < length; i++) {
+        if (!velimhaw_take_byte(rest, least, VELIMHAW_GROUPS - 1, &list[i].group) ||
+            !velimhaw_take_count(rest, 1, VELIMHAW_NEEDED_MAX, &list[i].needed) ||
+            !velimhaw_take_count(rest, list[i].needed, VELIMHAW_GRANTED_MAX, &list[i].granted))
+            return false;
+        least = list[i].group + 1u;
+    }
+    return true;
+}
+
+/* Takes the next entry off the bytes of a slack form, as velimhaw_next_entry does off those of an interface. */
+static inline bool velimhaw_next_slack(velimhaw_bytes *slack_bytes, velimhaw_slack_entry *entry) {
+    velimhaw_bytes rest = *slack_bytes;
+    uint8_t map;
+    if (!velimhaw_take_byte(&rest, 0, VELIMHAW_KINDS - 1, &entry->kind) ||
+        !velimhaw_take_path(&rest, entry->path, &entry->path_length) || !velimhaw_take_map(&rest, &map, &entry->disclose_length) ||
+        !velimhaw_take_sums(&rest, entry->disclose, entry->disclose_length))
+        return false;
+    entry->read = (map & 0x01) != 0;
+    entry->write = (map & 0x02) != 0;
+    entry->access = (map & 0x04) != 0;
+    *slack_bytes = rest;
     return true;
 }
 
@@ -264,7 +327,7 @@ static inline const char *velimhaw_question(uint64_t number) {
     case 16: return "a tree of the charter for each entry's kind";
     case 17: return "each group of each entry's path at a node that the path reaches";
     case 18: return "each entry covered by what the charter grants its path, counts added over the components with the same groups";
-    case 19: return "an output long enough for the interface, or a line for the sentence";
+    case 19: return "an output long enough for the interface or the slack, or a line for the sentence";
     case 20: return "a start of at most 64 threads and 1,024 names";
     case 21: return "a script of at most 1,024 whole moves, each field in its range";
     case 22: return "a log of at least 8 bytes a move";

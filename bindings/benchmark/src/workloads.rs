@@ -1,4 +1,4 @@
-//! The workloads of the benchmark: a call of `check` or `play` on given inputs, of either side.
+//! The workloads of the benchmark: a call of `check`, `slack` or `play` on given inputs, of either side.
 
 use crate::{inputs, shared};
 use std::hint::black_box;
@@ -7,21 +7,28 @@ pub struct Workload {
     pub name: String,
     sheet: Vec<u8>,
     charter: Vec<u8>,
-    /// The script of a `play`; a `check` has none.
-    script: Option<Vec<u8>>,
+    service: Service,
 }
 
-/// Memory to lend to a call: room for any interface and any log of these workloads.
+/// What is called; `play` with its script.
+enum Service {
+    Check,
+    Slack,
+    Play(Vec<u8>),
+}
+
+/// Memory to lend to a call: room for any interface, any slack form and any log.
 pub fn lent() -> Vec<u8> {
-    vec![0; 8192]
+    vec![0; velimhaw::SLACK_MAX]
 }
 
 pub fn all() -> Vec<Workload> {
-    let mut all = vec![
-        check("check, W", inputs::W_SHEET.to_vec(), inputs::W_CHARTER.to_vec()),
-        check("check, typical: 12 components, 300 bytes", inputs::sheet(300, 12, 3), inputs::charter(3)),
-        check("check, largest: 4,096 bytes, 64 nodes", inputs::sheet(4096, 32, 16), inputs::charter(16)),
-    ];
+    let mut all = Vec::new();
+    for (service, call) in [("check", check as Call), ("slack", slack)] {
+        all.push(call(&format!("{service}, W"), inputs::W_SHEET.to_vec(), inputs::W_CHARTER.to_vec()));
+        all.push(call(&format!("{service}, typical: 12 components, 300 bytes"), inputs::sheet(300, 12, 3), inputs::charter(3)));
+        all.push(call(&format!("{service}, largest: 4,096 bytes, 64 nodes"), inputs::sheet(4096, 32, 16), inputs::charter(16)));
+    }
     for (size, components) in [(256, 2), (1024, 8), (4096, 32)] {
         all.push(check(&format!("check, growth: {size} bytes"), inputs::sheet(size, components, 4), inputs::charter(4)));
     }
@@ -43,23 +50,32 @@ pub fn all() -> Vec<Workload> {
     all
 }
 
+/// Makes a workload of a name, a sheet and a charter.
+type Call = fn(&str, Vec<u8>, Vec<u8>) -> Workload;
+
 fn check(name: &str, sheet: Vec<u8>, charter: Vec<u8>) -> Workload {
-    Workload { name: name.to_string(), sheet, charter, script: None }
+    Workload { name: name.to_string(), sheet, charter, service: Service::Check }
+}
+
+fn slack(name: &str, sheet: Vec<u8>, charter: Vec<u8>) -> Workload {
+    Workload { service: Service::Slack, ..check(name, sheet, charter) }
 }
 
 fn play(name: &str, sheet: Vec<u8>, script: Vec<u8>) -> Workload {
-    Workload { name: name.to_string(), sheet, charter: inputs::RUNNING_CHARTER.to_vec(), script: Some(script) }
+    Workload { service: Service::Play(script), ..check(name, sheet, inputs::RUNNING_CHARTER.to_vec()) }
 }
 
 impl Workload {
     /// One call of a side: 0 is the independent implementation, 1 the proved library. The number that it accepts with.
     pub fn call(&self, side: usize, lent: &mut [u8]) -> usize {
         let (sheet, charter) = (black_box(&self.sheet[..]), black_box(&self.charter[..]));
-        let answer = match (side, &self.script) {
-            (0, None) => independent::check(sheet, charter, lent),
-            (0, Some(script)) => independent::play(sheet, charter, script, lent),
-            (_, None) => told(velimhaw::check(sheet, charter, lent)),
-            (_, Some(script)) => told(velimhaw::play(sheet, charter, script, lent)),
+        let answer = match (side, &self.service) {
+            (0, Service::Check) => independent::check(sheet, charter, lent),
+            (0, Service::Slack) => independent::slack(sheet, charter, lent),
+            (0, Service::Play(script)) => independent::play(sheet, charter, script, lent),
+            (_, Service::Check) => told(velimhaw::check(sheet, charter, lent)),
+            (_, Service::Slack) => told(velimhaw::slack(sheet, charter, lent)),
+            (_, Service::Play(script)) => told(velimhaw::play(sheet, charter, script, lent)),
         };
         black_box(answer).unwrap_or_else(|n| panic!("{}: refused {n}", self.name))
     }
@@ -70,7 +86,7 @@ impl Workload {
         let number = self.call(0, &mut left);
         assert_eq!(self.call(1, &mut right), number, "{}", self.name);
         assert!(left == right, "{}: what they write differs", self.name);
-        if self.script.is_some() {
+        if let Service::Play(_) = self.service {
             assert!(left[..8 * number].chunks(8).all(|record| record[0] == 0), "{}: a move is refused", self.name);
         }
     }

@@ -3,8 +3,10 @@
 use crate::subject::Subject;
 use independent::demand3::Watch;
 use independent::running::State;
+use independent::text;
+use velimhaw::{SlackEntries, SLACK_MAX};
 
-/// The inputs of one case; `output`, `line` and `log` are the lengths of the lent memory.
+/// The inputs of one case; `output`, `line` and `log` are the lengths of the lent memory, and `trim` chooses a count of the charter.
 #[derive(Clone)]
 pub struct Case {
     pub sheet: Vec<u8>,
@@ -15,6 +17,7 @@ pub struct Case {
     pub line: usize,
     pub log: usize,
     pub pattern: u8,
+    pub trim: usize,
 }
 
 /// A call's answer and the memory afterwards, with the margins around what was lent.
@@ -29,6 +32,11 @@ const MARGIN: usize = 24;
 impl Case {
     pub fn check(&self, subject: &dyn Subject) -> Outcome {
         self.lend(self.output, |output| subject.check(&self.sheet, &self.charter, output))
+    }
+
+    /// The service slack with an output of so many bytes.
+    pub fn slack(&self, subject: &dyn Subject, output: usize) -> Outcome {
+        self.lend(output, |output| subject.slack(&self.sheet, &self.charter, output))
     }
 
     pub fn explain(&self, subject: &dyn Subject) -> Outcome {
@@ -55,6 +63,22 @@ impl Case {
         self.compare("check", 1, &self.check(left), &self.check(right))
             .or_else(|| self.compare("explain", 1, &self.explain(left), &self.explain(right)))
             .or_else(|| self.compare("play", 8, &self.play(left), &self.play(right)))
+    }
+
+    /// What the two sides do differently in slack, with an output of just the length that is written, one byte less, and more.
+    pub fn slack_difference(&self, left: &dyn Subject, right: &dyn Subject) -> Option<String> {
+        let length = self.slack(left, SLACK_MAX).answer.unwrap_or(0);
+        let lengths = [length, length.saturating_sub(1), length + MARGIN];
+        lengths.into_iter().find_map(|output| self.compare("slack", 1, &self.slack(left, output), &self.slack(right, output)))
+    }
+
+    /// What the entries of a side's slack form show otherwise than the list program prints them.
+    pub fn list_difference(&self, subject: &dyn Subject) -> Option<String> {
+        let outcome = self.slack(subject, SLACK_MAX);
+        outcome.answer.ok()?;
+        let lines: String = SlackEntries::new(outcome.written()).map(|entry| format!("{entry}\n")).collect();
+        let printed = text::list(&self.sheet, &self.charter, &self.names);
+        (printed != format!("accepted\n{lines}")).then(|| format!("list prints {printed:?}, the slack form shows {lines:?}"))
     }
 
     fn compare(&self, service: &str, unit: usize, left: &Outcome, right: &Outcome) -> Option<String> {
@@ -97,11 +121,17 @@ impl Case {
         for (name, bytes) in inputs {
             println!("{name} ({} bytes): {}", bytes.len(), hex(bytes));
         }
-        println!("output {} bytes, line {} bytes, log {} bytes, pattern {:02x}", self.output, self.line, self.log, self.pattern);
+        let lengths = format!("output {} bytes, line {} bytes, log {} bytes", self.output, self.line, self.log);
+        println!("{lengths}, pattern {:02x}, trim {}", self.pattern, self.trim);
     }
 }
 
 impl Outcome {
+    /// The bytes that an accepted call of another service than play wrote.
+    pub fn written(&self) -> &[u8] {
+        &self.memory[MARGIN..][..self.answer.unwrap_or(0)]
+    }
+
     /// The records in an accepted play's log.
     pub fn records(&self) -> impl Iterator<Item = &[u8]> {
         self.memory[MARGIN..].chunks(8).take(self.answer.unwrap_or(0))

@@ -129,6 +129,20 @@ fn perturb_trees(random: &mut Random, charter: &mut Charter) {
     }
 }
 
+/// Raises the finite counts of each tree, so that the charter leaves something over.
+pub fn loosen(random: &mut Random, charter: &mut Charter) {
+    for tree in &mut charter.trees {
+        let more = random.between(1, 6) as u32;
+        each_node(&mut tree.root, &mut |node| {
+            for count in node.grant.disclose.values_mut() {
+                if let Count::Finite(n) = count {
+                    *n = (*n + more).min(4095);
+                }
+            }
+        });
+    }
+}
+
 /// Takes a permission that some entry needs away from all nodes of its kind's trees.
 pub fn withhold(random: &mut Random, charter: &mut Charter, interface: &[Entry]) {
     if interface.is_empty() {

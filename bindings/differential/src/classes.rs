@@ -87,7 +87,7 @@ fn set(random: &mut Random, root: &mut Node, path: &[u8], group: u8, count: Coun
 }
 
 /// Makes a node's count for a group this one, 0 being none.
-fn put(node: &mut Node, group: u8, count: Count) {
+pub fn put(node: &mut Node, group: u8, count: Count) {
     node.grant.disclose.remove(&group);
     if count > Count::Finite(0) {
         node.grant.disclose.insert(group, count);

@@ -1,11 +1,12 @@
-//! Sheets and charters around the limits of document 01: lengths, nesting, names, components, threads, nodes; and large shared counts.
+//! Sheets and charters around the limits of document 01: lengths, nesting, names, components, threads, nodes; large shared counts and
+//! large grants.
 
 use crate::random::Random;
 
 /// A sheet and a charter near one limit.
 pub fn edge(random: &mut Random) -> (Vec<u8>, Vec<u8>) {
     let step = random.below(4);
-    match random.below(13) {
+    match random.below(14) {
         0 => (nested(&[3, 0, 0], 62 + step), vec![0]),
         1 => (nested(&[1], 62 + step).into_iter().chain(vec![0; 62 + step]).collect(), vec![0]),
         2 => (components(31 + step, &[4, 0, 0]), vec![0]),
@@ -18,6 +19,7 @@ pub fn edge(random: &mut Random) -> (Vec<u8>, Vec<u8>) {
         9 => (vec![0, 0], padded(4094 + step)),
         10 => long_path(random, 6 + step),
         11 => shared_count(random),
+        12 => large_grants(random),
         _ => (bound_names(61 + step), vec![1, 0, 0, 0x17, 1, 0, 255, 255, 0]),
     }
 }
@@ -104,6 +106,21 @@ fn shared_count(random: &mut Random) -> (Vec<u8>, Vec<u8>) {
     }
     let [low, high] = ((components * times + random.below(3)) as u16 - 1).to_le_bytes();
     (sheet, vec![1, 0, 0, 0, 1, 1, 0x10, 1, 0, low, high, 0])
+}
+
+/// A component that discloses once or without limit, and a charter that gives each group of its path a large count, or now and then none.
+fn large_grants(random: &mut Random) -> (Vec<u8>, Vec<u8>) {
+    let (mut sheet, mut charter) = (vec![2, 2, 0, 0, 0, 1, 0, 0], vec![1, 0]);
+    let groups = random.between(1, 8) as u8;
+    for group in 0..groups {
+        let last = group + 1 == groups;
+        sheet.extend_from_slice(&[if last { 4 } else { 2 }, group]);
+        let list: &[u8] = random.pick(&[&[16, 1, 0, 255, 15], &[16, 1, 0, 255, 15], &[16, 1, 0, 254, 15], &[16, 1, 0, 255, 255], &[0]]);
+        charter.extend([&[group], list, &[!last as u8]].concat());
+    }
+    let acts: [&[u8]; 3] = [&[6, 0, 1, 0], &[6, 0, 1, 0], &[7, 6, 0, 1, 0]];
+    sheet.extend_from_slice(random.pick(&acts));
+    (sheet, charter)
 }
 
 /// Names bound by receives until so many are in scope.

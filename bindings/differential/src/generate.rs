@@ -24,7 +24,8 @@ pub fn case(random: &mut Random) -> Case {
         }
     }
     let names = names::names(random);
-    let mut case = Case { sheet, charter, names, script, output: 0, line: 0, log: 0, pattern: random.byte() };
+    let (pattern, trim) = (random.byte(), random.below(1 << 16));
+    let mut case = Case { sheet, charter, names, script, output: 0, line: 0, log: 0, pattern, trim };
     case.output = around(random, needed_output(&case), 3);
     case.line = around(random, needed_line(&case), 3);
     case.log = around(random, needed_log(&case), 9);
@@ -50,6 +51,9 @@ fn pair(random: &mut Random) -> (Vec<u8>, Vec<u8>) {
 
 /// Leaves a charter as it is, or changes it here and there.
 fn change(random: &mut Random, charter: &mut Charter, interface: &[Entry]) {
+    if random.chance(20) {
+        charters::loosen(random, charter);
+    }
     if random.chance(45) {
         (0..random.between(1, 2)).for_each(|_| charters::perturb(random, charter));
     }

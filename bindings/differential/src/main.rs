@@ -1,4 +1,5 @@
-//! The differential tester: generates inputs and compares the independent implementation with the proved library.
+//! The differential tester: generates inputs and compares the independent implementation with the proved library. It also looks at demand 3
+//! after every move, and trims a charter by the slack that is told.
 //! Usage: differential [--cases N] [--seconds S] [--seed X] [--first K] [--show]
 //! `--first` starts at a later case of the same seed; `--show` prints each case before it is run.
 
@@ -19,6 +20,7 @@ mod sheets;
 mod shrink;
 mod subject;
 mod totals;
+mod trimming;
 
 use case::Case;
 use random::Random;
@@ -90,32 +92,34 @@ fn run(options: &Options, totals: &mut Totals) -> ExitCode {
     ExitCode::SUCCESS
 }
 
-/// Compares the two sides on a case, with `sweep` at every length around the need; the answer is a shown fault.
+/// A look at a case; it answers the fault that it finds.
+type Look = fn(&Case) -> Option<String>;
+
+/// The looks at each case, whatever the lengths of its output, line and log.
+const LOOKS: [Look; 4] = [
+    Case::violation,
+    |case| case.slack_difference(&Independent, &Proved),
+    |case| case.list_difference(&Proved),
+    trimming::fault,
+];
+
+/// Looks at a case, and compares the two sides on it, with `sweep` at every length around the need; the answer is a shown fault.
 fn examine(case: &Case, sweep: bool, totals: &mut Totals) -> Option<String> {
     totals.count(case);
-    if let Some(what) = case.violation() {
-        report(case, &|case| case.violation().is_some());
-        return Some(what);
-    }
     let mut cases = vec![case.clone()];
     if sweep {
         cases.extend(generate::lengths(case));
     }
-    for case in &cases {
-        if let Some(what) = case.difference(&Independent, &Proved) {
-            report(case, &|case| case.difference(&Independent, &Proved).is_some());
-            return Some(what);
-        }
-    }
-    None
+    let differs: Look = |case| case.difference(&Independent, &Proved);
+    LOOKS.into_iter().find_map(|look| found(case, look)).or_else(|| cases.iter().find_map(|case| found(case, differs)))
 }
 
-/// Prints a failing case, made as small as it gets.
-fn report(case: &Case, fails: &dyn Fn(&Case) -> bool) {
-    let small = shrink::shrink(case.clone(), fails);
+/// What a look finds; the case is then printed, made as small as it gets.
+fn found(case: &Case, look: Look) -> Option<String> {
+    let what = look(case)?;
+    let small = shrink::shrink(case.clone(), &|case| look(case).is_some());
     println!("a fault, shrunk:");
     small.print();
-    if let Some(what) = small.violation().or_else(|| small.difference(&Independent, &Proved)) {
-        println!("{what}");
-    }
+    println!("{}", look(&small).expect("a case that still fails"));
+    Some(what)
 }

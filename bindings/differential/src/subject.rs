@@ -2,6 +2,7 @@
 
 pub trait Subject {
     fn check(&self, sheet: &[u8], charter: &[u8], output: &mut [u8]) -> Result<usize, u32>;
+    fn slack(&self, sheet: &[u8], charter: &[u8], output: &mut [u8]) -> Result<usize, u32>;
     /// The length of the sentence, 0 for a sheet with nothing to explain.
     fn explain(&self, sheet: &[u8], charter: &[u8], names: &[u8], line: &mut [u8]) -> Result<usize, u32>;
     fn play(&self, sheet: &[u8], charter: &[u8], script: &[u8], log: &mut [u8]) -> Result<usize, u32>;
@@ -13,6 +14,10 @@ pub struct Independent;
 impl Subject for Independent {
     fn check(&self, sheet: &[u8], charter: &[u8], output: &mut [u8]) -> Result<usize, u32> {
         independent::check(sheet, charter, output)
+    }
+
+    fn slack(&self, sheet: &[u8], charter: &[u8], output: &mut [u8]) -> Result<usize, u32> {
+        independent::slack(sheet, charter, output)
     }
 
     fn explain(&self, sheet: &[u8], charter: &[u8], names: &[u8], line: &mut [u8]) -> Result<usize, u32> {
@@ -30,6 +35,10 @@ pub struct Proved;
 impl Subject for Proved {
     fn check(&self, sheet: &[u8], charter: &[u8], output: &mut [u8]) -> Result<usize, u32> {
         result(velimhaw::check(sheet, charter, output))
+    }
+
+    fn slack(&self, sheet: &[u8], charter: &[u8], output: &mut [u8]) -> Result<usize, u32> {
+        result(velimhaw::slack(sheet, charter, output))
     }
 
     fn explain(&self, sheet: &[u8], charter: &[u8], names: &[u8], line: &mut [u8]) -> Result<usize, u32> {

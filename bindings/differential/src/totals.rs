@@ -1,12 +1,14 @@
-//! What the cases of a run met: refusals by number, faults of charters that come together, counts that components share, the first
-//! uncovered permissions by verb, records by label.
+//! What the cases of a run met: refusals by number, faults of charters that come together, counts that components share, sums told and
+//! counts trimmed, the first uncovered permissions by verb, records by label.
 
 use crate::case::Case;
 use crate::subject::Independent;
+use crate::trimming::Trimming;
 use crate::{faults, shared};
 use independent::permissions::Need;
 use independent::{charter, sheet, typing};
 use std::collections::BTreeMap;
+use velimhaw::{SlackEntries, Sums, COUNT_MAX, SLACK_MAX, UNLIMITED};
 
 #[derive(Default)]
 pub struct Totals {
@@ -22,6 +24,8 @@ pub struct Totals {
     faults: BTreeMap<&'static str, u64>,
     shared: BTreeMap<&'static str, u64>,
     sums: BTreeMap<&'static str, u64>,
+    told: BTreeMap<&'static str, u64>,
+    trimmed: BTreeMap<&'static str, u64>,
     verbs: BTreeMap<&'static str, u64>,
     records: BTreeMap<(u8, u8), u64>,
 }
@@ -34,6 +38,7 @@ impl Totals {
         tally(&mut self.check, case.check(&Independent).answer);
         self.count_faults(case);
         self.count_shared(case);
+        self.count_slack(case);
         self.count_explanation(case);
         self.count_run(case);
     }
@@ -44,9 +49,7 @@ impl Totals {
             return;
         }
         let charter = charter::read(&case.charter).expect("a charter that passes 11");
-        for what in faults::met(&charter) {
-            *self.faults.entry(what).or_insert(0) += 1;
-        }
+        add(&mut self.faults, faults::met(&charter));
     }
 
     /// Adds what a sheet that was asked 11 meets of shared counts, and, where it was asked 18, what that answers.
@@ -57,13 +60,20 @@ impl Totals {
         }
         let sheet = sheet::read(&case.sheet).expect("a sheet that passes 6");
         let interface = typing::interface(&sheet);
-        shared::met(&sheet, &interface).into_iter().for_each(|what| *self.shared.entry(what).or_insert(0) += 1);
+        add(&mut self.shared, shared::met(&sheet, &interface));
         if refused.is_some_and(|number| number < 18) {
             return;
         }
         let charter = charter::read(&case.charter).expect("a charter that passes 11");
-        let answered = shared::answered(&sheet, &charter, &interface, refused.is_none());
-        answered.into_iter().for_each(|what| *self.sums.entry(what).or_insert(0) += 1);
+        add(&mut self.sums, shared::answered(&sheet, &charter, &interface, refused.is_none()));
+    }
+
+    /// Adds the sums that an accepted sheet's slack form tells, and how a count of its charter is trimmed.
+    fn count_slack(&mut self, case: &Case) {
+        let outcome = case.slack(&Independent, SLACK_MAX);
+        let sums = SlackEntries::new(outcome.written()).flat_map(|entry| entry.disclose);
+        sums.for_each(|sums| add(&mut self.told, vec!["all", size(&sums)]));
+        add(&mut self.trimmed, Trimming::of(case).map_or(Vec::new(), |trimming| trimming.met()));
     }
 
     fn count_explanation(&mut self, case: &Case) {
@@ -71,9 +81,8 @@ impl Totals {
         tally(&mut self.explain, answer);
         self.sentences += (answer.unwrap_or(0) > 0) as u64;
         self.longest = self.longest.max(answer.unwrap_or(0));
-        if let Ok(Some(uncovered)) = independent::uncovered(&case.sheet, &case.charter) {
-            *self.verbs.entry(verb(uncovered.need)).or_insert(0) += 1;
-        }
+        let uncovered = independent::judge(&case.sheet, &case.charter).ok().and_then(|judged| judged.uncovered());
+        add(&mut self.verbs, uncovered.map(|uncovered| verb(uncovered.need)));
     }
 
     fn count_run(&mut self, case: &Case) {
@@ -91,6 +100,8 @@ impl Totals {
         println!("charters with nodes that fail 13 or 14: {:?}", self.faults);
         println!("sheets with a count that components share: {:?}", self.shared);
         println!("question 18 on those: {:?}", self.sums);
+        println!("slack, sums told: {:?}", self.told);
+        println!("counts trimmed: {:?}", self.trimmed);
         println!("explain, refused by number: {:?}; {} sentences, the longest of {} bytes", self.explain, self.sentences, self.longest);
         println!("first uncovered permission, by verb: {:?}", self.verbs);
         println!("play, refused by number: {:?}", self.play);
@@ -99,9 +110,25 @@ impl Totals {
     }
 }
 
+/// Adds one to each of some things.
+fn add(counts: &mut BTreeMap<&'static str, u64>, met: impl IntoIterator<Item = &'static str>) {
+    met.into_iter().for_each(|what| *counts.entry(what).or_insert(0) += 1);
+}
+
 fn tally(refused: &mut BTreeMap<u32, u64>, answer: Result<usize, u32>) {
     if let Err(number) = answer {
         *refused.entry(number).or_insert(0) += 1;
+    }
+}
+
+/// What is worth counting of the sums for a group.
+fn size(sums: &Sums) -> &'static str {
+    match (sums.needed, sums.granted) {
+        (UNLIMITED, _) => "both unlimited",
+        (_, UNLIMITED) => "granted unlimited",
+        (needed, granted) if needed == granted => "equal",
+        (_, granted) if granted > COUNT_MAX => "granted above 4,095",
+        _ => "granted above needed",
     }
 }
 

@@ -1,7 +1,8 @@
-//! Reached nodes, grants, and whether a charter covers an interface (questions 16 to 18).
+//! Reached nodes, grants, and what a charter grants of what an interface needs: questions 16 and 17, and the covering test, which question
+//! 18 is read off.
 
 use crate::charter::{Charter, Node};
-use crate::permissions::{ByKind, Entry, Need, Permissions};
+use crate::permissions::{Count, Entry, Need, Permissions};
 use crate::sharing;
 use crate::sheet::Sheet;
 use std::collections::BTreeMap;
@@ -36,47 +37,54 @@ pub fn grant(charter: &Charter, path: &[u8], kind: u8) -> Permissions {
     join(&reached(charter, path, kind))
 }
 
-/// Questions 16 to 18, each put to all entries before the next.
-pub fn check(sheet: &Sheet, charter: &Charter, interface: &[Entry]) -> Result<(), u32> {
+/// What the covering test answers for one entry.
+#[derive(Clone, PartialEq, Eq, Debug)]
+pub struct Verdict {
+    /// The flags that the entry needs, in order, each with whether it is granted.
+    pub flags: Vec<(Need, bool)>,
+    /// The sums for each group that the entry discloses into.
+    pub disclose: BTreeMap<u8, Sums>,
+}
+
+/// How often the components of a class disclose into a group together, and how often they may.
+#[derive(Clone, Copy, PartialEq, Eq, Debug)]
+pub struct Sums {
+    pub needed: Count,
+    pub granted: Count,
+}
+
+impl Verdict {
+    /// The covering test of an entry: `sum` is what its class needs, `grant` what its path is granted.
+    fn new(entry: &Entry, sum: &Permissions, grant: &Permissions) -> Verdict {
+        let flags = entry.permissions.flags().map(|need| (need, grant.grants(need))).collect();
+        let sums = |group: u8| Sums { needed: sum.count(group), granted: grant.count(group) };
+        let disclose = entry.permissions.disclose.keys().map(|&group| (group, sums(group))).collect();
+        Verdict { flags, disclose }
+    }
+
+    /// The first permission of the entry that is not covered: read, write, access, then disclose by rising group.
+    pub fn uncovered(&self) -> Option<Need> {
+        let disclose = self.disclose.iter().map(|(&group, sums)| (Need::Disclose(group), sums.needed <= sums.granted));
+        let mut answers = self.flags.iter().copied().chain(disclose);
+        answers.find(|(_, covered)| !covered).map(|(need, _)| need)
+    }
+}
+
+/// Questions 16 and 17, each put to all entries before the next, and then the covering test of each entry.
+pub fn verdicts(sheet: &Sheet, charter: &Charter, interface: &[Entry]) -> Result<Vec<Verdict>, u32> {
     if !interface.iter().all(|entry| charter.tree(entry.kind).is_some()) {
         return Err(16);
     }
     let path = |entry: &Entry| &sheet.paths[entry.component];
     let reached: Vec<_> = interface.iter().map(|entry| reached(charter, path(entry), entry.kind)).collect();
-    let mut pairs = interface.iter().zip(&reached);
+    let pairs = interface.iter().zip(&reached);
     if !pairs.clone().all(|(entry, groups)| groups.len() == path(entry).len()) {
         return Err(17);
     }
-    let shared = Shared::new(sheet, interface);
-    if !pairs.all(|(entry, groups)| shared.uncovered(entry, &join(groups)).is_none()) {
-        return Err(18);
-    }
-    Ok(())
-}
-
-/// What the components of a sheet need together, by their classes.
-struct Shared {
-    classes: Vec<usize>,
-    sums: Vec<ByKind>,
-}
-
-impl Shared {
-    fn new(sheet: &Sheet, interface: &[Entry]) -> Shared {
-        let classes = sharing::classes(&sheet.paths);
-        let needs = interface.iter().map(|entry| (entry.component, entry.kind, &entry.permissions));
-        let sums = sharing::sums(&classes, needs);
-        Shared { classes, sums }
-    }
-
-    /// The first permission of an entry that its grant does not cover: a flag by itself, a disclosure with the sum over its class.
-    fn uncovered(&self, entry: &Entry, grant: &Permissions) -> Option<Need> {
-        let sum = &self.sums[self.classes[entry.component]][&entry.kind];
-        let covered = |need: Need| match need {
-            Need::Disclose(group) => sum.count(group) <= grant.count(group),
-            flag => grant.grants(flag),
-        };
-        entry.permissions.each().map(|(need, _)| need).find(|&need| !covered(need))
-    }
+    let classes = sharing::classes(&sheet.paths);
+    let sums = sharing::sums(&classes, interface.iter().map(|entry| (entry.component, entry.kind, &entry.permissions)));
+    let sum = |entry: &Entry| &sums[classes[entry.component]][&entry.kind];
+    Ok(pairs.map(|(entry, groups)| Verdict::new(entry, sum(entry), &join(groups))).collect())
 }
 
 /// A permission that some component needs and its charter does not cover.
@@ -85,14 +93,4 @@ pub struct Uncovered {
     pub path: Vec<u8>,
     pub need: Need,
     pub kind: u8,
-}
-
-/// The first uncovered permission: entries in order, and within an entry the order of its permissions.
-pub fn first_uncovered(sheet: &Sheet, charter: &Charter, interface: &[Entry]) -> Option<Uncovered> {
-    let shared = Shared::new(sheet, interface);
-    interface.iter().find_map(|entry| {
-        let path = &sheet.paths[entry.component];
-        let need = shared.uncovered(entry, &grant(charter, path, entry.kind))?;
-        Some(Uncovered { path: path.clone(), need, kind: entry.kind })
-    })
 }

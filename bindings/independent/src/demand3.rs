@@ -7,7 +7,7 @@ use crate::running::{Label, State, Taken, Thread};
 use crate::sharing;
 use crate::types::Type;
 use crate::typing;
-use crate::Accepted;
+use crate::Judged;
 
 /// What demand 3 has to remember over a run.
 pub struct Watch<'a> {
@@ -21,7 +21,7 @@ pub struct Watch<'a> {
 
 impl<'a> Watch<'a> {
     /// A watch over the runs of an accepted sheet.
-    pub fn new(accepted: &'a Accepted) -> Watch<'a> {
+    pub fn new(accepted: &'a Judged) -> Watch<'a> {
         let paths = &accepted.sheet.paths;
         let mut inferred = vec![ByKind::new(); paths.len()];
         for entry in &accepted.interface {

@@ -1,6 +1,7 @@
-//! Document 01 (flow sheets, charters and runs), the sentence for a refused sheet and the counts that components share, in plain Rust,
-//! written from the documents and the list of readings that decides their open points. It shares no code with the proved library, but
-//! those readings it shares: an agreement of the two says nothing about an open point that the list itself reads wrongly.
+//! Document 01 (flow sheets, charters and runs), the sentence for a refused sheet, the counts that components share and what a charter
+//! leaves over, in plain Rust, written from the documents and the list of readings that decides their open points. It shares no code with
+//! the proved library, but those readings it shares: an agreement of the two says nothing about an open point that the list itself reads
+//! wrongly.
 
 pub mod bytes;
 pub mod charter;
@@ -13,12 +14,13 @@ pub mod script;
 pub mod sentence;
 pub mod sharing;
 pub mod sheet;
+pub mod slack;
 pub mod text;
 pub mod types;
 pub mod typing;
 
 use charter::Charter;
-use cover::Uncovered;
+use cover::{Uncovered, Verdict};
 use permissions::Entry;
 use running::State;
 use sheet::Sheet;
@@ -26,15 +28,31 @@ use sheet::Sheet;
 /// The most bytes that a sheet or a charter may have (question 1).
 pub const LONGEST: usize = 4096;
 
-/// A sheet that passed questions 1 to 18 against its charter.
-pub struct Accepted {
+/// A sheet that passed questions 1 to 17 against its charter, and what the covering test answers for each entry of its interface.
+pub struct Judged {
     pub sheet: Sheet,
     pub charter: Charter,
     pub interface: Vec<Entry>,
+    pub verdicts: Vec<Verdict>,
 }
 
-/// Puts questions 1 to 15 and infers the interface; the number of the first that fails is the error.
-fn read(sheet: &[u8], charter: &[u8]) -> Result<(Sheet, Charter, Vec<Entry>), u32> {
+impl Judged {
+    /// The entries of the interface, each with its verdict.
+    pub fn entries(&self) -> impl Iterator<Item = (&Entry, &Verdict)> {
+        self.interface.iter().zip(&self.verdicts)
+    }
+
+    /// The first uncovered permission: entries in order, and within an entry the order of its permissions.
+    pub fn uncovered(&self) -> Option<Uncovered> {
+        self.entries().find_map(|(entry, verdict)| {
+            let need = verdict.uncovered()?;
+            Some(Uncovered { path: self.sheet.paths[entry.component].clone(), need, kind: entry.kind })
+        })
+    }
+}
+
+/// Puts questions 1 to 17 and makes the covering test; the number of the first question that fails is the error.
+pub fn judge(sheet: &[u8], charter: &[u8]) -> Result<Judged, u32> {
     if sheet.len() > LONGEST || charter.len() > LONGEST {
         return Err(1);
     }
@@ -43,24 +61,14 @@ fn read(sheet: &[u8], charter: &[u8]) -> Result<(Sheet, Charter, Vec<Entry>), u3
     let charter = charter::read(charter)?;
     charter.check()?;
     let interface = typing::interface(&sheet);
-    Ok((sheet, charter, interface))
+    let verdicts = cover::verdicts(&sheet, &charter, &interface)?;
+    Ok(Judged { sheet, charter, interface, verdicts })
 }
 
 /// Puts questions 1 to 18; the number of the first that fails is the error.
-pub fn accept(sheet: &[u8], charter: &[u8]) -> Result<Accepted, u32> {
-    let (sheet, charter, interface) = read(sheet, charter)?;
-    cover::check(&sheet, &charter, &interface)?;
-    Ok(Accepted { sheet, charter, interface })
-}
-
-/// Puts questions 1 to 18: the first uncovered permission where 18 fails, none where all pass; the number of an earlier question that
-/// fails is the error.
-pub fn uncovered(sheet: &[u8], charter: &[u8]) -> Result<Option<Uncovered>, u32> {
-    let (sheet, charter, interface) = read(sheet, charter)?;
-    match cover::check(&sheet, &charter, &interface) {
-        Err(18) => Ok(cover::first_uncovered(&sheet, &charter, &interface)),
-        other => other.map(|()| None),
-    }
+pub fn accept(sheet: &[u8], charter: &[u8]) -> Result<Judged, u32> {
+    let judged = judge(sheet, charter)?;
+    if judged.uncovered().is_none() { Ok(judged) } else { Err(18) }
 }
 
 /// The service check: the length of the interface written to `output`, or the question's number.
@@ -69,9 +77,14 @@ pub fn check(sheet: &[u8], charter: &[u8], output: &mut [u8]) -> Result<usize, u
     write(&permissions::write_interface(&accepted.sheet, &accepted.interface), output)
 }
 
+/// The service slack: the length of the slack form written to `output`, or the question's number.
+pub fn slack(sheet: &[u8], charter: &[u8], output: &mut [u8]) -> Result<usize, u32> {
+    write(&slack::write(&accept(sheet, charter)?), output)
+}
+
 /// The service explain: the length of the sentence written to `line`, 0 where questions 1 to 18 pass, or the question's number.
 pub fn explain(sheet: &[u8], charter: &[u8], names: &[u8], line: &mut [u8]) -> Result<usize, u32> {
-    let Some(uncovered) = uncovered(sheet, charter)? else { return Ok(0) };
+    let Some(uncovered) = judge(sheet, charter)?.uncovered() else { return Ok(0) };
     let names = names::read(names)?;
     write(sentence::sentence(&names, &uncovered).as_bytes(), line)
 }

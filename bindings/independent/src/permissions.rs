@@ -2,6 +2,7 @@
 
 use crate::sheet::Sheet;
 use std::collections::BTreeMap;
+use std::fmt;
 
 /// How often; unlimited stands above every finite count.
 #[derive(Clone, Copy, PartialEq, Eq, PartialOrd, Ord, Debug)]
@@ -23,6 +24,16 @@ impl Count {
         match self {
             Count::Finite(n) => n as u16,
             Count::Unlimited => 65535,
+        }
+    }
+}
+
+/// The number, or `*` for unlimited.
+impl fmt::Display for Count {
+    fn fmt(&self, f: &mut fmt::Formatter) -> fmt::Result {
+        match self {
+            Count::Finite(n) => write!(f, "{n}"),
+            Count::Unlimited => write!(f, "*"),
         }
     }
 }
@@ -76,11 +87,16 @@ impl Permissions {
         self.disclose.get(&group).copied().unwrap_or(Count::Finite(0))
     }
 
-    /// Each permission held, in order: read, write, access, then disclose by rising group. A flag has the count 1.
-    pub fn each(&self) -> impl Iterator<Item = (Need, Count)> + '_ {
+    /// The flags held, in order: read, write, access.
+    pub fn flags(&self) -> impl Iterator<Item = Need> {
         let flags = [(self.read, Need::Read), (self.write, Need::Write), (self.access, Need::Access)];
-        let held = flags.into_iter().filter(|(held, _)| *held).map(|(_, need)| (need, Count::Finite(1)));
-        held.chain(self.disclose.iter().map(|(&group, &count)| (Need::Disclose(group), count)))
+        flags.into_iter().filter(|(held, _)| *held).map(|(_, need)| need)
+    }
+
+    /// Each permission held, in order: the flags, then disclose by rising group. A flag has the count 1.
+    pub fn each(&self) -> impl Iterator<Item = (Need, Count)> + '_ {
+        let flags = self.flags().map(|need| (need, Count::Finite(1)));
+        flags.chain(self.disclose.iter().map(|(&group, &count)| (Need::Disclose(group), count)))
     }
 
     /// Whether one permission, needed so often, is covered.
@@ -105,16 +121,25 @@ impl Permissions {
 
     /// Appends the permission map and, if there is one, the list.
     pub fn write_to(&self, nondisclose: bool, out: &mut Vec<u8>) {
+        out.push(self.map(nondisclose));
+        write_list(self.disclose.iter().map(|(&group, &count)| (group, [count])), out);
+    }
+
+    /// The permission map.
+    pub fn map(&self, nondisclose: bool) -> u8 {
         let bits = [self.read, self.write, self.access, nondisclose, !self.disclose.is_empty()];
-        out.push(bits.iter().enumerate().map(|(i, &bit)| (bit as u8) << i).sum());
-        if self.disclose.is_empty() {
-            return;
-        }
-        out.push(self.disclose.len() as u8);
-        for (&group, count) in &self.disclose {
-            out.push(group);
-            out.extend_from_slice(&count.stored().to_le_bytes());
-        }
+        bits.iter().enumerate().map(|(i, &bit)| (bit as u8) << i).sum()
+    }
+}
+
+/// Appends a list of groups, each with its counts; of an empty one, nothing.
+pub fn write_list<const N: usize>(list: impl ExactSizeIterator<Item = (u8, [Count; N])>, out: &mut Vec<u8>) {
+    if list.len() > 0 {
+        out.push(list.len() as u8);
+    }
+    for (group, counts) in list {
+        out.push(group);
+        counts.iter().for_each(|count| out.extend_from_slice(&count.stored().to_le_bytes()));
     }
 }
 
@@ -128,14 +153,21 @@ pub struct Entry {
     pub permissions: Permissions,
 }
 
+impl Entry {
+    /// Appends what a stored entry begins with: kind, length of the path and path.
+    pub fn write_head(&self, sheet: &Sheet, out: &mut Vec<u8>) {
+        let path = &sheet.paths[self.component];
+        out.push(self.kind);
+        out.push(path.len() as u8);
+        out.extend_from_slice(path);
+    }
+}
+
 /// The stored form of the interface.
 pub fn write_interface(sheet: &Sheet, interface: &[Entry]) -> Vec<u8> {
     let mut out = Vec::new();
     for entry in interface {
-        let path = &sheet.paths[entry.component];
-        out.push(entry.kind);
-        out.push(path.len() as u8);
-        out.extend_from_slice(path);
+        entry.write_head(sheet, &mut out);
         entry.permissions.write_to(false, &mut out);
     }
     out

@@ -1,8 +1,8 @@
 //! What the list program and the run program write.
 
-use crate::permissions::{Count, Entry, Permissions};
+use crate::cover::Verdict;
+use crate::permissions::Need;
 use crate::sentence;
-use crate::sheet::Sheet;
 
 /// The list program's text for a sheet, a charter and a names file.
 pub fn list(sheet: &[u8], charter: &[u8], names: &[u8]) -> String {
@@ -10,7 +10,8 @@ pub fn list(sheet: &[u8], charter: &[u8], names: &[u8]) -> String {
         Err(18) => refused(18) + &explanation(sheet, charter, names),
         Err(number) => refused(number),
         Ok(accepted) => {
-            let lines = accepted.interface.iter().map(|entry| line(&accepted.sheet, entry));
+            let path = |component: usize| &accepted.sheet.paths[component];
+            let lines = accepted.entries().map(|(entry, verdict)| line(entry.kind, path(entry.component), verdict));
             std::iter::once("accepted\n".to_string()).chain(lines).collect()
         }
     }
@@ -41,17 +42,27 @@ fn refused(number: u32) -> String {
     format!("refused {number}\n")
 }
 
-fn line(sheet: &Sheet, entry: &Entry) -> String {
-    let path: Vec<String> = sheet.paths[entry.component].iter().map(u8::to_string).collect();
-    format!("{} {} {}\n", entry.kind, path.join("."), fields(&entry.permissions).join(" "))
+/// The line of an entry that is covered.
+fn line(kind: u8, path: &[u8], verdict: &Verdict) -> String {
+    let path: Vec<String> = path.iter().map(u8::to_string).collect();
+    format!("{kind} {} {}\n", path.join("."), fields(verdict).join(" "))
 }
 
-fn fields(permissions: &Permissions) -> Vec<String> {
-    let flags = [(permissions.read, "r"), (permissions.write, "w"), (permissions.access, "a")];
-    let held = flags.iter().filter(|(held, _)| *held).map(|(_, letter)| letter.to_string());
-    let disclosed = permissions.disclose.iter().map(|(group, count)| match count {
-        Count::Finite(n) => format!("d{group}:{n}"),
-        Count::Unlimited => format!("d{group}:*"),
+/// The flags that an entry needs, and for each group that it discloses into the needed sum beside the granted one.
+fn fields(verdict: &Verdict) -> Vec<String> {
+    let flags = verdict.flags.iter().map(|(need, _)| letter(*need).to_string());
+    let disclose = verdict.disclose.iter().map(|(&group, sums)| {
+        let letter = letter(Need::Disclose(group));
+        format!("{letter}{group}:{}/{}", sums.needed, sums.granted)
     });
-    held.chain(disclosed).collect()
+    flags.chain(disclose).collect()
+}
+
+fn letter(need: Need) -> char {
+    match need {
+        Need::Read => 'r',
+        Need::Write => 'w',
+        Need::Access => 'a',
+        Need::Disclose(_) => 'd',
+    }
 }

@@ -112,7 +112,7 @@ fn list_writes_a_second_line() {
     assert_eq!(list(strict, &right), "refused 18\nGaa/Gab may not disclose to Gaa: Kaa\n");
     assert_eq!(list(strict, &[]), "refused 18\nrefused 40\n");
     assert_eq!(list("00", b"?"), "refused 16\n");
-    assert_eq!(list(CHARTER, b"?"), "accepted\n0 0.1 d0:1\n0 0.2 r a\n");
+    assert_eq!(list(CHARTER, b"?"), "accepted\n0 0.1 d0:1/1\n0 0.2 r a\n");
     assert_eq!(independent::text::run(&bytes(W), &bytes(strict), &[]), b"refused 18\n");
 }
 

@@ -55,11 +55,11 @@ fn a_count_that_just_covers_the_sum_and_one_less() {
 }
 
 #[test]
-fn the_interface_keeps_each_component_s_own_count() {
+fn the_interface_keeps_each_component_s_own_count_and_list_shows_the_sum() {
     let mut output = [0; 18];
     assert_eq!(independent::check(&sheet(&one_path(1, 2)), &charter(3, "00"), &mut output), Ok(18));
     assert_eq!(output.to_vec(), bytes("00 02 00 01 10 01 00 01 00 00 02 00 01 10 01 00 02 00"));
-    assert_eq!(list(&sheet(&one_path(1, 1)), &charter(2, "00"), &[]), "accepted\n0 0.1 d0:1\n0 0.1 d0:1\n");
+    assert_eq!(list(&sheet(&one_path(1, 1)), &charter(2, "00"), &[]), "accepted\n0 0.1 d0:2/2\n0 0.1 d0:2/2\n");
 }
 
 #[test]

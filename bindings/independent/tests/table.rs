@@ -21,7 +21,7 @@ fn play(script: &str) -> Vec<u8> {
 #[test]
 fn w_is_accepted() {
     assert_eq!(check(W, CHARTER), Ok(bytes("00 02 00 01 10 01 00 01 00 00 02 00 02 05")));
-    assert_eq!(independent::text::list(&bytes(W), &bytes(CHARTER), &[]), "accepted\n0 0.1 d0:1\n0 0.2 r a\n");
+    assert_eq!(independent::text::list(&bytes(W), &bytes(CHARTER), &[]), "accepted\n0 0.1 d0:1/1\n0 0.2 r a\n");
     assert_eq!(check("00 00", "00"), Ok(vec![]));
 }
 

@@ -1,6 +1,6 @@
-//! Checks and plays example W of docs/REFERENCE.md, and prints the entries of its interface and the records of its log; then explains why
-//! another charter refuses it.
-use velimhaw::{try_check, try_explain, try_play, Refusal, GROUPS, INTERFACE_MAX, KINDS, LOG_MAX, SENTENCE_MAX};
+//! Checks and plays example W of docs/REFERENCE.md, and prints the entries of its interface, what its charter leaves over and the records
+//! of its log; then explains why another charter refuses it.
+use velimhaw::{try_check, try_explain, try_play, try_slack, Refusal, GROUPS, KINDS, LOG_MAX, SENTENCE_MAX, SLACK_MAX};
 
 const SHEET: [u8; 29] = [
     2, 2, 0, 0, 0, 1, 0, 0, 2, 0, 1, 4, 1, 6, 0, 1, 0, 4, 2, 5, 0, 1, 0, 0, 5, 2, 0, 0, 0,
@@ -23,10 +23,14 @@ fn names() -> Vec<u8> {
 }
 
 fn main() -> Result<(), Refusal> {
-    let mut output = [0; INTERFACE_MAX];
+    let mut output = [0; SLACK_MAX];
     let mut log = [0; LOG_MAX];
     println!("check: accepted");
     for entry in try_check(&SHEET, &CHARTER, &mut output)? {
+        println!("  {entry}");
+    }
+    println!("slack: accepted");
+    for entry in try_slack(&SHEET, &CHARTER, &mut output)? {
         println!("  {entry}");
     }
     println!("play: accepted");

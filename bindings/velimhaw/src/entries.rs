@@ -1,16 +1,18 @@
-//! The interface: an entry for each component and kind with a permission, by component, then rising kind.
+//! What the interface and the slack form have in common: an entry for each component and kind with a permission, by component, then rising
+//! kind. The two differ in what the list of an entry tells of a group.
 //!
 //! Bytes of an entry: kind; length of the path; path; permission map (bit 0 read, 1 write, 2 access, 4 disclose); and only if bit 4
-//! stands, how many groups, then for each a group and a count of two bytes, low byte first, groups strictly rising.
+//! stands, how many groups, then for each the group and what the form tells of it, groups strictly rising.
 
-use crate::{COUNT_MAX, GROUPS, KINDS, PATH_MAX, UNLIMITED};
+use crate::{GROUPS, KINDS, PATH_MAX, UNLIMITED};
 use std::fmt;
 use std::iter::FusedIterator;
-use std::ops::Range;
+use std::marker::PhantomData;
+use std::ops::{Range, RangeInclusive};
 
-/// What a component needs of one kind of data. It shows as the program `list` prints it, as `0 0.2 r a`.
+/// What a component needs of one kind of data: an [`Entry`](crate::Entry) or a [`SlackEntry`](crate::SlackEntry).
 #[derive(Clone, Debug, PartialEq, Eq)]
-pub struct Entry {
+pub struct EntryOf<D> {
     pub kind: u8,
     /// The groups passed on the way to the component, its own last.
     pub path: Vec<u8>,
@@ -18,26 +20,26 @@ pub struct Entry {
     pub write: bool,
     pub access: bool,
     /// The groups that links are disclosed into, rising.
-    pub disclose: Vec<Disclosure>,
+    pub disclose: Vec<D>,
 }
 
-/// How many links are disclosed into a group: 1 to 4,095, or [`UNLIMITED`].
-#[derive(Clone, Copy, Debug, PartialEq, Eq)]
-pub struct Disclosure {
-    pub group: u8,
-    pub count: u16,
+/// What an entry's list tells of a group.
+pub trait Listed: Sized {
+    /// Takes off what follows the group, if it is whole and in its range.
+    fn take(group: u8, rest: &mut &[u8]) -> Option<Self>;
 }
 
-/// The entries in the bytes of an interface. It ends where none is left, or where the bytes do not go on with a whole entry, each field
-/// in its range.
+/// The entries in the bytes of an interface or of a slack form. It ends where none is left, or where the bytes do not go on with a whole
+/// entry, each field in its range.
 #[derive(Clone, Debug)]
-pub struct Entries<'a> {
+pub struct EntriesOf<'a, D> {
     rest: &'a [u8],
+    listed: PhantomData<D>,
 }
 
-impl<'a> Entries<'a> {
-    pub fn new(interface: &'a [u8]) -> Entries<'a> {
-        Entries { rest: interface }
+impl<'a, D> EntriesOf<'a, D> {
+    pub fn new(bytes: &'a [u8]) -> EntriesOf<'a, D> {
+        EntriesOf { rest: bytes, listed: PhantomData }
     }
 
     /// The bytes that no entry was taken off yet. After the last entry: empty, unless the bytes there are malformed.
@@ -46,10 +48,10 @@ impl<'a> Entries<'a> {
     }
 }
 
-impl Iterator for Entries<'_> {
-    type Item = Entry;
+impl<D: Listed> Iterator for EntriesOf<'_, D> {
+    type Item = EntryOf<D>;
 
-    fn next(&mut self) -> Option<Entry> {
+    fn next(&mut self) -> Option<EntryOf<D>> {
         let mut rest = self.rest;
         let entry = take_entry(&mut rest)?;
         self.rest = rest;
@@ -57,19 +59,19 @@ impl Iterator for Entries<'_> {
     }
 }
 
-impl FusedIterator for Entries<'_> {}
+impl<D: Listed> FusedIterator for EntriesOf<'_, D> {}
 
 const READ: u8 = 1;
 const WRITE: u8 = 2;
 const ACCESS: u8 = 4;
 const DISCLOSE: u8 = 16;
 
-fn take_entry(rest: &mut &[u8]) -> Option<Entry> {
+fn take_entry<D: Listed>(rest: &mut &[u8]) -> Option<EntryOf<D>> {
     let kind = take_byte(rest, 0..KINDS)?;
     let path = take_path(rest)?;
     let map = take_map(rest)?;
-    let disclose = if map & DISCLOSE != 0 { take_disclosures(rest)? } else { Vec::new() };
-    Some(Entry { kind, path, read: map & READ != 0, write: map & WRITE != 0, access: map & ACCESS != 0, disclose })
+    let disclose = if map & DISCLOSE != 0 { take_list(rest)? } else { Vec::new() };
+    Some(EntryOf { kind, path, read: map & READ != 0, write: map & WRITE != 0, access: map & ACCESS != 0, disclose })
 }
 
 /// Takes the first byte off, if there is one and it is in its range.
@@ -90,26 +92,27 @@ fn take_map(rest: &mut &[u8]) -> Option<u8> {
     (map & !(READ | WRITE | ACCESS | DISCLOSE) == 0).then_some(map)
 }
 
-fn take_disclosures(rest: &mut &[u8]) -> Option<Vec<Disclosure>> {
+fn take_list<D: Listed>(rest: &mut &[u8]) -> Option<Vec<D>> {
     let length = take_byte(rest, 1..GROUPS + 1)?;
     let mut list = Vec::new();
     let mut least = 0;
     for _ in 0..length {
         let group = take_byte(rest, least..GROUPS)?;
-        list.push(Disclosure { group, count: take_count(rest)? });
+        list.push(D::take(group, rest)?);
         least = group + 1;
     }
     Some(list)
 }
 
-fn take_count(rest: &mut &[u8]) -> Option<u16> {
+/// Takes a count of two bytes off, low byte first, if it is in its range or unlimited.
+pub fn take_count(rest: &mut &[u8], range: RangeInclusive<u16>) -> Option<u16> {
     let (bytes, after) = rest.split_first_chunk()?;
     *rest = after;
     let count = u16::from_le_bytes(*bytes);
-    ((1..=COUNT_MAX).contains(&count) || count == UNLIMITED).then_some(count)
+    (range.contains(&count) || count == UNLIMITED).then_some(count)
 }
 
-impl fmt::Display for Entry {
+impl<D: fmt::Display> fmt::Display for EntryOf<D> {
     fn fmt(&self, f: &mut fmt::Formatter) -> fmt::Result {
         let path: Vec<String> = self.path.iter().map(u8::to_string).collect();
         write!(f, "{} {}", self.kind, path.join("."))?;
@@ -118,15 +121,11 @@ impl fmt::Display for Entry {
                 write!(f, " {letter}")?;
             }
         }
-        self.disclose.iter().try_for_each(|disclosure| write!(f, " {disclosure}"))
+        self.disclose.iter().try_for_each(|listed| write!(f, " {listed}"))
     }
 }
 
-impl fmt::Display for Disclosure {
-    fn fmt(&self, f: &mut fmt::Formatter) -> fmt::Result {
-        match self.count {
-            UNLIMITED => write!(f, "d{}:*", self.group),
-            count => write!(f, "d{}:{count}", self.group),
-        }
-    }
+/// A count as it is shown: `*` is unlimited.
+pub fn shown(count: u16) -> String {
+    if count == UNLIMITED { "*".to_string() } else { count.to_string() }
 }

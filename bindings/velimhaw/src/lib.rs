@@ -1,21 +1,25 @@
-//! Velimhaw's three services from Rust: check a sheet against a charter, explain a refusal with 18, play a script on an accepted sheet.
-//! The work is done by the proved static library; this package declares its three functions, and takes their answers and the bytes they
-//! write apart.
+//! Velimhaw's four services from Rust: check a sheet against a charter, tell how much the charter leaves over, explain a refusal with 18,
+//! play a script on an accepted sheet. The work is done by the proved static library; this package declares its four functions, and takes
+//! their answers and the bytes they write apart.
 //!
-//! [`try_check`] and [`try_play`] answer what was written as an iterator, [`try_explain`] as a sentence, or the [`Refusal`]; [`check`],
-//! [`explain`] and [`play`] answer the plain number. Any bytes of any length may be lent. On refusal the output, line or log keeps its
-//! bytes, and so do on acceptance those past what is written.
+//! [`try_check`], [`try_slack`] and [`try_play`] answer what was written as an iterator, [`try_explain`] as a sentence, or the
+//! [`Refusal`]; [`check`], [`slack`], [`explain`] and [`play`] answer the plain number. Any bytes of any length may be lent. On refusal
+//! the output, line or log keeps its bytes, and so do on acceptance those past what is written.
 //!
 //! "Question N" is that of docs/REFERENCE.md.
 
 mod entries;
+mod interface;
 mod limits;
 mod records;
 mod refusal;
 mod services;
+mod sums;
 
-pub use entries::{Disclosure, Entries, Entry};
+pub use entries::{EntriesOf, EntryOf};
+pub use interface::{Disclosure, Entries, Entry};
 pub use limits::*;
 pub use records::{Record, Records};
 pub use refusal::{question, Refusal};
-pub use services::{check, explain, play, try_check, try_explain, try_play, Answer, Explanation};
+pub use services::{check, explain, play, slack, try_check, try_explain, try_play, try_slack, Answer, Explanation};
+pub use sums::{SlackEntries, SlackEntry, Sums};

@@ -10,6 +10,8 @@ pub const SCRIPT_MAX: usize = 7168;
 pub const NAMES_FILE_MAX: usize = 1680;
 /// The length of an output for which `check` never refuses with 19.
 pub const INTERFACE_MAX: usize = 18_432;
+/// The length of an output for which `slack` never refuses with 19.
+pub const SLACK_MAX: usize = 26_624;
 /// The length of a line for which `explain` never refuses with 19: the bytes of the longest sentence.
 pub const SENTENCE_MAX: usize = 230;
 /// The length of a log for which `play` never refuses with 22.
@@ -31,5 +33,9 @@ pub const COMPONENTS_MAX: u8 = 32;
 pub const NAMES_MAX: u16 = 1024;
 /// A finite count is 1 to 4,095.
 pub const COUNT_MAX: u16 = 4095;
-/// The count that stands for unlimited.
+/// A finite needed sum is 1 to 4,096.
+pub const NEEDED_MAX: u16 = 4096;
+/// A finite granted sum is 1 to 32,760: a count for each group of a path.
+pub const GRANTED_MAX: u16 = PATH_MAX as u16 * COUNT_MAX;
+/// The count or sum that stands for unlimited.
 pub const UNLIMITED: u16 = 65_535;

@@ -50,7 +50,7 @@ pub fn question(number: usize) -> Option<&'static str> {
         16 => "a tree of the charter for each entry's kind",
         17 => "each group of each entry's path at a node that the path reaches",
         18 => "each entry covered by what the charter grants its path, counts added over the components with the same groups",
-        19 => "an output long enough for the interface, or a line for the sentence",
+        19 => "an output long enough for the interface or the slack, or a line for the sentence",
         20 => "a start of at most 64 threads and 1,024 names",
         21 => "a script of at most 1,024 whole moves, each field in its range",
         22 => "a log of at least 8 bytes a move",

@@ -1,11 +1,11 @@
-//! The three services: as the static library answers, and as results.
+//! The four services: as the static library answers, and as results.
 
-use crate::{Entries, Records, Refusal, RECORD_LENGTH};
+use crate::{Entries, Records, Refusal, SlackEntries, RECORD_LENGTH};
 
-/// What `check` and `play` answer.
+/// What `check`, `slack` and `play` answer.
 #[derive(Clone, Copy, Debug, PartialEq, Eq)]
 pub enum Answer {
-    /// The length written (check) or the number of moves (play).
+    /// The length written (check, slack) or the number of moves (play).
     Accepted(usize),
     /// The number of the first question that fails; the memory lent keeps its bytes.
     Refused(usize),
@@ -48,6 +48,7 @@ struct Lent {
 
 extern "C" {
     fn velimhaw_check(sheet: Bytes, charter: Bytes, output: Lent) -> u64;
+    fn velimhaw_slack(sheet: Bytes, charter: Bytes, output: Lent) -> u64;
     fn velimhaw_explain(sheet: Bytes, charter: Bytes, names: Bytes, line: Lent) -> u64;
     fn velimhaw_play(sheet: Bytes, charter: Bytes, script: Bytes, log: Lent) -> u64;
 }
@@ -85,6 +86,13 @@ pub fn check(sheet: &[u8], charter: &[u8], output: &mut [u8]) -> Answer {
     answer(unsafe { velimhaw_check(bytes(sheet), bytes(charter), lent(output)) })
 }
 
+/// Tells how much a charter leaves over: accepts or refuses a sheet as [`check`] does, and writes the slack form, the needed sums beside
+/// the granted ones, into the output.
+pub fn slack(sheet: &[u8], charter: &[u8], output: &mut [u8]) -> Answer {
+    // SAFETY: as for `check`.
+    answer(unsafe { velimhaw_slack(bytes(sheet), bytes(charter), lent(output)) })
+}
+
 /// Says in words why a sheet is refused with 18: writes the sentence for the first permission that the charter does not cover into the
 /// line. Names are the bytes of a names file: a name of 1 to 20 letters, ended by the byte 0A, for each of the 64 groups and then of the
 /// 16 kinds.
@@ -103,6 +111,12 @@ pub fn play(sheet: &[u8], charter: &[u8], script: &[u8], log: &mut [u8]) -> Answ
 pub fn try_check<'a>(sheet: &[u8], charter: &[u8], output: &'a mut [u8]) -> Result<Entries<'a>, Refusal> {
     let length = check(sheet, charter, output).result()?;
     Ok(Entries::new(&output[..length]))
+}
+
+/// As [`slack`]; answers the entries written. An output of [`SLACK_MAX`](crate::SLACK_MAX) bytes is always long enough.
+pub fn try_slack<'a>(sheet: &[u8], charter: &[u8], output: &'a mut [u8]) -> Result<SlackEntries<'a>, Refusal> {
+    let length = slack(sheet, charter, output).result()?;
+    Ok(SlackEntries::new(&output[..length]))
 }
 
 /// As [`explain`]; answers the sentence written, nothing where questions 1 to 18 pass. A line of [`SENTENCE_MAX`](crate::SENTENCE_MAX)

@@ -25,7 +25,7 @@ fn entries_of_w() {
 }
 
 #[test]
-fn shown_as_list_prints_them() {
+fn shown_as_lines() {
     assert_eq!(sender().to_string(), "0 0.1 d0:1");
     assert_eq!(receiver().to_string(), "0 0.2 r a");
     let disclose = vec![Disclosure { group: 5, count: UNLIMITED }];

@@ -193,9 +193,10 @@ fn the_longest_script_is_played() {
 fn the_constants_of_the_header_are_these() {
     let header = include_str!("../../c/velimhaw.h");
     let sizes = [("SHEET_MAX", SHEET_MAX), ("CHARTER_MAX", CHARTER_MAX), ("SCRIPT_MAX", SCRIPT_MAX), ("INTERFACE_MAX", INTERFACE_MAX)];
+    let sums = [("SLACK_MAX", SLACK_MAX), ("NEEDED_MAX", NEEDED_MAX.into()), ("GRANTED_MAX", GRANTED_MAX.into())];
     let texts = [("NAMES_FILE_MAX", NAMES_FILE_MAX), ("SENTENCE_MAX", SENTENCE_MAX)];
     let more = [("RECORD_LENGTH", RECORD_LENGTH), ("LOG_MAX", LOG_MAX), ("MOVES_MAX", MOVES_MAX), ("UNLIMITED", UNLIMITED.into())];
-    for (name, value) in sizes.into_iter().chain(texts).chain(more) {
+    for (name, value) in sizes.into_iter().chain(sums).chain(texts).chain(more) {
         assert!(header.contains(&format!("#define VELIMHAW_{name} {value}u")), "{name}");
     }
 }

@@ -1,5 +1,5 @@
-//! Example W of docs/REFERENCE.md: its sheet, charter and script, and the interface and log that they give; a charter that refuses it
-//! with 18, names, and the sentence that they give.
+//! Example W of docs/REFERENCE.md: its sheet, charter and script, and the interface, slack form and log that they give; a charter that
+//! refuses it with 18, names, and the sentence that they give.
 #![allow(dead_code)]
 
 pub const SHEET: [u8; 29] = [
@@ -8,6 +8,7 @@ pub const SHEET: [u8; 29] = [
 pub const CHARTER: [u8; 15] = [1, 0, 0, 8, 2, 1, 16, 1, 0, 1, 0, 0, 2, 5, 0];
 pub const SCRIPT: [u8; 10] = [4, 0, 1, 5, 0, 0, 3, 0, 2, 0];
 pub const INTERFACE: [u8; 14] = [0, 2, 0, 1, 16, 1, 0, 1, 0, 0, 2, 0, 2, 5];
+pub const SLACK: [u8; 16] = [0, 2, 0, 1, 16, 1, 0, 1, 0, 1, 0, 0, 2, 0, 2, 5];
 pub const LOG: [u8; 24] = [
     0, 1, 0, 0, 1, 0, 0, 1, 0, 5, 255, 255, 2, 0, 255, 255, 0, 2, 1, 0, 2, 0, 1, 255,
 ];
