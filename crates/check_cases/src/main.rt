@@ -14,7 +14,7 @@ fn show(label: &[u8], sheet: &[u8], charter: &[u8]) {
 }
 
 // Example W and its charter.
-const W: [u8; 29] = [
+const W: [u8; 31] = [
     0x02,
     0x02,
     0x00,
@@ -28,12 +28,14 @@ const W: [u8; 29] = [
     0x01,
     0x04,
     0x01,
+    0x00,
     0x06,
     0x00,
     0x01,
     0x00,
     0x04,
     0x02,
+    0x00,
     0x05,
     0x00,
     0x01,
@@ -114,8 +116,8 @@ fn readings() {
     show(b"empty sheet", &[], &wc);
     show(b"00 00 00", &[0x00, 0x00, 0x00], &wc);
     show(
-        b"00 02 00 04 00 00",
-        &[0x00, 0x02, 0x00, 0x04, 0x00, 0x00],
+        b"00 02 00 04 00 00 00",
+        &[0x00, 0x02, 0x00, 0x04, 0x00, 0x00, 0x00],
         &wc,
     );
 }
@@ -139,12 +141,14 @@ fn typings() {
             0x01,
             0x04,
             0x01,
+            0x00,
             0x06,
             0x03,
             0x01,
             0x00,
             0x04,
             0x02,
+            0x00,
             0x05,
             0x00,
             0x01,
@@ -159,8 +163,8 @@ fn typings() {
         &wc,
     );
     show(
-        b"01 00 00 04 00 06 00 00 00",
-        &[0x01, 0x00, 0x00, 0x04, 0x00, 0x06, 0x00, 0x00, 0x00],
+        b"01 00 00 04 00 00 06 00 00 00",
+        &[0x01, 0x00, 0x00, 0x04, 0x00, 0x00, 0x06, 0x00, 0x00, 0x00],
         &wc,
     );
     show(
@@ -179,12 +183,14 @@ fn typings() {
             0x01,
             0x04,
             0x01,
+            0x00,
             0x06,
             0x01,
             0x01,
             0x00,
             0x04,
             0x02,
+            0x00,
             0x05,
             0x00,
             0x01,
@@ -214,12 +220,14 @@ fn typings() {
             0x01,
             0x04,
             0x01,
+            0x00,
             0x06,
             0x00,
             0x01,
             0x00,
             0x04,
             0x02,
+            0x00,
             0x05,
             0x00,
             0x01,
@@ -249,6 +257,7 @@ fn typings() {
             0x01,
             0x04,
             0x01,
+            0x00,
             0x07,
             0x06,
             0x00,
@@ -256,6 +265,7 @@ fn typings() {
             0x00,
             0x04,
             0x02,
+            0x00,
             0x05,
             0x00,
             0x01,
@@ -296,7 +306,7 @@ fn nested(label: &[u8], count: usize) {
 fn components(label: &[u8], count: usize) {
     let mut sheet = [0u8; 512];
     let mut n = put(&mut sheet, 0, 0);
-    n = put_chain(&mut sheet, n, count, &[4, 0, 0]);
+    n = put_chain(&mut sheet, n, count, &[4, 0, 0, 0]);
     show(label, first(&sheet, n), &[0]);
 }
 
@@ -310,6 +320,8 @@ fn main() {
     long_charter(b"charter of 4097 bytes", 4097);
     nested(b"64 nested", 63);
     nested(b"65 nested", 64);
+    show(b"purpose 15", &[0x00, 0x04, 0x00, 0x0F, 0x00], &[0x00]);
+    show(b"purpose 16", &[0x00, 0x04, 0x00, 0x10, 0x00], &[0x00]);
     components(b"32 components", 32);
     components(b"33 components", 33);
 }

@@ -15,7 +15,7 @@ fn print_entry(slack: &[u8], at: usize, between: &[u8]) -> usize {
     if slack.len() <= at {
         return at;
     }
-    if 26624 <= at {
+    if 27136 <= at {
         return at;
     }
     let mut text = [0u8; 4096];
@@ -28,10 +28,10 @@ fn print_entry(slack: &[u8], at: usize, between: &[u8]) -> usize {
     line.next
 }
 
-// Prints the entries of the slack. Each entry has at least four bytes, so 6,656 turns reach the end.
+// Prints the entries of the slack. Each entry has at least five bytes, so 5,428 turns reach the end.
 fn print_entries(slack: &[u8], between: &[u8]) {
     let mut at: usize = 0;
-    let mut turns: usize = 6656;
+    let mut turns: usize = 5428;
     while 0 < turns {
         at = print_entry(slack, at, between);
         turns -= 1;
@@ -54,7 +54,7 @@ fn print_explanation(explained: Answer, line: &[u8], between: &[u8]) {
 // (`slack-always-room` in the crate slack's proofs/SlackSizes.antt), and no sentence longer than the line (`sentence-length` in the crate
 // naming's proofs/SentenceLaws.antt).
 pub fn print_listing(sheet: &[u8], charter: &[u8], names: &[u8], between: &[u8]) {
-    let mut output = [0u8; 26624];
+    let mut output = [0u8; 27136];
     let mut line = [0u8; 230];
     let examined = examine(sheet, charter, names, &mut output, &mut line);
     let told = examined.told;

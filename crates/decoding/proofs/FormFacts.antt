@@ -12,13 +12,14 @@ use Rattle.reading.specs.declared.Dialect.the-variants.{Current as current}
 use Rattle.reading.specs.Dialects.{groupsIn}
 use Rattle.reading.specs.Read.{Read, got, refused, andThen, byteAt, below}
 use Rattle.reading.specs.Types.{typeAt}
-use Rattle.reading.specs.Forms.{member, limited, newFormIn, inputFormIn, outputForm, freshGroupIn, groupFormIn, componentFormIn, processFormIn, processAtIn, processAt, systemFormIn, systemAtIn, systemAt}
+use Rattle.reading.specs.Forms.{member, limited, newFormIn, inputFormIn, outputForm, freshGroupIn, groupFormIn, purposeIn, componentFormIn, processFormIn, processAtIn, processAt, systemFormIn, systemAtIn, systemAt}
 use Rattle.reading.specs.declared.Form.{Form}
-use Rattle.reading.specs.declared.Form.the-variants.{Nil, Par, Group, New, Component, Input, Output, Replicate}
+use Rattle.reading.specs.declared.Form.the-variants.{Nil, Par, New, Input, Output, Replicate}
 use Rattle.reading.proofs.Parts.{Every, of-found, every-then, every-cond, every-limited, parts, never, byte-found, below-found}
 use Rattle.reading.proofs.ReadLaws.{byte-place, process-local, system-local}
 use Rattle.reading.proofs.Local.{place-after}
 use Rattle.reading.proofs.TypeLaws.{type-fits, groups-64}
+use Rattle.reading.proofs.FormLaws.{purpose-small}
 use Rattle.decoding.proofs.WordLaws.{FormFits}
 
 -- A byte that was read is the byte at its place.
@@ -125,7 +126,8 @@ module _ (s : List ℕ) (at : ℕ) where
         (every-cond FormFits (eqb code 1) _ _ (every-limited FormFits _ at _ (λ _. tt))
         (every-cond FormFits (eqb code 2) _ _ (every-limited FormFits _ at _ (λ _. every-then FormFits (freshGroupIn current s next path) _ (λ g m f. small-group next f)))
         (every-cond FormFits (eqb code 3) _ _ (every-limited FormFits _ at _ (λ _. every-then FormFits (typeAt s next) _ (λ t m f. small-type s next f)))
-        (every-cond FormFits (eqb code 4) _ _ (every-limited FormFits _ at _ (λ _. every-then FormFits (freshGroupIn current s next path) _ (λ g m f. small-group next f)))
+        (every-cond FormFits (eqb code 4) _ _ (every-limited FormFits _ at _ (λ _. every-then FormFits (freshGroupIn current s next path) _ (λ g m f.
+        every-then FormFits (purposeIn current s m) _ (λ p n i. (omega (arith, purpose-small current s m i), small-group next f)))))
         tt)))))
 
     pub system-fits : {f : Form} {next : ℕ} → systemAt s at nest names path preceding ≡ got f next → FormFits f
@@ -139,15 +141,15 @@ module _ (s : List ℕ) (at : ℕ) where
     system-after e =
         omega (arith, place-after (at + 1) (λ b. systemAt b at nest names path preceding) (system-local current at nest names path preceding) s e)
 
-fresh-any : (s : List ℕ) (at : ℕ) (path : List ℕ) (c : ℕ → Form) {f : Form} {k : ℕ} → andThen (freshGroupIn current s at path) (λ g n. got (c g) n) ≡ got f k
-    → andThen (freshGroupIn current s at []) (λ g n. got (c g) n) ≡ got f k
+fresh-any : (s : List ℕ) (at : ℕ) (path : List ℕ) (c : ℕ → ℕ → Read Form) {f : Form} {k : ℕ} → andThen (freshGroupIn current s at path) c ≡ got f k
+    → andThen (freshGroupIn current s at []) c ≡ got f k
 unfolding freshGroupIn andThen member
 fresh-any s at path c {f} {k} e =
-    let h = parts (freshGroupIn current s at path) (λ g n. got (c g) n) e in
+    let h = parts (freshGroupIn current s at path) c e in
     let b = parts (below (groupsIn current) s at) (λ g n. cond (member g path) (refused 6 at) (got g n)) (h .first) in
     rw (b .first) (go (member (b .value) path) (b .rest) (h .rest))
   where
-    go : {g n g′ n′ : ℕ} (t : Bool) → cond t (refused 6 at) (got g n) ≡ got g′ n′ → got (c g′) n′ ≡ got f k → got (c g) n ≡ got f k
+    go : {g n g′ n′ : ℕ} (t : Bool) → cond t (refused 6 at) (got g n) ≡ got g′ n′ → c g′ n′ ≡ got f k → c g n ≡ got f k
     go true p q = never p
     go false p q = cc
 
@@ -157,8 +159,8 @@ system-roomy : (s : List ℕ) (at next : ℕ) (path : List ℕ) (level binder de
 unfolding systemFormIn groupFormIn componentFormIn
 system-roomy s at next path level binder deeper another code e =
     arm (eqb code 0) level at _ _ _ _ (λ h. h) (arm (eqb code 1) level at _ _ _ _ (λ h. h)
-    (arm (eqb code 2) deeper at _ _ _ _ (fresh-any s next path (λ g. Group g)) (arm (eqb code 3) binder at _ _ _ _ (λ h. h)
-    (arm (eqb code 4) another at _ _ _ _ (fresh-any s next path (λ g. Component (record { group = g }))) (λ h. h))))) e
+    (arm (eqb code 2) deeper at _ _ _ _ (fresh-any s next path _) (arm (eqb code 3) binder at _ _ _ _ (λ h. h)
+    (arm (eqb code 4) another at _ _ _ _ (fresh-any s next path _) (λ h. h))))) e
 
 pub system-any : (s : List ℕ) (at nest names : ℕ) (path : List ℕ) (preceding : ℕ) {f : Form} {k : ℕ} → systemAt s at nest names path preceding ≡ got f k
     → systemAt s at 1 0 [] 0 ≡ got f k

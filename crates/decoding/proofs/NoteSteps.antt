@@ -392,7 +392,7 @@ module _ (s : List ℕ) (at nest : ℕ) (place : Place) (here : systemAt s at 1 
       let read = rw f at h in
       let small : place .next < length s
       = process-in s (place .next) nest names (parts (readProcess nest s names (place .next)) (λ q k. got (compₛ own q) k) read .first) in
-      let fits : own .group < 536870912 = rw f at (system-fits s at 1 0 [] 0 here) in
+      let fits : (own .purpose < 256) × (own .group < 536870912) = rw f at (system-fits s at 1 0 [] 0 here) in
       under-any (λ forms. processIn nest forms (place .next)) whole (compₛ own) (readProcess nest s names (place .next))
       at (place .next) (packed item) before after r (system-after s at 1 0 [] 0 here)
       (λ a k i. process-later nest s names (place .next) i)

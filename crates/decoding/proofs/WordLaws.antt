@@ -11,13 +11,13 @@ use Rattle.reading.specs.declared.Form.the-variants.{Nil, Par, Group, New, Comp
 use Rattle.decoding.specs.Words.{digits, packedForm, formOf, unpacked}
 use Rattle.decoding.specs.Tables.{processOf, systemOf}
 
--- The fields of a form fit: an object has 29 binary digits, a channel eight.
+-- The fields of a form fit: an object or a group has 29 binary digits, a channel or a purpose eight.
 unfoldable pub FormFits : Form → Type 0
 FormFits Nil = Unit {0}
 FormFits Par = Unit {0}
 FormFits (Group g) = g < 536870912
 FormFits (New t) = t < 536870912
-FormFits (Component own) = own .group < 536870912
+FormFits (Component own) = (own .purpose < 256) × (own .group < 536870912)
 FormFits (Input a) = (a .channel < 256) × (a .object < 536870912)
 FormFits (Output a) = (a .channel < 256) × (a .object < 536870912)
 FormFits Replicate = Unit {0}
@@ -63,8 +63,11 @@ module _ (next second : ℕ) (n : next < 8192) (m : second < 8192) where
   form-back Par h = rw (code-back 1 0 second next (lit< tt) (lit< tt) (omega arith) n)
   form-back (Group g) h = rw (code-back 2 0 g next (lit< tt) (lit< tt) h n, object-back 2 0 g next (lit< tt) (lit< tt) h n)
   form-back (New t) h = rw (code-back 3 0 t next (lit< tt) (lit< tt) h n, object-back 3 0 t next (lit< tt) (lit< tt) h n)
-  form-back (Component own) h =
-      rw (code-back 4 0 (own .group) next (lit< tt) (lit< tt) h n, object-back 4 0 (own .group) next (lit< tt) (lit< tt) h n)
+  form-back (Component own) h = rw (
+    code-back 4 (own .purpose) (own .group) next (lit< tt) (h .0) (h .1) n,
+    channel-back 4 (own .purpose) (own .group) next (lit< tt) (h .0) (h .1) n,
+    object-back 4 (own .purpose) (own .group) next (lit< tt) (h .0) (h .1) n,
+  )
   form-back (Input a) h = rw (
     code-back 5 (a .channel) (a .object) next (lit< tt) (h .0) (h .1) n,
     channel-back 5 (a .channel) (a .object) next (lit< tt) (h .0) (h .1) n,
@@ -83,7 +86,7 @@ module _ (next second : ℕ) (n : next < 8192) (m : second < 8192) where
   place-back Par h = next-back 1 0 second next (lit< tt) (lit< tt) (omega arith) n
   place-back (Group g) h = next-back 2 0 g next (lit< tt) (lit< tt) h n
   place-back (New t) h = next-back 3 0 t next (lit< tt) (lit< tt) h n
-  place-back (Component own) h = next-back 4 0 (own .group) next (lit< tt) (lit< tt) h n
+  place-back (Component own) h = next-back 4 (own .purpose) (own .group) next (lit< tt) (h .0) (h .1) n
   place-back (Input a) h = next-back 5 (a .channel) (a .object) next (lit< tt) (h .0) (h .1) n
   place-back (Output a) h = next-back 6 (a .channel) (a .object) next (lit< tt) (h .0) (h .1) n
   place-back Replicate h = next-back 7 0 0 next (lit< tt) (lit< tt) (lit< tt) n

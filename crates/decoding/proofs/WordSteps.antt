@@ -30,7 +30,7 @@ module _ (item : Item) {w : ℕ} where
   unfolding packedForm
   pack-new t e h = rw e h
 
-  pub pack-component : (own : OwnFields) → item .form ≡ Component own → w ≡ digits 4 0 (own .group) (item .next) → w ≡ packed item
+  pub pack-component : (own : OwnFields) → item .form ≡ Component own → w ≡ digits 4 (own .purpose) (own .group) (item .next) → w ≡ packed item
   unfolding packedForm
   pack-component own e h = rw e h
 
@@ -62,7 +62,7 @@ module _ (code channel object : ℕ) where
   unfolding formOf
   code-new e = rw e
 
-  pub code-component : code ≡ 4 → Component (record { group = object }) ≡ form
+  pub code-component : code ≡ 4 → Component (record { group = object; purpose = channel }) ≡ form
   unfolding formOf
   code-component e = rw e
 

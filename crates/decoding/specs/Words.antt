@@ -17,7 +17,7 @@ packedForm Nil next second = digits 0 0 0 next
 packedForm Par next second = digits 1 0 second next
 packedForm (Group g) next second = digits 2 0 g next
 packedForm (New t) next second = digits 3 0 t next
-packedForm (Component own) next second = digits 4 0 (own .group) next
+packedForm (Component own) next second = digits 4 (own .purpose) (own .group) next
 packedForm (Input a) next second = digits 5 (a .channel) (a .object) next
 packedForm (Output a) next second = digits 6 (a .channel) (a .object) next
 packedForm Replicate next second = digits 7 0 0 next
@@ -31,7 +31,7 @@ formOf code channel object =
     cond (eqb code 1) Par
     (cond (eqb code 2) (Group object)
     (cond (eqb code 3) (New object)
-    (cond (eqb code 4) (Component (record { group = object }))
+    (cond (eqb code 4) (Component (record { group = object; purpose = channel }))
     (cond (eqb code 5) (Input (record { channel = channel; object = object }))
     (cond (eqb code 6) (Output (record { channel = channel; object = object }))
     (cond (eqb code 7) Replicate Nil))))))

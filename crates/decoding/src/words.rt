@@ -1,5 +1,5 @@
 // A form as a number, each field in digits of its own. The last digit is the form's code; a parallel form has the place of its
-// second part where others have an object.
+// second part where others have an object, a component its group, and its purpose where others have a channel.
 ghost use mathlib.Core.Path.{_≡_};
 ghost use Rattle.decoding.specs.Words.{digits, packed, formOf, unpacked, itemAt};
 use crate::Item;
@@ -26,7 +26,7 @@ pub fn pack(item: Item) -> usize
         Form::Par => number(1, 0, item.second, next),
         Form::Group(g) => number(2, 0, g, next),
         Form::New(t) => number(3, 0, t, next),
-        Form::Component(own) => number(4, 0, own.group, next),
+        Form::Component(own) => number(4, own.purpose, own.group, next),
         Form::Input(act) => number(5, act.channel, act.object, next),
         Form::Output(act) => number(6, act.channel, act.object, next),
         Form::Replicate => number(7, 0, 0, next),
@@ -41,7 +41,10 @@ fn form_of(code: usize, channel: usize, object: usize) -> Form
         1 => Form::Par,
         2 => Form::Group(object),
         3 => Form::New(object),
-        4 => Form::Component(OwnFields { group: object }),
+        4 => Form::Component(OwnFields {
+            group: object,
+            purpose: channel,
+        }),
         5 => Form::Input(Act { channel, object }),
         6 => Form::Output(Act { channel, object }),
         7 => Form::Replicate,

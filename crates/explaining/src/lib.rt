@@ -68,7 +68,7 @@ fn explain_missing(
     components: usize,
     line: &mut [u8],
 ) -> Answer
-    requires { ⌜ (components ≤ 32) × Bounded trees × (length (now nodes) ≡ 320) ⌝ }
+    requires { ⌜ (components ≤ 32) × Bounded trees × (length (now nodes) ≡ 384) ⌝ }
     ensures { λ r. ⌜ ((policy : List Tree) → AllHeld (now (charter .entry)) (now (nodes .entry)) trees 0 policy
         → ((n : ℕ) → n < components → Orderly (now (table .entry)) n)
         → Says (now (names .entry)) (firstUncovered policy (tableRequired (now (table .entry)) components) (tableEntries (now (table .entry)) components))
@@ -104,7 +104,7 @@ fn explain_judged(
     judged: Judged,
     line: &mut [u8],
 ) -> Answer
-    requires { ⌜ (judged .components ≤ 32) × (11 < judged .fault → Bounded (judged .trees)) × (length (now nodes) ≡ 320) ⌝ }
+    requires { ⌜ (judged .components ≤ 32) × (11 < judged .fault → Bounded (judged .trees)) × (length (now nodes) ≡ 384) ⌝ }
     ensures { λ r. ⌜ ((sheet : List ℕ) → Reads sheet (now (charter .entry))
         → Judges sheet (now (charter .entry)) (now (table .entry)) (now (nodes .entry)) judged
         → Explained sheet (now (charter .entry)) (now (names .entry)) (now (line .entry)) (now (line .exit)) r) ⌝ }
@@ -136,7 +136,7 @@ fn examine_read(
     output: &mut [u8],
     line: &mut [u8],
 ) -> Examined
-    requires { ⌜ Ready (now sheet) (now charter) (now table) × (length (now nodes) ≡ 320) ⌝ }
+    requires { ⌜ Ready (now sheet) (now charter) (now table) × (length (now nodes) ≡ 384) ⌝ }
     ensures { λ r. ⌜ ExaminedAs (now (sheet .entry)) (now (charter .entry)) (now (names .entry)) (now (output .entry)) (now (output .exit))
         (now (line .entry)) (now (line .exit)) r ⌝ }
 {
@@ -167,12 +167,12 @@ pub fn examine(
             explained: Answer::Refused(question),
         };
     };
-    let mut nodes = [0usize; 320];
+    let mut nodes = [0usize; 384];
     if components.value <= 4 {
-        let mut few = [0u16; 840];
+        let mut few = [0u16; 844];
         return examine_read(sheet, charter, names, &mut few, &mut nodes, output, line);
     }
-    let mut table = [0u16; 6720];
+    let mut table = [0u16; 6752];
     examine_read(sheet, charter, names, &mut table, &mut nodes, output, line)
 }
 
@@ -185,7 +185,7 @@ fn explain_read(
     nodes: &mut [usize],
     line: &mut [u8],
 ) -> Answer
-    requires { ⌜ Ready (now sheet) (now charter) (now table) × (length (now nodes) ≡ 320) ⌝ }
+    requires { ⌜ Ready (now sheet) (now charter) (now table) × (length (now nodes) ≡ 384) ⌝ }
     ensures { λ r. ⌜ Explained (now (sheet .entry)) (now (charter .entry)) (now (names .entry)) (now (line .entry)) (now (line .exit)) r ⌝ }
 {
     let judged = judge_read(sheet, charter, table, nodes);
@@ -201,11 +201,11 @@ pub fn explain(sheet: &[u8], charter: &[u8], names: &[u8], line: &mut [u8]) -> A
     let NumberRead::Found(components) = read else {
         return Answer::Refused(refusal(read).question);
     };
-    let mut nodes = [0usize; 320];
+    let mut nodes = [0usize; 384];
     if components.value <= 4 {
-        let mut few = [0u16; 840];
+        let mut few = [0u16; 844];
         return explain_read(sheet, charter, names, &mut few, &mut nodes, line);
     }
-    let mut table = [0u16; 6720];
+    let mut table = [0u16; 6752];
     explain_read(sheet, charter, names, &mut table, &mut nodes, line)
 }

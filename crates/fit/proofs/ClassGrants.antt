@@ -1,9 +1,10 @@
--- A grant depends only on which groups stand in a path, not on their order: components that share a count are granted the same.
+-- A grant depends only on the purpose and on which groups stand in a path, not on their order: components that share a count are granted
+-- the same.
 use Prim.Native.Nat.{ℕ}
 use mathlib.Core.Bool.{Bool, true, false, cond, _||_}
-use mathlib.Core.List.{List, [], _∷_}
+use mathlib.Core.List.{List, [], _∷_, map}
 use mathlib.Core.Option.{Option, some, none as nothing}
-use mathlib.Core.Path.{_≡_, refl, sym, ap, _∙_}
+use mathlib.Core.Path.{_≡_, refl, sym, ap, ap₂, _∙_}
 use native.Mathlib.Omega.{arith}
 use lib.Dec.{eqb}
 use borrow.Author.Tests.{eqb-true, eqb-false, eq-eqb, ne-eqb}
@@ -12,11 +13,11 @@ use Rattle.inference.specs.Acts.{Component}
 use Rattle.inference.specs.Classes.{shares}
 use Rattle.inference.specs.Counts.{Count, _⊕_}
 use Rattle.inference.specs.Lists.{any}
-use Rattle.inference.proofs.ClassLaws.{or-first, or-second, same-truth, shares-member}
+use Rattle.inference.proofs.ClassLaws.{or-first, or-second, same-truth, shares-member, shares-purpose}
 use Rattle.inference.proofs.CountLaws.{join-comm, join-assoc}
 use Rattle.interface.proofs.TableLaws.{NoneTwice, twice-none, twice-more}
 use Rattle.policy.specs.Syntax.{Nodes, none, more, Tree, Node, Head, hasBit, alone}
-use Rattle.fit.specs.Grants.{reachedAmong, reached, treeFor, reachedIn, reachedFor, givenBy, flagGranted, listed, joined, countGranted}
+use Rattle.fit.specs.Grants.{reachedAmong, reached, treeFor, reachedIn, reachedFor, forPurpose, grantingTo, givenBy, flagGranted, listed, joined, countGranted}
 
 -- Two paths in which the same groups stand reach the same nodes.
 module _ (xs ys : List ℕ) (same : (g : ℕ) → member g xs ≡ member g ys) where
@@ -33,6 +34,13 @@ module _ (xs ys : List ℕ) (same : (g : ℕ) → member g xs ≡ member g ys) w
   pub reached-for : (policy : List Tree) (kind : ℕ) → reachedFor policy kind xs ≡ reachedFor policy kind ys
   unfolding reachedFor
   reached-for policy kind = reached-in (treeFor kind policy)
+
+-- So the same nodes grant to components that share.
+granting-class : (policy : List Tree) (kind : ℕ) (c d : Component) → shares c d ≡ true → grantingTo policy kind c ≡ grantingTo policy kind d
+unfolding grantingTo
+granting-class policy kind c d h =
+    ap₂ (λ (purpose : ℕ) (hs : List Head). map (forPurpose purpose) hs) (shares-purpose c d h)
+    (reached-for (c .path) (d .path) (shares-member c d h) policy kind)
 
 -- What is true of a group in a path is true of some group in it.
 any-at : (p : ℕ → Bool) (g : ℕ) (ys : List ℕ) → member g ys ≡ true → p g ≡ true → any p ys ≡ true
@@ -57,8 +65,8 @@ pub flag-class : (v : ℕ) (policy : List Tree) (kind : ℕ) (c d : Component) �
 unfolding flagGranted
 flag-class v policy kind c d h =
     let same : (g : ℕ) → member g (c .path) ≡ member g (d .path) = shares-member c d h in
-    let has : ℕ → Bool = λ g. hasBit v (givenBy g (reachedFor policy kind (d .path)) .map) in
-    rw (reached-for (c .path) (d .path) same policy kind)
+    let has : ℕ → Bool = λ g. hasBit v (givenBy g (grantingTo policy kind d) .map) in
+    rw (granting-class policy kind c d h)
     (same-truth (any has (c .path)) (any has (d .path))
     (any-among has (c .path) (d .path) (λ g m. sym (same g) ∙ m)) (any-among has (d .path) (c .path) (λ g m. same g ∙ m)))
 
@@ -133,5 +141,5 @@ pub count-class : (h : ℕ) (policy : List Tree) (kind : ℕ) (c d : Component) 
     → countGranted h policy kind c ≡ countGranted h policy kind d
 unfolding countGranted
 count-class h policy kind c d once other e =
-    rw (reached-for (c .path) (d .path) (shares-member c d e) policy kind)
-    (joined-same h (reachedFor policy kind (d .path)) once (d .path) other (shares-member c d e))
+    rw (granting-class policy kind c d e)
+    (joined-same h (grantingTo policy kind d) once (d .path) other (shares-member c d e))

@@ -13,7 +13,7 @@ use borrow.Author.Tests.{eq-eqb, ne-eqb, lt-ltb, le-ltb, ltb-false, lt-leb, not-
 use Rattle.inference.specs.Lists.{every, any, only, rising}
 use Rattle.inference.specs.Counts.{fin, unlimited, atMost}
 use Rattle.inference.specs.Interface.{Permission, reading, writing, accessing, bit}
-use Rattle.inference.specs.Rows.{isSet, cell, groupCount, groupAt, pathAt}
+use Rattle.inference.specs.Rows.{isSet, cell, groupCount, groupAt, pathAt, purposeAt}
 use Rattle.sharing.specs.Sums.{neededAt, sumCount}
 use Rattle.interface.proofs.WriteLaws.{rising-next, rising-done}
 use Rattle.policy.specs.Syntax.{hasBit}
@@ -28,7 +28,7 @@ use Rattle.fit.specs.declared.Sums.{Sums}
 use Rattle.fit.specs.declared.Covering.{Covering}
 use Rattle.fit.specs.Satisfies.{Verdict, flag, counts, holds}
 use Rattle.fit.specs.Uncovered.{permissionOf}
-use Rattle.fit.specs.Givers.{givenAt, joinedAt, giversIn, indexOf}
+use Rattle.fit.specs.Givers.{givenAt, grantingRows, joinedAt, giversIn, indexOf}
 use Rattle.fit.proofs.GrantSteps.{past-end, none-left, one-left}
 use Rattle.fit.specs.Covers.{flagVerdicts, isLacking, flagsThen, sumVerdict, sumVerdicts, verdictsOf, allGiven, flagGiven, flagAt, flagsAt, placeVerdict, placesFrom, verdictsAt, numberOf, lackingIn, spanFor, verdictsFor, CoveringIs}
 
@@ -218,23 +218,27 @@ module _ (r : Covering) (a b d : Bool) where
           g ∙ sym (not-lacking (r .flags .access) (sym e″ ∙ h″) accessing _) ∙ sym (not-lacking (r .flags .write) (sym e′ ∙ h′) writing _)
           ∙ sym (not-lacking (r .flags .read) (sym e ∙ h) reading _)
 
--- the rows that were found are those of the path in the table's row
-pub covers : (c nodes rows path path′ table sums : List ℕ) (n k start len : ℕ) → path ≡ path′ → ((b : List ℕ) → rows ≡ giversIn b nodes path start len)
+-- the rows that were found are those of the path in the table's row, and of these the ones that grant for its purpose
+pub covers : (c nodes rows granting path path′ table sums : List ℕ) (n k start len purpose : ℕ) → path ≡ path′ → purpose ≡ purposeAt table n
+    → ((b : List ℕ) → rows ≡ giversIn b nodes path start len) → granting ≡ grantingRows purpose nodes rows
     → (a : Bool) → a ≡ every (λ row. ltb row 64) rows → (f : Flags)
-    → ((b : List ℕ) (rest : List Verdict) → flagsThen f rest ≡ flagsAt b nodes rows table n k rest)
-    → (s : Sums) → sumVerdicts s ≡ placesFrom 0 (groupCount table n) c nodes rows table sums n k
+    → ((b : List ℕ) (rest : List Verdict) → flagsThen f rest ≡ flagsAt b nodes granting table n k rest)
+    → (s : Sums) → sumVerdicts s ≡ placesFrom 0 (groupCount table n) c nodes granting table sums n k
     → CoveringIs c nodes (giversIn c nodes path′ start len) table sums n k (record { reached = a; flags = f; sums = s })
 unfolding allGiven verdictsOf verdictsAt
-covers c nodes rows path path′ table sums n k start len is given a e f flags s g =
+covers c nodes rows granting path path′ table sums n k start len purpose is for given grants a e f flags s g =
     let here : rows ≡ giversIn c nodes path′ start len = given c ∙ ap (λ (p : List ℕ). giversIn c nodes p start len) is in
-    record { reached = rw (← here) e; verdicts = rw (← here) (flags c (sumVerdicts s) ∙ ap (flagsAt c nodes rows table n k) g) }
+    record {
+      reached = rw (← here) e;
+      verdicts = rw (← here, ← for, ← grants) (flags c (sumVerdicts s) ∙ ap (flagsAt c nodes granting table n k) g);
+    }
 
 -- A table of another length is never lent.
-pub no-table : (c nodes rows table sums : List ℕ) (n k : ℕ) (r : Covering) → length nodes ≡ 320 → (length nodes ≡ 320 → ⊥)
+pub no-table : (c nodes rows table sums : List ℕ) (n k : ℕ) (r : Covering) → length nodes ≡ 384 → (length nodes ≡ 384 → ⊥)
     → CoveringIs c nodes rows table sums n k r
 no-table c nodes rows table sums n k r e f = absurd (f e)
 
-pub no-sums : (nodes : List ℕ) (r : Covering) → length nodes ≡ 320 → (length nodes ≡ 320 → ⊥) → r .sums .len ≤ 8
+pub no-sums : (nodes : List ℕ) (r : Covering) → length nodes ≡ 384 → (length nodes ≡ 384 → ⊥) → r .sums .len ≤ 8
 no-sums nodes r e f = absurd (f e)
 
 -- in the rows of the kind's tree

@@ -23,6 +23,7 @@ use Rattle.inference.specs.Rows.{
   groupCount,
   groupAt,
   pathAt,
+  purposeAt,
   disclosuresAt,
   entryAt,
   usedKinds,
@@ -40,7 +41,7 @@ use Rattle.policy.specs.Syntax.{Tree}
 use Rattle.fit.specs.Satisfies.{pathReached, Verdict, flag, counts, verdictOf, covering, holds, grantsOne, covered}
 use Rattle.policy.specs.declared.Trees.{Trees}
 use Rattle.policy.specs.Loads.{AllHeld, Bounded, startOf}
-use Rattle.fit.specs.Givers.{joinedAt, giversIn, indexOf}
+use Rattle.fit.specs.Givers.{grantingRows, joinedAt, giversIn, indexOf}
 use Rattle.fit.specs.Uncovered.{first, permissionOf, orNone, firstMissing}
 use Rattle.fit.specs.Covers.{verdictsFor, allGiven, flagGiven, flagAt, flagsAt, placeVerdict, placesFrom, verdictsAt, numberOf, lackingIn, missingAt, permissionAt, missingOf, rowsFault}
 use Rattle.fit.specs.Search.{Gives}
@@ -188,13 +189,13 @@ module _ (policy : List Tree) (required : Required) (table : List ℕ) (n k : �
     unfolding firstMissing
     missing-number = lacking-told all-told
 
-  module _ (c nodes rows : List ℕ) (gives : Gives c nodes policy k (pathAt table n) rows) (up : Orderly table n)
+  module _ (c nodes rows : List ℕ) (gives : Gives c nodes policy k (pathAt table n) (purposeAt table n) rows) (up : Orderly table n)
       (sums : List ℕ) (sum : Summed table sums required n k) where
     -- the verdict on a group, by the sums and the rows
     group-rows : (i : ℕ) → i < groupCount table n → verdict (disclosing (groupAt table n i)) ≡ placeVerdict c nodes rows table sums n k i
     unfolding verdict placeVerdict
     group-rows i l =
-        on-disclosing gives required (entryAt table n k) (unfold entryAt in refl) (unfold entryAt in refl) (groupAt table n i)
+        on-disclosing gives required (entryAt table n k) (unfold entryAt in refl) (unfold entryAt in refl) (unfold entryAt in refl) (groupAt table n i)
         ∙ ap (λ (x : Count). counts (groupAt table n i) x (joinedAt (groupAt table n i) c nodes rows)) (sum .holds i l)
 
     groups-rows : (from m : ℕ) → from + m ≤ groupCount table n → groupsOf (rising from m) ≡ placesFrom from m c nodes rows table sums n k
@@ -222,9 +223,9 @@ module _ (policy : List Tree) (required : Required) (table : List ℕ) (n k : �
     covering-rows =
         covering-parts
         ∙ rw (
-          on-reading gives required (entryAt table n k) (unfold entryAt in refl) (unfold entryAt in refl),
-          on-writing gives required (entryAt table n k) (unfold entryAt in refl) (unfold entryAt in refl),
-          on-accessing gives required (entryAt table n k) (unfold entryAt in refl) (unfold entryAt in refl),
+          on-reading gives required (entryAt table n k) (unfold entryAt in refl) (unfold entryAt in refl) (unfold entryAt in refl),
+          on-writing gives required (entryAt table n k) (unfold entryAt in refl) (unfold entryAt in refl) (unfold entryAt in refl),
+          on-accessing gives required (entryAt table n k) (unfold entryAt in refl) (unfold entryAt in refl) (unfold entryAt in refl),
           groups-rows 0 (groupCount table n) (omega arith),
         ) refl
 
@@ -244,8 +245,9 @@ module _ (policy : List Tree) (required : Required) (table : List ℕ) (n k : �
     fault-rows =
         ap₂ (λ (a b : Bool). cond a (cond b 19 18) 17)
         (entry-reached c nodes policy k start end tree (pathAt table n) rows given (entryAt table n k) (unfold entryAt in refl) (unfold entryAt in refl))
-        (covered-rows c nodes rows (tree-gives c nodes policy k start end tree (pathAt table n) rows given) up sums sum)
-        ∙ split (every (λ row. ltb row 64) rows) (ltb (missingAt c nodes rows table sums n k) 67)
+        (covered-rows c nodes (grantingRows (purposeAt table n) nodes rows) (tree-gives c nodes policy k start end tree (pathAt table n) rows given (purposeAt table n))
+        up sums sum)
+        ∙ split (every (λ row. ltb row 64) rows) (ltb (missingAt c nodes (grantingRows (purposeAt table n) nodes rows) table sums n k) 67)
       where
         split : (a b : Bool) → _≡_ {A = ℕ} (cond a (cond (not b) 19 18) 17) (cond a (cond b 18 19) 17)
         split true true = refl
@@ -258,7 +260,7 @@ pub verdicts-for : (c nodes : List ℕ) (trees : Trees) (policy : List Tree) →
     → verdictsFor c nodes trees table sums n k ≡ covering policy required (entryAt table n k)
 unfolding verdictsFor
 verdicts-for c nodes trees policy held few kinds table sums n k up required sum =
-    sym (covering-rows policy required table n k c nodes _ (span-gives c nodes trees policy held few kinds k (pathAt table n) _ refl) up sums sum)
+    sym (covering-rows policy required table n k c nodes _ (span-gives c nodes trees policy held few kinds k (pathAt table n) _ refl (purposeAt table n)) up sums sum)
 
 -- The first question that an entry fails; a kind that is not marked has no entry.
 abbrev pub kindFault : List Tree → Required → List ℕ → ℕ → ℕ → ℕ

@@ -11,11 +11,11 @@ use borrow.Author.Tests.{le-ltb, lt-ltb}
 use lib.Dec.{ltb, eqb}
 use Rattle.reading.specs.Forms.{member}
 use Rattle.inference.specs.Lists.{every, any, rising}
-use Rattle.policy.specs.Syntax.{Permissions, Node, Nodes, none, more, Head, alone, hasBit}
+use Rattle.policy.specs.Syntax.{Permissions, Node, Nodes, none, more, Head, alone, hasBit, bitAt}
 use Rattle.policy.specs.WellFormed.{groupsAt}
-use Rattle.fit.specs.Grants.{reachedAmong, reached, givenBy, joined}
-use Rattle.policy.specs.Rows.{Flat, nodeAt, flatOf, flats, flatten}
-use Rattle.fit.specs.Givers.{reachedIn, giverIn, givenAt, joinedAt, giversIn}
+use Rattle.fit.specs.Grants.{reachedAmong, reached, noPermissions, onlyFor, forPurpose, givenBy, joined}
+use Rattle.policy.specs.Rows.{Flat, nodeAt, permissionsOf, flatOf, flats, flatten}
+use Rattle.fit.specs.Givers.{reachedIn, giverIn, givenAt, grantingRow, grantingRows, joinedAt, giversIn}
 
 -- Rows that begin at a depth of at most d, or end.
 data Within (d : ℕ) : List Flat → Type 0 where
@@ -140,6 +140,43 @@ unfolding any
 any-map f p q h [] = refl
 any-map f p q h (g ∷ gs) = rw (h g, any-map f p q h gs)
 
+-- What a row gives for a purpose, and what a group gives.
+none-for : (purpose : ℕ) → onlyFor purpose noPermissions ≡ noPermissions
+unfolding onlyFor
+none-for purpose = go (bitAt purpose 0)
+  where
+    go : (b : Bool) → cond b noPermissions noPermissions ≡ noPermissions
+    go true = refl
+    go false = refl
+
+row-for : (c nodes : List ℕ) (purpose row : ℕ) → givenAt c nodes (grantingRow purpose nodes row) ≡ onlyFor purpose (givenAt c nodes row)
+unfolding givenAt grantingRow
+row-for c nodes purpose row = go (ltb row 64) refl
+  where
+    go : (b : Bool) → ltb row 64 ≡ b
+        → givenAt c nodes (cond b (cond (bitAt purpose (nodeAt nodes row .permissions .purposes)) row 64) 64)
+        ≡ onlyFor purpose (cond b (permissionsOf c (nodeAt nodes row .permissions)) noPermissions)
+    go true e = unfold onlyFor permissionsOf in split (bitAt purpose (nodeAt nodes row .permissions .purposes))
+      where
+        split : (t : Bool) → givenAt c nodes (cond t row 64) ≡ cond t (permissionsOf c (nodeAt nodes row .permissions)) noPermissions
+        split true = unfold givenAt in rw e
+        split false = unfold givenAt in refl
+    go false e = unfold givenAt in sym (none-for purpose)
+
+pub given-for : (purpose g : ℕ) (hs : List Head) → givenBy g (map (forPurpose purpose) hs) ≡ onlyFor purpose (givenBy g hs)
+unfolding givenBy forPurpose
+given-for purpose g [] = sym (none-for purpose)
+given-for purpose g (h ∷ hs) = go (eqb (h .group) g) (given-for purpose g hs)
+  where
+    go : (b : Bool) → givenBy g (map (forPurpose purpose) hs) ≡ onlyFor purpose (givenBy g hs)
+        → cond b (onlyFor purpose (h .permissions)) (givenBy g (map (forPurpose purpose) hs)) ≡ onlyFor purpose (cond b (h .permissions) (givenBy g hs))
+    go true rest = refl
+    go false rest = rest
+
+map-twice : (f h : ℕ → ℕ) (xs : List ℕ) → map f (map h xs) ≡ map (λ x. f (h x)) xs
+map-twice f h [] = refl
+map-twice f h (x ∷ xs) = ap (λ (l : List ℕ). f (h x) ∷ l) (map-twice f h xs)
+
 joined-map : (h : ℕ) (c nodes : List ℕ) (hs : List Head) (f : ℕ → ℕ) → ((g : ℕ) → givenAt c nodes (f g) ≡ givenBy g hs)
     → (gs : List ℕ) → joinedAt h c nodes (map f gs) ≡ joined h hs gs
 unfolding joinedAt joined
@@ -166,10 +203,24 @@ module _ (c nodes path : List ℕ) (start n : ℕ) (root : Node) (fits : start +
   pub all-found : every (λ row. ltb row 64) (giversIn c nodes path start n) ≡ every (λ g. member g (groupsAt (reached path root))) path
   all-found = every-map (λ g. giverIn path g 0 start (flats c nodes start n)) (λ row. ltb row 64) (λ g. member g (groupsAt (reached path root))) giver-found path
 
-  pub flag-given : (v : ℕ) → any (λ row. hasBit v (givenAt c nodes row .map)) (giversIn c nodes path start n) ≡ any (λ g. hasBit v (givenBy g (reached path root) .map)) path
-  flag-given v =
-      any-map (λ g. giverIn path g 0 start (flats c nodes start n)) (λ row. hasBit v (givenAt c nodes row .map)) (λ g. hasBit v (givenBy g (reached path root) .map))
-      (λ g. ap (λ p. hasBit v (p .map)) (giver-gives g)) path
+  -- and for a purpose
+  giver-grants : (purpose g : ℕ) → givenAt c nodes (grantingRow purpose nodes (giverIn path g 0 start (flats c nodes start n)))
+      ≡ givenBy g (map (forPurpose purpose) (reached path root))
+  giver-grants purpose g =
+      row-for c nodes purpose (giverIn path g 0 start (flats c nodes start n)) ∙ ap (onlyFor purpose) (giver-gives g) ∙ sym (given-for purpose g (reached path root))
 
-  pub counts-given : (h : ℕ) → joinedAt h c nodes (giversIn c nodes path start n) ≡ joined h (reached path root) path
-  counts-given h = joined-map h c nodes (reached path root) (λ g. giverIn path g 0 start (flats c nodes start n)) giver-gives path
+  abbrev granter : ℕ → ℕ → ℕ
+  granter purpose g = grantingRow purpose nodes (giverIn path g 0 start (flats c nodes start n))
+
+  pub flag-given : (purpose v : ℕ) → any (λ row. hasBit v (givenAt c nodes row .map)) (grantingRows purpose nodes (giversIn c nodes path start n))
+      ≡ any (λ g. hasBit v (givenBy g (map (forPurpose purpose) (reached path root)) .map)) path
+  flag-given purpose v =
+      ap (any (λ row. hasBit v (givenAt c nodes row .map))) (map-twice (grantingRow purpose nodes) (λ g. giverIn path g 0 start (flats c nodes start n)) path)
+      ∙ any-map (granter purpose) (λ row. hasBit v (givenAt c nodes row .map)) (λ g. hasBit v (givenBy g (map (forPurpose purpose) (reached path root)) .map))
+      (λ g. ap (λ p. hasBit v (p .map)) (giver-grants purpose g)) path
+
+  pub counts-given : (purpose h : ℕ) → joinedAt h c nodes (grantingRows purpose nodes (giversIn c nodes path start n))
+      ≡ joined h (map (forPurpose purpose) (reached path root)) path
+  counts-given purpose h =
+      ap (joinedAt h c nodes) (map-twice (grantingRow purpose nodes) (λ g. giverIn path g 0 start (flats c nodes start n)) path)
+      ∙ joined-map h c nodes (map (forPurpose purpose) (reached path root)) (granter purpose) (giver-grants purpose) path

@@ -16,10 +16,10 @@ use Rattle.inference.specs.Rows.{countOf}
 use Rattle.inference.proofs.CountLaws.{join-assoc, join-nothing, nothing-join}
 use Rattle.sharing.specs.Sums.{added, sumCount}
 use Rattle.sharing.proofs.SharingLaws.{Small, Joined, join-small}
-use Rattle.policy.specs.Syntax.{hasBit}
+use Rattle.policy.specs.Syntax.{hasBit, bitAt}
 use Rattle.fit.specs.Grants.{storedCount, listed}
 use Rattle.policy.specs.Rows.{nodeAt, wordIn, itemsAt, permissionsOf}
-use Rattle.fit.specs.Givers.{givenAt, joinedAt, indexOf}
+use Rattle.fit.specs.Givers.{givenAt, grantingRow, joinedAt, indexOf}
 use Rattle.policy.specs.declared.Node.{Node}
 use Rattle.policy.specs.declared.Permissions.{Permissions as Stored}
 use Rattle.policy.proofs.NodeLaws.{node-steps}
@@ -88,7 +88,7 @@ pub row-given : (nodes : List ℕ) (row : ℕ) (n : Node) → row < 64 → n ≡
 unfolding givenAt
 row-given nodes row n h e c = rw (lt-ltb row 64 h, e)
 
-pub none-given : (nodes : List ℕ) (row : ℕ) → 64 ≤ row → (c : List ℕ) → permissionsOf c (record { map = 0; list = 0; count = 0 }) ≡ givenAt c nodes row
+pub none-given : (nodes : List ℕ) (row : ℕ) → 64 ≤ row → (c : List ℕ) → permissionsOf c (record { map = 0; list = 0; count = 0; purposes = 0 }) ≡ givenAt c nodes row
 unfolding givenAt permissionsOf itemsAt
 none-given nodes row h c = rw (le-ltb row 64 h)
 
@@ -103,6 +103,23 @@ unfolding permissionsOf
 count-row c nodes row group p n e q = rw (← e c) q
 
 pub ruleset given-steps = (node-steps, row-given, none-given, flag-row, count-row)
+
+-- A row that grants for a purpose.
+module _ (nodes : List ℕ) (row purpose : ℕ) where
+  pub grants-none : 64 ≤ row → 64 ≡ grantingRow purpose nodes row
+  unfolding grantingRow
+  grants-none h = rw (le-ltb row 64 h)
+
+  module _ (n : Node) (h : row < 64) (e : n ≡ nodeAt nodes row) (b : Bool) (q : b ≡ bitAt purpose (n .permissions .purposes)) where
+    pub grants-row : b ≡ true → row ≡ grantingRow purpose nodes row
+    unfolding grantingRow
+    grants-row t = rw (lt-ltb row 64 h, ← e, ← q, t)
+
+    pub grants-not : b ≡ false → 64 ≡ grantingRow purpose nodes row
+    unfolding grantingRow
+    grants-not t = rw (lt-ltb row 64 h, ← e, ← q, t)
+
+pub ruleset purpose-steps = (node-steps, grants-none, grants-row, grants-not)
 
 -- Whether a row gives a flag.
 pub record FlagSoFar (value : ℕ) (nodes : List ℕ) (n : ℕ) (l : List ℕ) (i : ℕ) : Type 0 where

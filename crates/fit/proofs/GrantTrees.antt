@@ -15,12 +15,12 @@ use Rattle.inference.specs.Counts.{Count, _⊕_}
 use Rattle.inference.specs.Interface.{Entry, reading, writing, accessing, disclosing, Required, needed}
 use Rattle.policy.specs.Syntax.{Node, Tree, hasBit, alone}
 use Rattle.policy.specs.WellFormed.{groupsAt}
-use Rattle.fit.specs.Grants.{treeFor, reached, reachedIn, reachedFor, givenBy, flagGranted, listed, joined, countGranted}
+use Rattle.fit.specs.Grants.{treeFor, reached, reachedIn, reachedFor, grantingTo, givenBy, flagGranted, listed, joined, countGranted}
 use Rattle.fit.specs.Covers.{spanFor}
 use Rattle.policy.specs.declared.Span.{Span}
 use Rattle.fit.specs.Satisfies.{isTree, hasTree, pathReached, flag, counts, verdictOf}
 use Rattle.policy.specs.Rows.{flats, flatten}
-use Rattle.fit.specs.Givers.{givenAt, joinedAt, indexOf, giverIn, giversIn}
+use Rattle.fit.specs.Givers.{givenAt, grantingRow, grantingRows, joinedAt, indexOf, giverIn, giversIn}
 use Rattle.fit.specs.Search.{Gives}
 use Rattle.policy.specs.Loads.{startOf, Holds, AllHeld, held-none, held-more}
 use Rattle.policy.specs.declared.Trees.{Trees}
@@ -129,7 +129,7 @@ module _ (c nodes : List ℕ) (trees : Trees) (policy : List Tree) (held : AllHe
         rows = rw (p, q) (l .held .rows);
       }
 
--- The rows of the kind's tree give to a path what the policy grants it.
+-- The rows of the kind's tree give to a path and a purpose what the policy grants them.
 module _ (c nodes : List ℕ) (policy : List Tree) (kind start end : ℕ) (tree : TreeRows c nodes policy kind start end)
     (path rows : List ℕ) (given : rows ≡ giversIn c nodes path start (end - start)) where
   reached-root : reachedFor policy kind path ≡ reached path (tree .root)
@@ -144,44 +144,47 @@ module _ (c nodes : List ℕ) (policy : List Tree) (kind start end : ℕ) (tree 
   unfolding pathReached
   entry-reached e of-kind of-path = rw (of-kind, of-path) path-reached
 
-  pub tree-gives : Gives c nodes policy kind path rows
-  unfolding flagGranted countGranted
-  tree-gives = record {
-    flag = λ v o e. rw (e, reached-root, given) (sym (flag-given c nodes path start (end - start) (tree .root) (tree .fits) (tree .rows) v));
-    count = λ h o e. rw (e, reached-root, given) (sym (counts-given c nodes path start (end - start) (tree .root) (tree .fits) (tree .rows) h));
+  pub tree-gives : (purpose : ℕ) → Gives c nodes policy kind path purpose (grantingRows purpose nodes rows)
+  unfolding flagGranted countGranted grantingTo
+  tree-gives purpose = record {
+    flag = λ v o e f.
+        rw (e, f, reached-root, given) (sym (flag-given c nodes path start (end - start) (tree .root) (tree .fits) (tree .rows) purpose v));
+    count = λ h o e f.
+        rw (e, f, reached-root, given) (sym (counts-given c nodes path start (end - start) (tree .root) (tree .fits) (tree .rows) purpose h));
   }
 
 -- Where the kind has no tree, nothing is granted, and no rows give nothing.
 module _ (c nodes : List ℕ) where
-  no-flag : (v : ℕ) (path from : List ℕ)
-      → any (λ g. hasBit v (givenBy g [] .map)) from ≡ any (λ row. hasBit v (givenAt c nodes row .map)) (map (λ g. giverIn path g 0 0 []) from)
-  unfolding any givenBy giverIn givenAt
-  no-flag v path [] = refl
-  no-flag v path (g ∷ from) = ap (λ (b : Bool). hasBit v 0 || b) (no-flag v path from)
+  no-flag : (purpose v : ℕ) (path from : List ℕ)
+      → any (λ g. hasBit v (givenBy g [] .map)) from
+      ≡ any (λ row. hasBit v (givenAt c nodes row .map)) (grantingRows purpose nodes (map (λ g. giverIn path g 0 0 []) from))
+  unfolding any givenBy giverIn givenAt grantingRow
+  no-flag purpose v path [] = refl
+  no-flag purpose v path (g ∷ from) = ap (λ (b : Bool). hasBit v 0 || b) (no-flag purpose v path from)
 
-  no-count : (h : ℕ) (path from : List ℕ) → joined h [] from ≡ joinedAt h c nodes (map (λ g. giverIn path g 0 0 []) from)
-  unfolding joined joinedAt givenBy giverIn givenAt
-  no-count h path [] = refl
-  no-count h path (g ∷ from) = ap (λ (n : Count). listed h [] ⊕ n) (no-count h path from)
+  no-count : (purpose h : ℕ) (path from : List ℕ) → joined h [] from ≡ joinedAt h c nodes (grantingRows purpose nodes (map (λ g. giverIn path g 0 0 []) from))
+  unfolding joined joinedAt givenBy giverIn givenAt grantingRow
+  no-count purpose h path [] = refl
+  no-count purpose h path (g ∷ from) = ap (λ (n : Count). listed h [] ⊕ n) (no-count purpose h path from)
 
   pub none-gives : (policy : List Tree) (kind : ℕ) (path rows : List ℕ) → isTree (treeFor kind policy) ≡ false
-      → rows ≡ giversIn c nodes path 0 0 → Gives c nodes policy kind path rows
-  unfolding isTree flagGranted countGranted reachedFor reachedIn flats rising
-  none-gives policy kind path rows e given = go (treeFor kind policy) refl e
+      → rows ≡ giversIn c nodes path 0 0 → (purpose : ℕ) → Gives c nodes policy kind path purpose (grantingRows purpose nodes rows)
+  unfolding isTree flagGranted countGranted grantingTo reachedFor reachedIn flats rising
+  none-gives policy kind path rows e given purpose = go (treeFor kind policy) refl e
     where
-      go : (root : Option Node) → treeFor kind policy ≡ root → isTree root ≡ false → Gives c nodes policy kind path rows
+      go : (root : Option Node) → treeFor kind policy ≡ root → isTree root ≡ false → Gives c nodes policy kind path purpose (grantingRows purpose nodes rows)
       go (some root) is h = absurd (true≢false h)
       go nothing is h = record {
-        flag = λ v o f. rw (f, is, given) (no-flag v path path);
-        count = λ h o f. rw (f, is, given) (no-count h path path);
+        flag = λ v o f g. rw (f, is, given) (no-flag purpose v path path);
+        count = λ h o f g. rw (f, is, given) (no-count purpose h path path);
       }
 
--- The rows of the kind's tree, or none, give to a path what the policy grants it.
+-- The rows of the kind's tree, or none, give to a path and a purpose what the policy grants them.
 pub span-gives : (c nodes : List ℕ) (trees : Trees) (policy : List Tree) → AllHeld c nodes trees 0 policy → trees .len ≤ 16 → length (trees .kinds) ≡ 16
     → (kind : ℕ) (path rows : List ℕ) → rows ≡ giversIn c nodes path (spanFor trees kind .from) (spanFor trees kind .to - spanFor trees kind .from)
-    → Gives c nodes policy kind path rows
+    → (purpose : ℕ) → Gives c nodes policy kind path purpose (grantingRows purpose nodes rows)
 unfolding spanFor
-span-gives c nodes trees policy held few kinds kind path rows given = go (ltb t (trees .len)) refl given
+span-gives c nodes trees policy held few kinds kind path rows given purpose = go (ltb t (trees .len)) refl given
   where
     t : ℕ
     t = indexOf kind (take (trees .len) (trees .kinds))
@@ -189,27 +192,28 @@ span-gives c nodes trees policy held few kinds kind path rows given = go (ltb t 
     span : Bool → Span
     span b = cond b (record { from = startOf trees t; to = getD (trees .ends) t 0 }) (record { from = 0; to = 0 })
 
-    go : (b : Bool) → ltb t (trees .len) ≡ b → rows ≡ giversIn c nodes path (span b .from) (span b .to - span b .from) → Gives c nodes policy kind path rows
+    go : (b : Bool) → ltb t (trees .len) ≡ b → rows ≡ giversIn c nodes path (span b .from) (span b .to - span b .from)
+        → Gives c nodes policy kind path purpose (grantingRows purpose nodes rows)
     go true e is =
         tree-gives c nodes policy kind (startOf trees t) (getD (trees .ends) t 0)
-        (tree-rows c nodes trees policy held few kinds kind t refl (ltb-true t (trees .len) e) (startOf trees t) (getD (trees .ends) t 0) refl refl) path rows is
-    go false e is = none-gives c nodes policy kind path rows (has-tree c nodes trees policy held few kinds kind t refl ∙ e) is
+        (tree-rows c nodes trees policy held few kinds kind t refl (ltb-true t (trees .len) e) (startOf trees t) (getD (trees .ends) t 0) refl refl) path rows is purpose
+    go false e is = none-gives c nodes policy kind path rows (has-tree c nodes trees policy held few kinds kind t refl ∙ e) is purpose
 
 -- The verdict on one permission of an entry.
-module _ {c nodes : List ℕ} {policy : List Tree} {kind : ℕ} {path rows : List ℕ} (gives : Gives c nodes policy kind path rows)
-    (required : Required) (e : Entry) (of-kind : e .kind ≡ kind) (of-path : e .component .path ≡ path) where
+module _ {c nodes : List ℕ} {policy : List Tree} {kind : ℕ} {path : List ℕ} {purpose : ℕ} {rows : List ℕ} (gives : Gives c nodes policy kind path purpose rows)
+    (required : Required) (e : Entry) (of-kind : e .kind ≡ kind) (of-path : e .component .path ≡ path) (of-purpose : e .component .purpose ≡ purpose) where
   pub on-reading : verdictOf policy required e reading ≡ flag reading (any (λ row. hasBit 1 (givenAt c nodes row .map)) rows)
   unfolding verdictOf
-  on-reading = ap (flag reading) (rw of-kind (gives .flag 1 (e .component) of-path))
+  on-reading = ap (flag reading) (rw of-kind (gives .flag 1 (e .component) of-path of-purpose))
 
   pub on-writing : verdictOf policy required e writing ≡ flag writing (any (λ row. hasBit 2 (givenAt c nodes row .map)) rows)
   unfolding verdictOf
-  on-writing = ap (flag writing) (rw of-kind (gives .flag 2 (e .component) of-path))
+  on-writing = ap (flag writing) (rw of-kind (gives .flag 2 (e .component) of-path of-purpose))
 
   pub on-accessing : verdictOf policy required e accessing ≡ flag accessing (any (λ row. hasBit 4 (givenAt c nodes row .map)) rows)
   unfolding verdictOf
-  on-accessing = ap (flag accessing) (rw of-kind (gives .flag 4 (e .component) of-path))
+  on-accessing = ap (flag accessing) (rw of-kind (gives .flag 4 (e .component) of-path of-purpose))
 
   pub on-disclosing : (h : ℕ) → verdictOf policy required e (disclosing h) ≡ counts h (needed required e h) (joinedAt h c nodes rows)
   unfolding verdictOf
-  on-disclosing h = ap (counts h (needed required e h)) (rw of-kind (gives .count h (e .component) of-path))
+  on-disclosing h = ap (counts h (needed required e h)) (rw of-kind (gives .count h (e .component) of-path of-purpose))

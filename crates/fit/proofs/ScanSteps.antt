@@ -195,30 +195,30 @@ module _ (first : List ℕ) (g : ℕ) where
 
 pub ruleset row-steps = (node-steps, row-out, row-told, row-none)
 
--- The rows of a path's first i groups are looked up in a table.
-pub record GiversSoFar (first : List ℕ) (n : ℕ) (groups rows : List ℕ) (i : ℕ) : Type 0 where
-  pub whole : take i rows ++ map (rowIn first) (drop i (take n groups)) ≡ map (rowIn first) (take n groups)
+-- The rows of the first i of some numbers are made: of a path's groups, by a table, or of rows.
+pub record GiversSoFar (f : ℕ → ℕ) (n : ℕ) (groups rows : List ℕ) (i : ℕ) : Type 0 where
+  pub whole : take i rows ++ map f (drop i (take n groups)) ≡ map f (take n groups)
   pub few : i ≤ n
   pub long : length rows ≡ 8
 
-pub givers-start : (first : List ℕ) (n : ℕ) (groups rows : List ℕ) → length rows ≡ 8 → GiversSoFar first n groups rows 0
-givers-start first n groups rows h = record { whole = refl; few = omega arith; long = h }
+pub givers-start : (f : ℕ → ℕ) (n : ℕ) (groups rows : List ℕ) → length rows ≡ 8 → GiversSoFar f n groups rows 0
+givers-start f n groups rows h = record { whole = refl; few = omega arith; long = h }
 
-module _ (first : List ℕ) (n : ℕ) (groups rows : List ℕ) (i : ℕ) (s : GiversSoFar first n groups rows i) where
-  no-group-left : drop i (take n groups) ≡ [] → take n rows ≡ take i rows → take n rows ≡ map (rowIn first) (take n groups)
+module _ (f : ℕ → ℕ) (n : ℕ) (groups rows : List ℕ) (i : ℕ) (s : GiversSoFar f n groups rows i) where
+  no-group-left : drop i (take n groups) ≡ [] → take n rows ≡ take i rows → take n rows ≡ map f (take n groups)
   no-group-left p q = q ∙ sym (append-nil (take i rows)) ∙ (rw p at (s .whole))
 
-  pub givers-end : n ≤ i → take n rows ≡ map (rowIn first) (take n groups)
+  pub givers-end : n ≤ i → take n rows ≡ map f (take n groups)
   givers-end h =
       let e : n ≡ i = omega (arith, s .few) in
       no-group-left (kinds-none groups n i h) (ap (λ m. take m rows) e)
 
-  pub givers-eight : length groups ≡ 8 → 8 ≤ i → take n rows ≡ map (rowIn first) (take n groups)
+  pub givers-eight : length groups ≡ 8 → 8 ≤ i → take n rows ≡ map f (take n groups)
   givers-eight k h =
       no-group-left (past-end groups n i (omega arith))
       (take-all n rows (omega (arith, s .few, s .long)) ∙ sym (take-all i rows (omega (arith, s .long))))
 
-  pub givers-next : length groups ≡ 8 → i < 8 → i < n → (v : ℕ) → v ≡ rowIn first (getD groups i 0) → GiversSoFar first n groups (set rows i v) (i + 1)
+  pub givers-next : length groups ≡ 8 → i < 8 → i < n → (v : ℕ) → v ≡ f (getD groups i 0) → GiversSoFar f n groups (set rows i v) (i + 1)
   givers-next k j h v q = record {
     whole = rw (one-more rows i v (s .long) j, append-assoc, q) (rw (one-left groups n i 0 h (omega arith)) at (s .whole));
     few = omega arith;

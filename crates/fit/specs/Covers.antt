@@ -9,7 +9,7 @@ use lib.ListN.{take, getD}
 use lib.Dec.{ltb, eqb}
 use Rattle.inference.specs.Lists.{every, any, only, rising}
 use Rattle.inference.specs.Interface.{Permission, reading, writing, accessing, disclosing}
-use Rattle.inference.specs.Rows.{isSet, cell, groupCount, groupAt, pathAt}
+use Rattle.inference.specs.Rows.{isSet, cell, groupCount, groupAt, pathAt, purposeAt}
 use Rattle.sharing.specs.Sums.{neededAt, sumCount}
 use Rattle.policy.specs.Syntax.{hasBit}
 use Rattle.policy.specs.Loads.{startOf}
@@ -17,7 +17,7 @@ use Rattle.policy.specs.declared.Trees.{Trees}
 use Rattle.policy.specs.declared.Span.{Span}
 use Rattle.fit.specs.Satisfies.{Verdict, flag, counts, holds}
 use Rattle.fit.specs.Uncovered.{permissionOf}
-use Rattle.fit.specs.Givers.{givenAt, joinedAt, giversIn, indexOf}
+use Rattle.fit.specs.Givers.{givenAt, joinedAt, grantingRows, giversIn, indexOf}
 use Rattle.fit.specs.declared.Flag.{Flag}
 use Rattle.fit.specs.declared.Flag.the-variants.{Unneeded, Granted, Lacking}
 use Rattle.fit.specs.declared.Flags.{Flags}
@@ -94,12 +94,15 @@ spanFor trees kind =
 unfoldable pub verdictsFor : List ℕ → List ℕ → Trees → List ℕ → List ℕ → ℕ → ℕ → List Verdict
 verdictsFor c nodes trees table sums component kind =
     verdictsAt c nodes
-    (giversIn c nodes (pathAt table component) (spanFor trees kind .from) (spanFor trees kind .to - spanFor trees kind .from)) table sums component kind
+    (grantingRows (purposeAt table component) nodes
+    (giversIn c nodes (pathAt table component) (spanFor trees kind .from) (spanFor trees kind .to - spanFor trees kind .from)))
+    table sums component kind
 
--- what the code answers of an entry: is each group of its path at a reached node, and the verdicts on its permissions
+-- what the code answers of an entry, by the rows that its path reaches: is each group of its path at a reached node, and the verdicts on its
+-- permissions by those that grant for its purpose
 pub record CoveringIs (c nodes rows table sums : List ℕ) (component kind : ℕ) (r : Covering) : Type 0 where
   pub reached : r .reached ≡ allGiven rows
-  pub verdicts : verdictsOf r ≡ verdictsAt c nodes rows table sums component kind
+  pub verdicts : verdictsOf r ≡ verdictsAt c nodes (grantingRows (purposeAt table component) nodes rows) table sums component kind
 
 -- the number of a permission: 64 read, 65 write, 66 access, below 64 the group disclosed to
 unfoldable pub numberOf : Permission → ℕ
@@ -126,4 +129,5 @@ missingOf column = cond (ltb column 67) (some (permissionAt column)) none
 -- the first of questions 17 and 18 that an entry fails, or 19
 unfoldable pub rowsFault : List ℕ → List ℕ → List ℕ → List ℕ → List ℕ → ℕ → ℕ → ℕ
 rowsFault c nodes rows table sums component kind =
-    cond (allGiven rows) (cond (ltb (missingAt c nodes rows table sums component kind) 67) 18 19) 17
+    cond (allGiven rows)
+    (cond (ltb (missingAt c nodes (grantingRows (purposeAt table component) nodes rows) table sums component kind) 67) 18 19) 17

@@ -8,8 +8,8 @@ use lib.ListN.{take, getD}
 use lib.Dec.{ltb, eqb}
 use Rattle.reading.specs.Forms.{member}
 use Rattle.inference.specs.Counts.{Count, fin, _⊕_}
-use Rattle.policy.specs.Syntax.{Permissions, Head}
-use Rattle.fit.specs.Grants.{listed}
+use Rattle.policy.specs.Syntax.{Permissions, Head, bitAt}
+use Rattle.fit.specs.Grants.{noPermissions, listed}
 use Rattle.policy.specs.Rows.{nodeAt, permissionsOf, Flat, flats}
 use Rattle.fit.specs.declared.Givers.{Givers}
 
@@ -48,7 +48,14 @@ givenRows g = take (g .len) (g .rows)
 
 -- What a giver gives: the permissions of its row, nothing at 64.
 unfoldable pub givenAt : List ℕ → List ℕ → ℕ → Permissions
-givenAt c nodes row = cond (ltb row 64) (permissionsOf c (nodeAt nodes row .permissions)) (record { map = 0; list = [] })
+givenAt c nodes row = cond (ltb row 64) (permissionsOf c (nodeAt nodes row .permissions)) noPermissions
+
+-- a row that grants for a purpose, else 64; and those of rows
+unfoldable pub grantingRow : ℕ → List ℕ → ℕ → ℕ
+grantingRow purpose nodes row = cond (ltb row 64) (cond (bitAt purpose (nodeAt nodes row .permissions .purposes)) row 64) 64
+
+abbrev pub grantingRows : ℕ → List ℕ → List ℕ → List ℕ
+grantingRows purpose nodes rows = map (grantingRow purpose nodes) rows
 
 -- the counts for group h that rows give, joined
 unfoldable pub joinedAt : ℕ → List ℕ → List ℕ → List ℕ → Count

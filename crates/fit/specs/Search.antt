@@ -15,10 +15,10 @@ use Rattle.fit.specs.Uncovered.{Uncovered}
 use Rattle.fit.specs.Covers.{permissionAt}
 use Rattle.fit.specs.declared.Missing.{Missing}
 
--- Rows that give to a path what the policy grants it for data of a kind.
-pub record Gives (c nodes : List ℕ) (policy : List Tree) (kind : ℕ) (path rows : List ℕ) : Type 0 where
-  pub flag : (v : ℕ) (o : Component) → o .path ≡ path → flagGranted v policy kind o ≡ any (λ row. hasBit v (givenAt c nodes row .map)) rows
-  pub count : (h : ℕ) (o : Component) → o .path ≡ path → countGranted h policy kind o ≡ joinedAt h c nodes rows
+-- Rows that give to a path and a purpose what the policy grants them for data of a kind.
+pub record Gives (c nodes : List ℕ) (policy : List Tree) (kind : ℕ) (path : List ℕ) (purpose : ℕ) (rows : List ℕ) : Type 0 where
+  pub flag : (v : ℕ) (o : Component) → o .path ≡ path → o .purpose ≡ purpose → flagGranted v policy kind o ≡ any (λ row. hasBit v (givenAt c nodes row .map)) rows
+  pub count : (h : ℕ) (o : Component) → o .path ≡ path → o .purpose ≡ purpose → countGranted h policy kind o ≡ joinedAt h c nodes rows
 
 -- The uncovered permission of a component, a kind and a number; none at 67.
 unfoldable pub uncoveredAt : List ℕ → Missing → Option Uncovered

@@ -36,10 +36,12 @@ use crate::grants::all_given;
 use crate::grants::count_granted;
 use crate::grants::flag_granted;
 use crate::grants::givers;
+use crate::grants::granting;
 use crate::grants::tree_for;
 use inference::rows::group_at;
 use inference::rows::group_count;
 use inference::rows::path_of;
+use inference::rows::purpose_of;
 use interface::bit;
 use interface::count_at;
 use policy::Span;
@@ -149,7 +151,8 @@ fn nothing() -> Covering {
     }
 }
 
-// What the entry of a component and a kind comes to in the kind's tree.
+// What the entry of a component and a kind comes to in the kind's tree: its path reaches nodes whatever they are for, and of these those
+// for its purpose grant.
 pub fn cover(
     c: &[u8],
     nodes: &[usize],
@@ -159,19 +162,20 @@ pub fn cover(
     component: usize,
     kind: usize,
 ) -> Covering
-    requires { ⌜ (tree .to ≤ 64) × (component < 32) × (kind < 16) × (length (now nodes) ≡ 320) ⌝ }
+    requires { ⌜ (tree .to ≤ 64) × (component < 32) × (kind < 16) × (length (now nodes) ≡ 384) ⌝ }
     ensures { λ r. ⌜ CoveringIs (now (c .entry)) (now (nodes .entry))
         (giversIn (now (c .entry)) (now (nodes .entry)) (pathAt (now (table .entry)) component) (tree .from) (tree .to - tree .from))
         (now (table .entry)) (now (sums .entry)) component kind r ⌝ }
     ensures few { λ r. ⌜ r .sums .len ≤ 8 ⌝ }
 {
     // Never so; said for the compiler, which then tests no index of the table again.
-    if nodes.len() != 320 {
+    if nodes.len() != 384 {
         return nothing();
     }
-    let found = givers(nodes, tree, path_of(table, component));
+    let reached = givers(nodes, tree, path_of(table, component));
+    let found = granting(nodes, reached, purpose_of(table, component));
     Covering {
-        reached: all_given(found),
+        reached: all_given(reached),
         flags: flags_of(table, component, kind, nodes, found),
         sums: sums_of(c, table, sums, component, kind, nodes, found),
     }
@@ -200,7 +204,7 @@ pub fn entry_covering(
     component: usize,
     kind: usize,
 ) -> Covering
-    requires { ⌜ (component < 32) × (kind < 16) × Bounded trees × (length (now nodes) ≡ 320) ⌝ }
+    requires { ⌜ (component < 32) × (kind < 16) × Bounded trees × (length (now nodes) ≡ 384) ⌝ }
     ensures { λ r. ⌜ verdictsOf r ≡ verdictsFor (now (c .entry)) (now (nodes .entry)) trees (now (table .entry)) (now (sums .entry)) component kind ⌝ }
     ensures few { λ r. ⌜ r .sums .len ≤ 8 ⌝ }
 {

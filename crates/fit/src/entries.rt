@@ -43,7 +43,7 @@ fn tree_fault(
     component: usize,
     kind: usize,
 ) -> usize
-    requires { ⌜ (tree .to ≤ 64) × (component < 32) × (kind < 16) × (length (now nodes) ≡ 320) ⌝ }
+    requires { ⌜ (tree .to ≤ 64) × (component < 32) × (kind < 16) × (length (now nodes) ≡ 384) ⌝ }
     ensures { λ r. ⌜ r ≡ rowsFault (now (c .entry)) (now (nodes .entry))
         (giversIn (now (c .entry)) (now (nodes .entry)) (pathAt (now (table .entry)) component) (tree .from) (tree .to - tree .from))
         (now (table .entry)) (now (sums .entry)) component kind ⌝ }
@@ -80,7 +80,7 @@ fn entry_fault(
     component: usize,
     kind: usize,
 ) -> usize
-    requires { ⌜ (component < 32) × (kind < 16) × Bounded trees × (length (now nodes) ≡ 320) ⌝ }
+    requires { ⌜ (component < 32) × (kind < 16) × Bounded trees × (length (now nodes) ≡ 384) ⌝ }
     ensures { λ r. ⌜ ((policy : List Tree) → AllHeld (now (c .entry)) (now (nodes .entry)) trees 0 policy
         → Orderly (now (table .entry)) component → (required : Required) → Summed (now (table .entry)) (now (sums .entry)) required component kind
         → r ≡ cond (isSet (cell (now (table .entry)) component kind 11)) (entryFault policy required (entryAt (now (table .entry)) component kind)) 19) ⌝ }
@@ -110,7 +110,7 @@ fn row_fault(
     sums: &[u32],
     component: usize,
 ) -> usize
-    requires { ⌜ (component < 32) × Bounded trees × (length (now nodes) ≡ 320) ⌝ }
+    requires { ⌜ (component < 32) × Bounded trees × (length (now nodes) ≡ 384) ⌝ }
     ensures { λ r. ⌜ ((policy : List Tree) → AllHeld (now (c .entry)) (now (nodes .entry)) trees 0 policy
         → Orderly (now (table .entry)) component → (required : Required) → ((k : ℕ) → k < 16 → Summed (now (table .entry)) (now (sums .entry)) required component k)
         → r ≡ entriesFault policy required (rowEntries (now (table .entry)) component)) ⌝ }
@@ -136,7 +136,7 @@ fn rows_fault(
     sums: &[u32],
     components: usize,
 ) -> usize
-    requires { ⌜ (components ≤ 32) × Bounded trees × (length (now nodes) ≡ 320) ⌝ }
+    requires { ⌜ (components ≤ 32) × Bounded trees × (length (now nodes) ≡ 384) ⌝ }
     ensures { λ r. ⌜ ((policy : List Tree) → AllHeld (now (c .entry)) (now (nodes .entry)) trees 0 policy
         → ((n : ℕ) → n < components → Orderly (now (table .entry)) n)
         → (required : Required) → ((n k : ℕ) → n < components → k < 16 → Summed (now (table .entry)) (now (sums .entry)) required n k)
@@ -153,7 +153,7 @@ fn rows_fault(
 
 // The same with the sums made first, in clear memory.
 fn shared_fault(c: &[u8], nodes: &[usize], trees: Trees, table: &[u16], components: usize) -> usize
-    requires { ⌜ (components ≤ 32) × Bounded trees × (length (now nodes) ≡ 320) ⌝ }
+    requires { ⌜ (components ≤ 32) × Bounded trees × (length (now nodes) ≡ 384) ⌝ }
     ensures { λ r. ⌜ ((policy : List Tree) → AllHeld (now (c .entry)) (now (nodes .entry)) trees 0 policy
         → ((n : ℕ) → n < components → Orderly (now (table .entry)) n)
         → r ≡ entriesFault policy (tableRequired (now (table .entry)) components) (tableEntries (now (table .entry)) components)) ⌝ }
@@ -170,7 +170,7 @@ fn shared_fault(c: &[u8], nodes: &[usize], trees: Trees, table: &[u16], componen
 
 // The first of questions 16 to 18 that any entry fails, or 19. Where no components share a count, no sums are made.
 pub fn fit(c: &[u8], nodes: &[usize], trees: Trees, table: &[u16], components: usize) -> usize
-    requires { ⌜ (components ≤ 32) × Bounded trees × (length (now nodes) ≡ 320) ⌝ }
+    requires { ⌜ (components ≤ 32) × Bounded trees × (length (now nodes) ≡ 384) ⌝ }
     ensures { λ r. ⌜ ((policy : List Tree) → AllHeld (now (c .entry)) (now (nodes .entry)) trees 0 policy
         → ((n : ℕ) → n < components → Orderly (now (table .entry)) n)
         → r ≡ entriesFault policy (tableRequired (now (table .entry)) components) (tableEntries (now (table .entry)) components)) ⌝ }

@@ -11,11 +11,12 @@ ghost use Rattle.sharing.specs.Sums.{sumCount};
 ghost use Rattle.policy.specs.Syntax.{hasBit};
 ghost use Rattle.fit.specs.Grants.{storedCount, listed as listedIn};
 ghost use Rattle.policy.specs.Rows.{itemsAt, permissionsOf, flats};
-ghost use Rattle.fit.specs.Givers.{indexOf, giverIn, Marked, rowIn, givenRows, givenAt, joinedAt};
+ghost use Rattle.fit.specs.Givers.{indexOf, giverIn, Marked, rowIn, givenRows, givenAt, grantingRow, grantingRows, joinedAt};
 use crate::Givers;
 use policy::Permissions;
 use policy::Span;
 use policy::Trees;
+use policy::nodes::bit_at;
 use policy::nodes::has_bit;
 use policy::nodes::node_at;
 use policy::nodes::word_in;
@@ -173,6 +174,38 @@ pub fn all_given(givers: Givers) -> bool
     true
 }
 
+// A row, if it grants for a purpose, else 64.
+fn granting_row(nodes: &[usize], row: usize, purpose: usize) -> usize
+    ensures { λ r. ⌜ r ≡ grantingRow purpose (now (nodes .entry)) row ⌝ }
+{
+    if 64 <= row {
+        return 64;
+    }
+    if bit_at(node_at(nodes, row).permissions.purposes, purpose) {
+        row
+    } else {
+        64
+    }
+}
+
+// Of what gives to a path, what grants for a purpose.
+pub fn granting(nodes: &[usize], givers: Givers, purpose: usize) -> Givers
+    ensures { λ r. ⌜ givenRows r ≡ grantingRows purpose (now (nodes .entry)) (givenRows givers) ⌝ }
+{
+    let given = givers.rows;
+    let len = givers.len;
+    let mut rows = [64usize; 8];
+    let mut i: usize = 0;
+    while i < 8 {
+        if len <= i {
+            return Givers { rows, len };
+        }
+        rows[i] = granting_row(nodes, given[i], purpose);
+        i += 1;
+    }
+    Givers { rows, len }
+}
+
 // What a row gives; nothing at 64.
 fn given_at(nodes: &[usize], row: usize) -> Permissions
     ensures { λ r. ⌜ ((c : List ℕ) → permissionsOf c r ≡ givenAt c (now (nodes .entry)) row) ⌝ }
@@ -185,6 +218,7 @@ fn given_at(nodes: &[usize], row: usize) -> Permissions
             map: 0,
             list: 0,
             count: 0,
+            purposes: 0,
         }
     }
 }

@@ -31,7 +31,7 @@ fn entry_missing(
     component: usize,
     kind: usize,
 ) -> usize
-    requires { ⌜ (component < 32) × (kind < 16) × Bounded trees × (length (now nodes) ≡ 320) ⌝ }
+    requires { ⌜ (component < 32) × (kind < 16) × Bounded trees × (length (now nodes) ≡ 384) ⌝ }
     ensures { λ r. ⌜ ((policy : List Tree) → AllHeld (now (c .entry)) (now (nodes .entry)) trees 0 policy
         → Orderly (now (table .entry)) component → (required : Required) → Summed (now (table .entry)) (now (sums .entry)) required component kind
         → cond (isSet (cell (now (table .entry)) component kind 11)) (firstMissing policy required (entryAt (now (table .entry)) component kind)) none
@@ -52,7 +52,7 @@ fn row_missing(
     sums: &[u32],
     component: usize,
 ) -> Missing
-    requires { ⌜ (component < 32) × Bounded trees × (length (now nodes) ≡ 320) ⌝ }
+    requires { ⌜ (component < 32) × Bounded trees × (length (now nodes) ≡ 384) ⌝ }
     ensures { λ r. ⌜ ((policy : List Tree) → AllHeld (now (c .entry)) (now (nodes .entry)) trees 0 policy
         → Orderly (now (table .entry)) component → (required : Required) → ((k : ℕ) → k < 16 → Summed (now (table .entry)) (now (sums .entry)) required component k)
         → firstUncovered policy required (rowEntries (now (table .entry)) component) ≡ uncoveredAt (now (table .entry)) r) ⌝ }
@@ -86,7 +86,7 @@ fn rows_missing(
     sums: &[u32],
     components: usize,
 ) -> Missing
-    requires { ⌜ (components ≤ 32) × Bounded trees × (length (now nodes) ≡ 320) ⌝ }
+    requires { ⌜ (components ≤ 32) × Bounded trees × (length (now nodes) ≡ 384) ⌝ }
     ensures { λ r. ⌜ ((policy : List Tree) → AllHeld (now (c .entry)) (now (nodes .entry)) trees 0 policy
         → ((n : ℕ) → n < components → Orderly (now (table .entry)) n)
         → (required : Required) → ((n k : ℕ) → n < components → k < 16 → Summed (now (table .entry)) (now (sums .entry)) required n k)
@@ -116,7 +116,7 @@ pub fn first_uncovered(
     table: &[u16],
     components: usize,
 ) -> Missing
-    requires { ⌜ (components ≤ 32) × Bounded trees × (length (now nodes) ≡ 320) ⌝ }
+    requires { ⌜ (components ≤ 32) × Bounded trees × (length (now nodes) ≡ 384) ⌝ }
     ensures { λ r. ⌜ ((policy : List Tree) → AllHeld (now (c .entry)) (now (nodes .entry)) trees 0 policy
         → ((n : ℕ) → n < components → Orderly (now (table .entry)) n)
         → firstUncovered policy (tableRequired (now (table .entry)) components) (tableEntries (now (table .entry)) components)

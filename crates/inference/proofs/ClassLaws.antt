@@ -1,4 +1,4 @@
--- Components that share one count: sharing asks only which groups stand in two paths, and so is an equivalence; and what the
+-- Components that share one count: sharing asks only which groups stand in two paths, and the purposes, and so is an equivalence; and what the
 -- components of a class need together is a sum over their entries, which splits where the class does.
 use Prim.Native.Nat.{ℕ}
 use mathlib.Core.Bool.{Bool, true, false, cond, not, _&&_, _||_}
@@ -11,7 +11,7 @@ use Rattle.reading.specs.Forms.{member}
 use Rattle.reading.proofs.TotalLaws.{both-left, both-right}
 use Rattle.inference.proofs.CountLaws.{join-comm, join-assoc, join-nothing, nothing-join}
 use Rattle.inference.specs.Acts.{Component}
-use Rattle.inference.specs.Classes.{allIn, shares}
+use Rattle.inference.specs.Classes.{allIn, sameSet, shares}
 use Rattle.inference.specs.Counts.{Count, fin, _⊕_}
 use Rattle.inference.specs.Interface.{Entry, countIn, neededBy}
 use Rattle.inference.specs.Lists.{every}
@@ -50,27 +50,37 @@ same-truth true b f g = sym (f refl)
 same-truth false true f g = g refl
 same-truth false false f g = refl
 
--- Components share exactly if the same groups stand in their paths.
+-- Components share exactly if the same groups stand in their paths and they have one purpose.
 pub shares-member : (c d : Component) → shares c d ≡ true → (g : ℕ) → member g (c .path) ≡ member g (d .path)
-unfolding shares
+unfolding shares sameSet
 shares-member c d h g =
+    let groups = both-left (sameSet (c .path) (d .path)) (eqb (c .purpose) (d .purpose)) h in
     same-truth (member g (c .path)) (member g (d .path))
-    (in-member (c .path) (d .path) (both-left (allIn (c .path) (d .path)) (allIn (d .path) (c .path)) h) g)
-    (in-member (d .path) (c .path) (both-right (allIn (c .path) (d .path)) (allIn (d .path) (c .path)) h) g)
+    (in-member (c .path) (d .path) (both-left (allIn (c .path) (d .path)) (allIn (d .path) (c .path)) groups) g)
+    (in-member (d .path) (c .path) (both-right (allIn (c .path) (d .path)) (allIn (d .path) (c .path)) groups) g)
 
-pub member-shares : (c d : Component) → ((g : ℕ) → member g (c .path) ≡ member g (d .path)) → shares c d ≡ true
+pub shares-purpose : (c d : Component) → shares c d ≡ true → c .purpose ≡ d .purpose
 unfolding shares
-member-shares c d h =
-    rw (member-in (c .path) (d .path) (λ g m. sym (h g) ∙ m), member-in (d .path) (c .path) (λ g m. h g ∙ m)) refl
+shares-purpose c d h =
+    eqb-true (c .purpose) (d .purpose) (both-right (sameSet (c .path) (d .path)) (eqb (c .purpose) (d .purpose)) h)
+
+pub member-shares : (c d : Component) → ((g : ℕ) → member g (c .path) ≡ member g (d .path)) → c .purpose ≡ d .purpose → shares c d ≡ true
+unfolding shares sameSet
+member-shares c d h p = rw (
+  member-in (c .path) (d .path) (λ g m. sym (h g) ∙ m),
+  member-in (d .path) (c .path) (λ g m. h g ∙ m),
+  eq-eqb (c .purpose) (d .purpose) p,
+) refl
 
 pub shares-self : (c : Component) → shares c c ≡ true
-shares-self c = member-shares c c (λ g. refl)
+shares-self c = member-shares c c (λ g. refl) refl
 
 pub shares-sym : (c d : Component) → shares c d ≡ true → shares d c ≡ true
-shares-sym c d h = member-shares d c (λ g. sym (shares-member c d h g))
+shares-sym c d h = member-shares d c (λ g. sym (shares-member c d h g)) (sym (shares-purpose c d h))
 
 pub shares-trans : (c d e : Component) → shares c d ≡ true → shares d e ≡ true → shares c e ≡ true
-shares-trans c d e h k = member-shares c e (λ g. shares-member c d h g ∙ shares-member d e k g)
+shares-trans c d e h k =
+    member-shares c e (λ g. shares-member c d h g ∙ shares-member d e k g) (shares-purpose c d h ∙ shares-purpose d e k)
 
 -- Components that share have one class.
 pub shares-class : (c d : Component) → shares c d ≡ true → (e : Component) → shares c e ≡ shares d e

@@ -173,12 +173,12 @@ module _ (row count g : ℕ) (path first t : List ℕ) (s : Rising row path firs
   pub rise-falls : (v : ℕ) → g < 64 → v ≡ nextGroup path (g + 1) → 64 - v < 64 - g
   rise-falls v h f = omega (arith, f, next-least path (g + 1) (omega arith))
 
-  pub rise-last : (c : ℕ) (u : List ℕ) → row ≡ c * 210 → 64 ≤ g → u ≡ set t (row + 9) (count % 65536) → u ≡ withGroups first c (risingGroups path)
+  pub rise-last : (c : ℕ) (u : List ℕ) → row ≡ c * 211 → 64 ≤ g → u ≡ set t (row + 9) (count % 65536) → u ≡ withGroups first c (risingGroups path)
   unfolding withGroups
   rise-last c u r h e = let none = nothing-left h in
       rw (e, ← r, ← ended none (s .left)) (ap (λ (n : ℕ). set t (row + 9) (n % 65536)) (omega (arith, rw none at (s .number))))
 
-pub path-stored : (t u v : List ℕ) (c : ℕ) (path : List ℕ) → u ≡ stored t (c * 210) (length path ∷ path) → v ≡ withGroups u c (risingGroups path) → v ≡ withPath t c path
+pub path-stored : (t u v : List ℕ) (c : ℕ) (path : List ℕ) → u ≡ stored t (c * 211) (length path ∷ path) → v ≡ withGroups u c (risingGroups path) → v ≡ withPath t c path
 unfolding withPath
 path-stored t u v c path e f = rw (← e) f
 

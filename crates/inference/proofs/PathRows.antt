@@ -45,21 +45,21 @@ take-own zero l = refl
 take-own (suc n) [] = refl
 take-own (suc n) (x ∷ l) = ap (λ (m : List ℕ). x ∷ m) (take-own n l)
 
-pub store-last : (c len i : ℕ) (p : Path) (t first u : List ℕ) → Storing (c * 210) len (p .groups) first u i → len ≤ i
-    → first ≡ set t (c * 210) (len % 65536) → len ≡ length (pathOf p) → u ≡ stored t (c * 210) (length (pathOf p) ∷ pathOf p)
+pub store-last : (c len i : ℕ) (p : Path) (t first u : List ℕ) → Storing (c * 211) len (p .groups) first u i → len ≤ i
+    → first ≡ set t (c * 211) (len % 65536) → len ≡ length (pathOf p) → u ≡ stored t (c * 211) (length (pathOf p) ∷ pathOf p)
 unfolding stored
-store-last c len i p t first u s h e f = cut at-end (s .left) ∙ ap (λ (l : List ℕ). stored first (c * 210 + 1) l) whole ∙ begun
+store-last c len i p t first u s h e f = cut at-end (s .left) ∙ ap (λ (l : List ℕ). stored first (c * 211 + 1) l) whole ∙ begun
   where
     at-end : drop i (take len (p .groups)) ≡ []
     at-end = drop-of-length-le (take len (p .groups)) {i = i} (omega (arith, length-take len (p .groups)))
 
-    cut : {l m : List ℕ} → l ≡ [] → stored u (c * 210 + 1 + i) l ≡ m → u ≡ m
+    cut : {l m : List ℕ} → l ≡ [] → stored u (c * 211 + 1 + i) l ≡ m → u ≡ m
     cut q r = rw q at r
 
     whole : take len (p .groups) ≡ pathOf p
     whole = rw f (take-own (p .len) (p .groups))
 
-    begun : stored first (c * 210 + 1) (pathOf p) ≡ stored (set t (c * 210) (length (pathOf p) % 65536)) (c * 210 + 1) (pathOf p)
+    begun : stored first (c * 211 + 1) (pathOf p) ≡ stored (set t (c * 211) (length (pathOf p) % 65536)) (c * 211 + 1) (pathOf p)
     begun = rw (e, f)
 
 -- Reading: each place passed holds what stands in the row.
@@ -99,9 +99,9 @@ copied row len i table groups s h e =
     (omega (arith, length-take len groups)) (omega (arith, length-take len groups)) (omega (arith, length-take len groups, s .full))
     (s .same j (omega (arith, length-take len groups, s .full))))
 
-pub copy-last : (c len i : ℕ) (table groups : List ℕ) → Copied (c * 210) table groups i → 8 ≤ i
-    → len ≡ min (getD table (c * 210) 0) (length table - (c * 210 + 1)) → pathOf (record { groups = groups; len = len }) ≡ pathAt table c
+pub copy-last : (c len i : ℕ) (table groups : List ℕ) → Copied (c * 211) table groups i → 8 ≤ i
+    → len ≡ min (getD table (c * 211) 0) (length table - (c * 211 + 1)) → pathOf (record { groups = groups; len = len }) ≡ pathAt table c
 unfolding pathAt
-copy-last c len i table groups s h e = copied (c * 210) len i table groups s h e
+copy-last c len i table groups s h e = copied (c * 211) len i table groups s h e
 
 pub ruleset path-rows = (needs, store-first, store-next, store-last, copy-first, copy-next, copy-last)

@@ -60,7 +60,7 @@ pub charge-out : (l : List ℕ) (i : ℕ) (b : Bool) → length l ≤ i → l �
 unfolding chargeAt
 charge-out l i b h = sym (set-out l i (bumped (getD l i 0) b) h)
 
-pub cell-place : (c k j : ℕ) → c * 210 + (18 + (k * 12 + j)) ≡ cellOf c k j
+pub cell-place : (c k j : ℕ) → c * 211 + (18 + (k * 12 + j)) ≡ cellOf c k j
 unfolding cellOf
 cell-place c k j = refl
 
@@ -92,15 +92,15 @@ module _ (l : List ℕ) (c k : ℕ) where
   column-charged j b l′ e f = rw (← e) f
 
 -- The groups of a component's path.
-pub few-groups : (l : List ℕ) (c n : ℕ) → n ≡ getD l (c * 210 + 9) 0 → n < 8 → n ≡ groupCount l c
+pub few-groups : (l : List ℕ) (c n : ℕ) → n ≡ getD l (c * 211 + 9) 0 → n < 8 → n ≡ groupCount l c
 unfolding groupCount
 few-groups l c n e h = rw (← e) (omega arith)
 
-pub eight-groups : (l : List ℕ) (c n : ℕ) → n ≡ getD l (c * 210 + 9) 0 → 8 ≤ n → 8 ≡ groupCount l c
+pub eight-groups : (l : List ℕ) (c n : ℕ) → n ≡ getD l (c * 211 + 9) 0 → 8 ≤ n → 8 ≡ groupCount l c
 unfolding groupCount
 eight-groups l c n e h = rw (← e) (omega arith)
 
-pub group-read : (l : List ℕ) (c i r : ℕ) → r ≡ getD l (c * 210 + (10 + i)) 0 → r ≡ groupAt l c i
+pub group-read : (l : List ℕ) (c i r : ℕ) → r ≡ getD l (c * 211 + (10 + i)) 0 → r ≡ groupAt l c i
 unfolding groupAt
 group-read l c i r e = e
 

@@ -23,9 +23,9 @@ use Rattle.reading.specs.declared.FormRead.the-variants as form-read
 use Rattle.reading.specs.declared.OwnFields.{OwnFields}
 use Rattle.reading.specs.declared.Place.{Place}
 use Rattle.reading.specs.declared.Refusal.{Refusal}
-use Rattle.inference.proofs.WalkLaws.{worst-most, worstAll-append, chargedAll-append, scope-bound, kept-below, min-cong}
+use Rattle.inference.proofs.WalkLaws.{worst-most, purpose-aside, purpose-uncounted, worstAll-append, chargedAll-append, scope-bound, kept-below, min-cong}
 use Rattle.inference.specs.Acts.{componentAt, acts, actsOf, locate}
-use Rattle.inference.specs.Rows.{withPath}
+use Rattle.inference.specs.Rows.{withPath, withPurpose}
 use Rattle.inference.specs.Walks.{worstAll, chargedAll, opens, Inferred, InferredAt}
 use Rattle.inference.specs.declared.SystemWalk.{SystemWalk}
 use Rattle.inference.specs.declared.Walk.{Walk}
@@ -159,16 +159,17 @@ module _ (t : Grown System) (names u preceding : ℕ) (path scope scope₁ scope
       }
 
 -- A component.
-module _ (t : Grown Process) (names : ℕ) (own : OwnFields) (preceding : ℕ) (path whole scope scope′ table table₁ table′ : List ℕ) (w : Walk) where
-  pub component-found : ltb (length path) 8 ≡ true → (ltb (length path) 8 ≡ true → whole ≡ path ++ (own .group ∷ [])) → table₁ ≡ withPath table preceding whole
-      → Inferred t (acts (record { number = preceding; path = whole }) false (map some (take names scope)) (t .tree)) names scope scope′ table₁ table′ w
+module _ (t : Grown Process) (names : ℕ) (own : OwnFields) (preceding : ℕ) (path whole scope scope′ table table₀ table₁ table′ : List ℕ) (w : Walk) where
+  pub component-found : ltb (length path) 8 ≡ true → (ltb (length path) 8 ≡ true → whole ≡ path ++ (own .group ∷ []))
+      → table₀ ≡ withPurpose table preceding (own .purpose) → table₁ ≡ withPath table₀ preceding whole
+      → Inferred t (acts (record { number = preceding; path = whole; purpose = 0 }) false (map some (take names scope)) (t .tree)) names scope scope′ table₁ table′ w
       → InferredAt preceding path (under (compₛ own) t) names scope scope′ table table′ (record { next = w .next; fault = w .fault; components = preceding + 1 })
   unfolding under locate componentAt components worstAll chargedAll actsOf
-  component-found o d q h = record {
+  component-found o d p q h = record {
     place = h .place;
-    first = once (rw (d o) at (h .first)) (worst-most _);
+    first = once (rw (d o) at (h .first) ∙ purpose-aside preceding _ 0 (own .purpose) false (map some (take names scope)) (t .tree)) (worst-most _);
     number = refl;
-    counted = rw (q, d o) at (h .counted);
+    counted = rw (q, p, d o) at (h .counted) ∙ purpose-uncounted preceding _ 0 (own .purpose) _ false (map some (take names scope)) (t .tree);
     kept = h .kept;
   }
     where

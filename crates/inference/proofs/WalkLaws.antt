@@ -1,4 +1,5 @@
--- Laws of what a walk finds: acts that follow one another, components that follow one another, and a name that is bound.
+-- Laws of what a walk finds: acts that follow one another, acts of components that differ in their purpose, components that follow one
+-- another, and a name that is bound.
 use Prim.Native.Nat.{ℕ, zero, suc, _+_, _<_, _≤_, min}
 use mathlib.Core.List.{List, [], _∷_, _++_, map}
 use mathlib.Core.Option.{Option, some, none}
@@ -7,9 +8,11 @@ use native.Mathlib.Numerals.{add-one}
 use native.Mathlib.Omega.{arith}
 use lib.ListN.{length, take, set, getElem?}
 use lib.Seq.{take-suc-set, take-set-le, take-take}
-use Rattle.inference.specs.Acts.{Act, Located, typeOf, actsOf}
+use mathlib.Core.Bool.{Bool, true}
+use Rattle.reading.specs.Syntax.{Process, nil, par, new, input, output, repl}
+use Rattle.inference.specs.Acts.{Act, Component, Located, typeOf, acts, actsOf}
 use Rattle.inference.specs.Needs.{needOf}
-use Rattle.inference.specs.Rows.{charge, withPath}
+use Rattle.inference.specs.Rows.{charge, withComponent}
 use Rattle.inference.specs.Walks.{faultOf, worst, charged, worstAll, chargedAll}
 
 pub min-cong : {a b c d : ℕ} → a ≡ c → b ≡ d → min a b ≡ min c d
@@ -34,6 +37,37 @@ unfolding charged
 charged-append t [] ys = refl
 charged-append t (a ∷ xs) ys = charged-append (charge t (a .component .number) (needOf a) (a .repeated)) xs ys
 
+-- A component's purpose has no part in what its acts fail and count.
+module _ (number : ℕ) (path : List ℕ) (one other : ℕ) where
+  abbrev with : ℕ → Component
+  with purpose = record { number = number; path = path; purpose = purpose }
+
+  pub purpose-aside : (r : Bool) (scope : List (Option ℕ)) (p : Process) → worst (acts (with one) r scope p) ≡ worst (acts (with other) r scope p)
+  unfolding acts worst faultOf
+  purpose-aside r scope nil = refl
+  purpose-aside r scope (par p q) =
+      worst-append (acts (with one) r scope p) (acts (with one) r scope q)
+      ∙ min-cong (purpose-aside r scope p) (purpose-aside r scope q)
+      ∙ sym (worst-append (acts (with other) r scope p) (acts (with other) r scope q))
+  purpose-aside r scope (new t p) = purpose-aside r (scope ++ (some t ∷ [])) p
+  purpose-aside r scope (input x t p) = min-cong refl (purpose-aside r (scope ++ (some t ∷ [])) p)
+  purpose-aside r scope (output x y p) = min-cong refl (purpose-aside r scope p)
+  purpose-aside r scope (repl p) = purpose-aside true scope p
+
+  pub purpose-uncounted : (table : List ℕ) (r : Bool) (scope : List (Option ℕ)) (p : Process)
+      → charged table (acts (with one) r scope p) ≡ charged table (acts (with other) r scope p)
+  unfolding acts charged needOf
+  purpose-uncounted table r scope nil = refl
+  purpose-uncounted table r scope (par p q) =
+      charged-append table (acts (with one) r scope p) (acts (with one) r scope q)
+      ∙ purpose-uncounted (charged table (acts (with one) r scope p)) r scope q
+      ∙ ap (λ (t : List ℕ). charged t (acts (with other) r scope q)) (purpose-uncounted table r scope p)
+      ∙ sym (charged-append table (acts (with other) r scope p) (acts (with other) r scope q))
+  purpose-uncounted table r scope (new t p) = purpose-uncounted table r (scope ++ (some t ∷ [])) p
+  purpose-uncounted table r scope (input x t p) = purpose-uncounted _ r (scope ++ (some t ∷ [])) p
+  purpose-uncounted table r scope (output x y p) = purpose-uncounted _ r scope p
+  purpose-uncounted table r scope (repl p) = purpose-uncounted table true scope p
+
 pub worstAll-most : (xs : List Located) → worstAll xs ≤ 11
 unfolding worstAll
 worstAll-most [] = omega arith
@@ -48,7 +82,7 @@ pub chargedAll-append : (t : List ℕ) (xs ys : List Located) → chargedAll t (
 unfolding chargedAll
 chargedAll-append t [] ys = refl
 chargedAll-append t (l ∷ xs) ys =
-    chargedAll-append (charged (withPath t (l .component .number) (l .component .path)) (actsOf l)) xs ys
+    chargedAll-append (charged (withComponent t (l .component)) (actsOf l)) xs ys
 
 -- The scope after a name was bound, and what is kept of it.
 pub bound : (l : List ℕ) (n t : ℕ) → n < length l → take (n + 1) (set l n t) ≡ take n l ++ (t ∷ [])

@@ -9,14 +9,15 @@ use Rattle.reading.specs.declared.OwnFields.{OwnFields}
 use Rattle.inference.specs.Lists.{gather}
 
 -- A component (document 01: a post): "A post's path is the groups passed on the way to it, its own last. Posts are numbered
--- from 0 in sheet order."
+-- from 0 in sheet order." It has a purpose (document 02, Q-6).
 pub record Component : Type 0 where
   pub number : ℕ
   pub path : List ℕ
+  pub purpose : ℕ
 
 -- The component with a number, the groups passed on the way to it, and its own fields.
 unfoldable pub componentAt : ℕ → List ℕ → OwnFields → Component
-componentAt number path own = record { number = number; path = path ++ (own .group ∷ []) }
+componentAt number path own = record { number = number; path = path ++ (own .group ∷ []); purpose = own .purpose }
 
 -- The type of the name at a level of a scope; none past its last level. A level may have none itself: in a run, that of a
 -- name never given.

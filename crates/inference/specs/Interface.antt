@@ -111,9 +111,9 @@ unfoldable pub listBytes : List Disclosure → List ℕ
 listBytes [] = []
 listBytes (d ∷ ds) = length (d ∷ ds) ∷ gather disclosureBytes (d ∷ ds)
 
--- an entry up to its map, and what follows
+-- an entry up to its map, and what follows: "An interface entry gains the purpose byte after its path" (Q-6)
 abbrev pub headThen : Entry → List ℕ → List ℕ
-headThen e rest = e .kind ∷ length (e .component .path) ∷ (e .component .path ++ (mapOf e ∷ rest))
+headThen e rest = e .kind ∷ length (e .component .path) ∷ (e .component .path ++ (e .component .purpose ∷ mapOf e ∷ rest))
 
 unfoldable pub entryBytes : Entry → List ℕ
 entryBytes e = headThen e (listBytes (e .disclose))

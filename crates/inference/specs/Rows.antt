@@ -1,4 +1,4 @@
--- The table of what components need: rows of 210 cells (src/rows.rt). Its cells are the counts that acts need together
+-- The table of what components need: rows of 211 cells (src/rows.rt). Its cells are the counts that acts need together
 -- (`charged-count` of the crate interface's proofs/CellLaws.antt).
 use Prim.Native.Nat.{ℕ, zero, suc, _+_, _*_, _%_, _<_, min}
 use mathlib.Core.Path.{_≡_}
@@ -11,6 +11,7 @@ use Rattle.needs.specs.declared.Need.the-variants.{Nothing, Read, Write, Access
 use Rattle.reading.specs.Forms.{member}
 use Rattle.inference.specs.Lists.{every, only, gather, rising}
 use Rattle.inference.specs.Counts.{Count, fin, unlimited, isZero}
+use Rattle.inference.specs.Acts.{Component}
 use Rattle.inference.specs.Interface.{Disclosure, Entry, holdsAny, Required}
 
 -- one more, or unlimited under a repeat
@@ -22,7 +23,7 @@ unfoldable pub chargeAt : List ℕ → ℕ → Bool → List ℕ
 chargeAt table at repeated = set table at (bumped (getD table at 0) repeated)
 
 unfoldable pub cellOf : ℕ → ℕ → ℕ → ℕ
-cellOf component kind column = component * 210 + (18 + (kind * 12 + column))
+cellOf component kind column = component * 211 + (18 + (kind * 12 + column))
 
 unfoldable pub chargeCell : List ℕ → ℕ → ℕ → ℕ → Bool → List ℕ
 chargeCell table component kind column repeated =
@@ -37,10 +38,10 @@ chargeColumn table component kind column repeated = chargeCell (marked table com
 
 -- the groups of a component's path, rising: how many, and each
 unfoldable pub groupCount : List ℕ → ℕ → ℕ
-groupCount table component = min (getD table (component * 210 + 9) 0) 8
+groupCount table component = min (getD table (component * 211 + 9) 0) 8
 
 unfoldable pub groupAt : List ℕ → ℕ → ℕ → ℕ
-groupAt table component place = getD table (component * 210 + (10 + place)) 0
+groupAt table component place = getD table (component * 211 + (10 + place)) 0
 
 unfoldable pub rowGroups : List ℕ → ℕ → List ℕ
 rowGroups table component = map (groupAt table component) (rising 0 (groupCount table component))
@@ -95,25 +96,37 @@ nextGroup (g ∷ path) from = min (candidate g from) (nextGroup path from)
 -- groups in a component's row, and how many they are
 unfoldable pub withGroups : List ℕ → ℕ → List ℕ → List ℕ
 withGroups table component groups =
-    set (stored table (component * 210 + 10) groups) (component * 210 + 9) (length groups % 65536)
+    set (stored table (component * 211 + 10) groups) (component * 211 + 9) (length groups % 65536)
 
 -- a path in its component's row: its length, its groups, and its groups rising
 unfoldable pub withPath : List ℕ → ℕ → List ℕ → List ℕ
-withPath table component path = withGroups (stored table (component * 210) (length path ∷ path)) component (risingGroups path)
+withPath table component path = withGroups (stored table (component * 211) (length path ∷ path)) component (risingGroups path)
+
+-- a purpose in its component's row, in the last cell
+unfoldable pub withPurpose : List ℕ → ℕ → ℕ → List ℕ
+withPurpose table component purpose = set table (component * 211 + 210) (purpose % 65536)
+
+-- a component in its row
+abbrev pub withComponent : List ℕ → Component → List ℕ
+withComponent table c = withPath (withPurpose table (c .number) (c .purpose)) (c .number) (c .path)
+
+unfoldable pub purposeAt : List ℕ → ℕ → ℕ
+purposeAt table component = getD table (component * 211 + 210) 0
 
 unfoldable pub pathAt : List ℕ → ℕ → List ℕ
-pathAt table component = take (getD table (component * 210) 0) (take 8 (drop (component * 210 + 1) table))
+pathAt table component = take (getD table (component * 211) 0) (take 8 (drop (component * 211 + 1) table))
 
 unfoldable pub cell : List ℕ → ℕ → ℕ → ℕ → ℕ
 cell table component kind column = getD table (cellOf component kind column) 0
 
--- A row in order: its groups are groups, rise, and are those of its path, which are groups; its counts are below 65,536, and a kind that is not
--- marked has none.
+-- A row in order: its groups are groups, rise, and are those of its path, which are groups; its purpose is one of sixteen; its counts are
+-- below 65,536, and a kind that is not marked has none.
 pub record Orderly (table : List ℕ) (component : ℕ) : Type 0 where
   pub low : (i : ℕ) → i < groupCount table component → groupAt table component i < 64
   pub rises : (i j : ℕ) → i < j → j < groupCount table component → groupAt table component i < groupAt table component j
   pub groups : rowGroups table component ≡ risingGroups (pathAt table component)
   pub path-low : every (λ g. ltb g 64) (pathAt table component) ≡ true
+  pub purpose-low : purposeAt table component < 16
   pub counts : (kind place : ℕ) → kind < 16 → place < 8 → cell table component kind place < 65536
   pub unmarked : (kind place : ℕ) → kind < 16 → place < 8 → cell table component kind 11 ≡ 0 → cell table component kind place ≡ 0
 
@@ -132,7 +145,7 @@ disclosuresAt table component kind =
 -- the entry of a component and a kind that a table holds
 unfoldable pub entryAt : List ℕ → ℕ → ℕ → Entry
 entryAt table component kind = record {
-  component = record { number = component; path = pathAt table component };
+  component = record { number = component; path = pathAt table component; purpose = purposeAt table component };
   kind = kind;
   read = isSet (cell table component kind 8);
   write = isSet (cell table component kind 9);

@@ -21,7 +21,7 @@ use Rattle.inference.specs.declared.SystemWalk.{SystemWalk}
 use Rattle.inference.specs.Acts.{Act, Component, Located, acts, actsOf, locate, located}
 use Rattle.inference.specs.Typing.{isKnown, ofChannel, isType}
 use Rattle.inference.specs.Needs.{needOf}
-use Rattle.inference.specs.Rows.{charge, withPath}
+use Rattle.inference.specs.Rows.{charge, withComponent}
 
 -- The first of questions 7 to 10 that an act fails, or 11: the tests of Typing.antt, one after another.
 unfoldable pub fault : Option ℕ → Option ℕ → List ℕ → ℕ
@@ -44,11 +44,11 @@ unfoldable pub charged : List ℕ → List Act → List ℕ
 charged table [] = table
 charged table (a ∷ rest) = charged (charge table (a .component .number) (needOf a) (a .repeated)) rest
 
--- The table after components: each one's path, then its acts.
+-- The table after components: each one's own cells, then its acts.
 unfoldable pub chargedAll : List ℕ → List Located → List ℕ
 chargedAll table [] = table
 chargedAll table (l ∷ rest) =
-    chargedAll (charged (withPath table (l .component .number) (l .component .path)) (actsOf l)) rest
+    chargedAll (charged (withComponent table (l .component)) (actsOf l)) rest
 
 -- The first question that any of the components' acts fails, or 11.
 unfoldable pub worstAll : List Located → ℕ
@@ -62,11 +62,12 @@ pub record Inferred (t : Grown Process) (walked : List Act) (names : ℕ) (scope
   pub counted : table′ ≡ charged table walked
   pub kept : take names scope′ ≡ take names scope
 
--- The same, in a context: whose acts they are, and whether they stand under a repeat.
+-- The same, in a context: whose acts they are, and whether they stand under a repeat. What is found and counted does not depend on the
+-- purpose (`purpose-aside` of proofs/WalkLaws.antt), so the context has none, and 0 stands here.
 abbrev pub InferredIn : Context → Grown Process → ℕ → List ℕ → List ℕ → List ℕ → List ℕ → Walk → Type 0
 InferredIn c t names scope scope′ table table′ r =
-    Inferred t (acts (record { number = c .component; path = pathOf (c .path) }) (c .repeated) (map some (take names scope)) (t .tree))
-    names scope scope′ table table′ r
+    Inferred t (acts (record { number = c .component; path = pathOf (c .path); purpose = 0 }) (c .repeated)
+    (map some (take names scope)) (t .tree)) names scope scope′ table table′ r
 
 -- Where a form binds a name, there is room for it.
 unfoldable pub binds : ℕ → Form → Bool

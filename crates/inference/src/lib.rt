@@ -1,6 +1,6 @@
 // Typing and inference over encoded systems: questions 7 to 10, what each act needs, and the permission interface.
-// One walk over the sheet finds the first question that fails and fills a table: for each component a row of its path and of
-// the counts of what it needs.
+// One walk over the sheet finds the first question that fails and fills a table: for each component a row of its path and
+// purpose and of the counts of what it needs.
 pub mod acts;
 pub mod rows;
 pub mod scope;

@@ -1,7 +1,7 @@
-// The table of what components need, in lent memory: a row of 210 cells for each component. Cell 0 is the length of its path, cells 1
+// The table of what components need, in lent memory: a row of 211 cells for each component. Cell 0 is the length of its path, cells 1
 // to 8 its path; cell 9 is the number of its path's groups, cells 10 to 17 these groups, rising; and from cell 18 on for each kind 11
 // counts, of disclosures into these groups, of reads, of writes and of accesses, then a mark: 1 where anything of the kind is
-// needed. Question 10 lets a component disclose into the groups of its path alone. 65,535 is unlimited.
+// needed; the last cell is its purpose. Question 10 lets a component disclose into the groups of its path alone. 65,535 is unlimited.
 ghost use mathlib.Core.Path.{_≡_};
 ghost use mathlib.Core.List.{_∷_};
 ghost use Prim.Native.Nat.{_+_, _-_, _*_, _%_, _<_, _≤_, min};
@@ -23,10 +23,12 @@ ghost use Rattle.inference.specs.Rows.{
   nextGroup,
   pathAt,
   placeFrom,
+  purposeAt,
   risingGroups,
   stored,
   withGroups,
   withPath,
+  withPurpose,
 };
 use needs::Need;
 use reading::Path;
@@ -47,7 +49,7 @@ pub fn cell_of(component: usize, kind: usize, column: usize) -> usize
     requires { ⌜ (component < 32) × (kind < 16) × (column < 12) ⌝ }
     ensures { λ r. ⌜ r ≡ cellOf component kind column ⌝ }
 {
-    component * 210 + (18 + (kind * 12 + column))
+    component * 211 + (18 + (kind * 12 + column))
 }
 
 fn charge_at(table: &mut [u16], at: usize, repeated: bool)
@@ -95,7 +97,7 @@ pub fn group_count(table: &[u16], component: usize) -> usize
     ensures { λ r. ⌜ r ≡ groupCount (now (table .entry)) component ⌝ }
     ensures few { λ r. ⌜ r ≤ 8 ⌝ }
 {
-    let count = cell_at(table, component * 210 + 9);
+    let count = cell_at(table, component * 211 + 9);
     if count < 8 { count } else { 8 }
 }
 
@@ -104,7 +106,7 @@ pub fn group_at(table: &[u16], component: usize, place: usize) -> usize
     requires { ⌜ (component < 32) × (place < 8) ⌝ }
     ensures { λ r. ⌜ r ≡ groupAt (now (table .entry)) component place ⌝ }
 {
-    cell_at(table, component * 210 + (10 + place))
+    cell_at(table, component * 211 + (10 + place))
 }
 
 // The place of a group among them, or 11.
@@ -201,7 +203,7 @@ fn store_groups(table: &mut [u16], component: usize, path: Path)
     requires { ⌜ component < 32 ⌝ }
     ensures { λ r. ⌜ now (table .exit) ≡ withGroups (now (table .entry)) component (risingGroups (pathOf path)) ⌝ }
 {
-    let row = component * 210;
+    let row = component * 211;
     let mut count: usize = 0;
     let mut group = next_group(path, 0);
     while group < 64 {
@@ -215,10 +217,10 @@ fn store_groups(table: &mut [u16], component: usize, path: Path)
 // Stores a component's path in its row, group by group as it stands.
 fn store_steps(table: &mut [u16], component: usize, path: Path)
     requires { ⌜ component < 32 ⌝ }
-    ensures { λ r. ⌜ now (table .exit) ≡ stored (now (table .entry)) (component * 210) (length (pathOf path) ∷ pathOf path) ⌝ }
+    ensures { λ r. ⌜ now (table .exit) ≡ stored (now (table .entry)) (component * 211) (length (pathOf path) ∷ pathOf path) ⌝ }
 {
     let len = path_len(path);
-    let row = component * 210;
+    let row = component * 211;
     put(table, row, len);
     let groups = path.groups;
     let mut i: usize = 0;
@@ -235,6 +237,22 @@ pub fn store_path(table: &mut [u16], component: usize, path: Path)
 {
     store_steps(table, component, path);
     store_groups(table, component, path);
+}
+
+// Stores a component's purpose in its row.
+pub fn store_purpose(table: &mut [u16], component: usize, purpose: usize)
+    requires { ⌜ component < 32 ⌝ }
+    ensures { λ r. ⌜ now (table .exit) ≡ withPurpose (now (table .entry)) component purpose ⌝ }
+{
+    put(table, component * 211 + 210, purpose);
+}
+
+// The purpose in a component's row.
+pub fn purpose_of(table: &[u16], component: usize) -> usize
+    requires { ⌜ component < 32 ⌝ }
+    ensures { λ r. ⌜ r ≡ purposeAt (now (table .entry)) component ⌝ }
+{
+    cell_at(table, component * 211 + 210)
 }
 
 // What stands in a cell, 0 past the table's end.
@@ -275,7 +293,7 @@ pub fn path_of(table: &[u16], component: usize) -> Path
     requires { ⌜ component < 32 ⌝ }
     ensures { λ r. ⌜ pathOf r ≡ pathAt (now (table .entry)) component ⌝ }
 {
-    let row = component * 210;
+    let row = component * 211;
     let len = stored_len(table, row);
     let mut groups = [0usize; 8];
     let mut i: usize = 0;

@@ -1,4 +1,4 @@
-// The walk over a system: it numbers the components, stores their paths and walks their processes.
+// The walk over a system: it numbers the components, stores their paths and purposes and walks their processes.
 ghost use mathlib.Core.Path.{_≡_};
 ghost use mathlib.Core.Bool.{true};
 ghost use mathlib.Core.List.{map};
@@ -15,6 +15,7 @@ use crate::Context;
 use crate::Spot;
 use crate::SystemWalk;
 use crate::rows::store_path;
+use crate::rows::store_purpose;
 use crate::scope::bind;
 use crate::walks::infer_process;
 use crate::walks::least;
@@ -37,7 +38,7 @@ fn with_fault(fault: usize, rest: SystemWalk) -> SystemWalk
     }
 }
 
-// A component: its path goes into its row, its process is walked.
+// A component: its path and purpose go into its row, its process is walked.
 fn infer_component(
     s: &[u8],
     spot: Spot,
@@ -59,6 +60,7 @@ fn infer_component(
         repeated: false,
     };
     let number = component + 1;
+    store_purpose(table, component, own.purpose);
     store_path(table, component, whole);
     let walk = infer_process(s, spot, context, scope, table);
     SystemWalk {

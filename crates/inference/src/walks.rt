@@ -113,7 +113,7 @@ pub fn infer_process(
 ) -> Walk
     requires { ⌜ (context .component < 32) × (length (now scope) ≡ 64) ⌝ }
     ensures { λ r. ⌜ Inferred (processTree (spot .nest) (now (s .entry)) (spot .names) (spot .at))
-        (acts (record { number = context .component; path = pathOf (context .path) }) (context .repeated)
+        (acts (record { number = context .component; path = pathOf (context .path); purpose = 0 }) (context .repeated)
         (map some (take (spot .names) (now (scope .entry))))
         (processTree (spot .nest) (now (s .entry)) (spot .names) (spot .at) .tree))
         (spot .names) (now (scope .entry)) (now (scope .exit)) (now (table .entry)) (now (table .exit)) r ⌝ }

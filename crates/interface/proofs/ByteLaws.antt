@@ -1,4 +1,4 @@
--- The numbers of an interface's bytes are bytes: kinds, groups, lengths and maps are small, and counts are stored by their
+-- The numbers of an interface's bytes are bytes: kinds, groups, lengths, purposes and maps are small, and counts are stored by their
 -- low and high byte.
 use Prim.Native.Nat.{ℕ, suc, _/_, _%_, _<_, _≤_}
 use mathlib.Core.List.{List, [], _∷_}
@@ -33,6 +33,7 @@ path-bytes (g ∷ rest) h =
 pub record Small (e : Entry) : Type 0 where
   pub kind : e .kind < 16
   pub path : FitsRow (e .component .path)
+  pub purpose : e .component .purpose < 16
   pub few : length (e .disclose) ≤ 64
   pub groups : All (λ d. d .group < 64) (e .disclose)
 
@@ -65,18 +66,20 @@ map-small e = omega (arith, bit-small (e .read) 1, bit-small (e .write) 2, bit-s
 pub head-bytes : (e : Entry) (rest : List ℕ) → Small e → Bytes rest → Bytes (headThen e rest)
 head-bytes e rest s more =
     byte-more (e .kind) (omega (arith, s .kind)) (byte-more (length (e .component .path)) (omega (arith, s .path .short))
-    (bytes-append (path-bytes (e .component .path) (s .path .groups)) (byte-more (mapOf e) (map-small e) more)))
+    (bytes-append (path-bytes (e .component .path) (s .path .groups))
+    (byte-more (e .component .purpose) (omega (arith, s .purpose)) (byte-more (mapOf e) (map-small e) more))))
 
 entry-bytes : (e : Entry) → Small e → Bytes (entryBytes e)
 unfolding entryBytes
 entry-bytes e s = head-bytes e (listBytes (e .disclose)) s (list-bytes (e .disclose) (s .few) (s .groups))
 
 -- The entries of a sheet that was read are small.
-entry-small : (c : Component) (acts : List Act) (k : ℕ) → FitsRow (c .path) → k < 16 → Small (entryOf c acts k)
+entry-small : (c : Component) (acts : List Act) (k : ℕ) → FitsRow (c .path) → c .purpose < 16 → k < 16 → Small (entryOf c acts k)
 unfolding entryOf disclosuresOf
-entry-small c acts k p h = record {
+entry-small c acts k p q h = record {
   kind = h;
   path = p;
+  purpose = q;
   few = chosen-few (λ d. not (isZero (d .count))) (λ g. record { group = g; count = disclosed k g acts }) 0 64;
   groups = all-chosen (λ d. not (isZero (d .count))) (λ g. record { group = g; count = disclosed k g acts }) 0 64 (λ g l. l);
 }
@@ -85,7 +88,7 @@ all-small : (n : ℕ) {ls : List Located} → AllStorable n ls → All Small (ga
 unfolding gather entriesOf
 all-small n store-none = done
 all-small n (store-more {l = l} ok more) =
-    all-append (all-chosen holdsAny (entryOf (l .component) (actsOf l)) 0 16 (λ k h. entry-small (l .component) (actsOf l) k (ok .fits) h)) (all-small (suc n) more)
+    all-append (all-chosen holdsAny (entryOf (l .component) (actsOf l)) 0 16 (λ k h. entry-small (l .component) (actsOf l) k (ok .fits) (ok .purpose-low) h)) (all-small (suc n) more)
 
 pub interface-small : (s charter : List ℕ) (sheet : Sheet) (k : ℕ) → SheetParts s charter sheet k → All Small (interface sheet)
 unfolding interface

@@ -49,7 +49,7 @@ pub cell-inj-column : (n k c d : ℕ) → cellOf n k c ≡ cellOf n k d → c �
 unfolding cellOf
 cell-inj-column n k c d e = omega arith
 
-pub cell-below : {rows : ℕ} (n k c : ℕ) → n < rows → k < 16 → c < 12 → cellOf n k c < rows * 210
+pub cell-below : {rows : ℕ} (n k c : ℕ) → n < rows → k < 16 → c < 12 → cellOf n k c < rows * 211
 unfolding cellOf
 cell-below n k c p q r = omega arith
 
@@ -93,7 +93,7 @@ mark-count table n kind k c q =
     not-mark : k ≡ kind → cellOf n k c ≡ cellOf n kind 11 → ⊥
     not-mark f e = omega (arith, cell-inj-column n k c 11 (e ∙ ap (λ (x : ℕ). cellOf n x 11) (sym f)))
 
-module _ {rows : ℕ} (table : List ℕ) (n : ℕ) (small : n < rows) (long : length table ≡ rows * 210) (repeated : Bool) where
+module _ {rows : ℕ} (table : List ℕ) (n : ℕ) (small : n < rows) (long : length table ≡ rows * 211) (repeated : Bool) where
   charge-in : (kind column k c : ℕ) → k < 16 → c < 11 → kind < 16 → column < 11
       → getD (chargeAt table (cellOf n kind column) repeated) (cellOf n k c) 0
       ≡ raised (getD table (cellOf n k c) 0) (landsIn kind column k c) repeated
@@ -128,7 +128,7 @@ module _ {rows : ℕ} (table : List ℕ) (n : ℕ) (small : n < rows) (long : le
       go true false e f = rw (lands-off-column kind column k c (λ h. absurd (omega (arith, ltb-false column 11 f)))) refl
       go false b e f = rw (lands-off-kind kind column k c (λ h. absurd (omega (arith, ltb-false kind 16 e)))) refl
 
-module _ {rows : ℕ} (table : List ℕ) (n : ℕ) (small : n < rows) (long : length table ≡ rows * 210) (repeated : Bool) where
+module _ {rows : ℕ} (table : List ℕ) (n : ℕ) (small : n < rows) (long : length table ≡ rows * 211) (repeated : Bool) where
   charge-column : (kind column k c : ℕ) → k < 16 → c < 11
       → getD (chargeColumn table n kind column repeated) (cellOf n k c) 0
       ≡ raised (getD table (cellOf n k c) 0) (landsIn kind column k c) repeated
@@ -149,7 +149,7 @@ module _ {rows : ℕ} (table : List ℕ) (n : ℕ) (small : n < rows) (long : le
 
 -- outside the cells of a component's row from the nineteenth on
 unfoldable pub Outside : ℕ → ℕ → Type 0
-Outside n i = (i < n * 210 + 18) ⊎ (n * 210 + 210 ≤ i)
+Outside n i = (i < n * 211 + 18) ⊎ (n * 211 + 210 ≤ i)
 
 outside-cell : (n kind column i : ℕ) → kind < 16 → column < 12 → Outside n i → i ≡ cellOf n kind column → ⊥
 unfolding Outside cellOf
@@ -185,17 +185,17 @@ module _ (n : ℕ) (repeated : Bool) (i : ℕ) (out : Outside n i) (table : List
   charge-kept (Disclose t g) = charge-column-kept t (placeFrom table n g 0 (groupCount table n))
 
 -- tables that agree on a row's groups agree on the groups' columns
-pub same-places : (table table′ : List ℕ) (n : ℕ) → ((i : ℕ) → n * 210 ≤ i → i < n * 210 + 18 → getD table′ i 0 ≡ getD table i 0)
+pub same-places : (table table′ : List ℕ) (n : ℕ) → ((i : ℕ) → n * 211 ≤ i → i < n * 211 + 18 → getD table′ i 0 ≡ getD table i 0)
     → (g place left : ℕ) → place + left ≤ 8 → placeFrom table′ n g place left ≡ placeFrom table n g place left
 unfolding placeFrom groupAt
 same-places table table′ n same g place zero h = refl
 same-places table table′ n same g place (suc left) h =
-    rw (same (n * 210 + (10 + place)) (omega arith) (omega arith), same-places table table′ n same g (suc place) left (omega arith))
+    rw (same (n * 211 + (10 + place)) (omega arith) (omega arith), same-places table table′ n same g (suc place) left (omega arith))
 
-pub same-count : (table table′ : List ℕ) (n : ℕ) → ((i : ℕ) → n * 210 ≤ i → i < n * 210 + 18 → getD table′ i 0 ≡ getD table i 0)
+pub same-count : (table table′ : List ℕ) (n : ℕ) → ((i : ℕ) → n * 211 ≤ i → i < n * 211 + 18 → getD table′ i 0 ≡ getD table i 0)
     → groupCount table′ n ≡ groupCount table n
 unfolding groupCount
-same-count table table′ n same = rw (same (n * 210 + 9) (omega arith) (omega arith))
+same-count table table′ n same = rw (same (n * 211 + 9) (omega arith) (omega arith))
 
 pub count-few : (table : List ℕ) (n : ℕ) → groupCount table n ≤ 8
 unfolding groupCount
@@ -207,7 +207,7 @@ places-kept table n need repeated at places g =
     rw (same-count table (charge table n need repeated) n same)
     (same-places table (charge table n need repeated) n same g 0 (groupCount table n) (omega (arith, count-few table n)) ∙ places g)
   where
-    same : (i : ℕ) → n * 210 ≤ i → i < n * 210 + 18 → getD (charge table n need repeated) i 0 ≡ getD table i 0
+    same : (i : ℕ) → n * 211 ≤ i → i < n * 211 + 18 → getD (charge table n need repeated) i 0 ≡ getD table i 0
     same i p q = charge-kept n repeated i (unfold Outside in inl q) table need
 
 length-charge-cell : (table : List ℕ) (n kind column : ℕ) (repeated : Bool) → length (chargeCell table n kind column repeated) ≡ length table
@@ -310,7 +310,7 @@ few-weigh unlimited more (suc w) true few h = tt
 few-weigh unlimited more w false few h = tt
 
 -- Acts of one component leave in each cell of its row what stood there joined with what they need.
-pub charged-count : {rows : ℕ} (n : ℕ) → n < rows → (at : ℕ → ℕ) (k c : ℕ) → k < 16 → c < 11 → (table : List ℕ) → length table ≡ rows * 210
+pub charged-count : {rows : ℕ} (n : ℕ) → n < rows → (at : ℕ → ℕ) (k c : ℕ) → k < 16 → c < 11 → (table : List ℕ) → length table ≡ rows * 211
     → Places table n at → (x : Count) → getD table (cellOf n k c) 0 ≡ countNumber x → {acts : List Act} → AllOf n acts → Few x (length acts)
     → getD (charged table acts) (cellOf n k c) 0 ≡ countNumber (x ⊕ total (λ a. lands at k c (needOf a)) acts)
 unfolding charged total

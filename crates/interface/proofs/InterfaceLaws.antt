@@ -148,7 +148,7 @@ module _ (table : List ℕ) (component kind : ℕ) where
 
   pub disclosures-few : length (disclosuresAt table component kind) ≤ 8
   unfolding groupCount
-  disclosures-few = rw disclosures-are (omega (arith, parts-few disclosedTo 1 (min (getD table (component * 210 + 9) 0) 8) disclosed-few))
+  disclosures-few = rw disclosures-are (omega (arith, parts-few disclosedTo 1 (min (getD table (component * 211 + 9) 0) 8) disclosed-few))
 
 -- A disclose list is as long as its groups make it.
 pub list-bytes : (ds : List Disclosure) → (length ds ≡ 0 → ⊥) → listBytes ds ≡ length ds ∷ gather disclosureBytes ds
@@ -207,29 +207,29 @@ unfolding pathAt
 path-few table component =
     omega (
       arith,
-      length-take (getD table (component * 210) 0) (take 8 (drop (component * 210 + 1) table)),
-      length-take 8 (drop (component * 210 + 1) table),
+      length-take (getD table (component * 211) 0) (take 8 (drop (component * 211 + 1) table)),
+      length-take 8 (drop (component * 211 + 1) table),
     )
 
 -- An entry up to its map, and what follows.
 pub head-then : (e : Entry) (rest : List ℕ) → headThen e [] ++ rest ≡ headThen e rest
-head-then e rest = ap (λ (l : List ℕ). e .kind ∷ length (e .component .path) ∷ l) (append-assoc (e .component .path) (mapOf e ∷ []) rest)
+head-then e rest = ap (λ (l : List ℕ). e .kind ∷ length (e .component .path) ∷ l) (append-assoc (e .component .path) (e .component .purpose ∷ mapOf e ∷ []) rest)
 
-pub head-length : (e : Entry) (rest : List ℕ) → length (headThen e rest) ≡ 3 + (length (e .component .path) + length rest)
-head-length e rest = omega (arith, length-append (e .component .path) (mapOf e ∷ rest))
+pub head-length : (e : Entry) (rest : List ℕ) → length (headThen e rest) ≡ 4 + (length (e .component .path) + length rest)
+head-length e rest = omega (arith, length-append (e .component .path) (e .component .purpose ∷ mapOf e ∷ rest))
 
-pub entry-length : (e : Entry) → length (entryBytes e) ≡ 3 + (length (e .component .path) + length (listBytes (e .disclose)))
+pub entry-length : (e : Entry) → length (entryBytes e) ≡ 4 + (length (e .component .path) + length (listBytes (e .disclose)))
 unfolding entryBytes
 entry-length e = head-length e (listBytes (e .disclose))
 
 module _ (table : List ℕ) (component : ℕ) where
-  pub entry-few : (kind : ℕ) → length (entryBytesAt table component kind) ≤ 36
+  pub entry-few : (kind : ℕ) → length (entryBytesAt table component kind) ≤ 37
   unfolding entryBytesAt entryAt
   entry-few kind =
-      cond-few (isSet (cell table component kind 11)) (cond (holdsAny (entryAt table component kind)) (entryBytes (entryAt table component kind)) []) 36
-      (cond-few (holdsAny (entryAt table component kind)) (entryBytes (entryAt table component kind)) 36 few)
+      cond-few (isSet (cell table component kind 11)) (cond (holdsAny (entryAt table component kind)) (entryBytes (entryAt table component kind)) []) 37
+      (cond-few (holdsAny (entryAt table component kind)) (entryBytes (entryAt table component kind)) 37 few)
     where
-      few : length (entryBytes (entryAt table component kind)) ≤ 36
+      few : length (entryBytes (entryAt table component kind)) ≤ 37
       few = omega (
         arith,
         entry-length (entryAt table component kind),
@@ -250,8 +250,8 @@ module _ (table : List ℕ) (component : ℕ) where
   unfolding interfaceBytes entryBytesAt
   row-bytes-are = row-parts entryBytes
 
-  pub row-few : length (interfaceBytes (rowEntries table component)) ≤ 576
-  row-few = rw row-bytes-are (parts-few (entryBytesAt table component) 36 16 entry-few)
+  pub row-few : length (interfaceBytes (rowEntries table component)) ≤ 592
+  row-few = rw row-bytes-are (parts-few (entryBytesAt table component) 37 16 entry-few)
 
 -- The interface, component by component.
 abbrev pub rowBytesAt : List ℕ → ℕ → List ℕ

@@ -16,7 +16,7 @@ use Rattle.reading.specs.Told.{pathOf}
 use Rattle.reading.specs.declared.Path.{Path}
 use Rattle.inference.specs.Lists.{gather}
 use Rattle.inference.specs.Interface.{Disclosure, isEmpty, bit, mapOf, disclosureBytes, headThen, listBytes, entryBytes, interfaceBytes}
-use Rattle.inference.specs.Rows.{pathAt, cellOf, cell, isSet, groupCount, groupAt, disclosuresAt, entryAt, rowEntries, tableEntries}
+use Rattle.inference.specs.Rows.{pathAt, purposeAt, cellOf, cell, isSet, groupCount, groupAt, disclosuresAt, entryAt, rowEntries, tableEntries}
 use Rattle.interface.specs.Writes.{storeBytes, Stored, groupBytes, entryBytesAt}
 use Rattle.reading.proofs.Tables.{unset}
 use Rattle.interface.proofs.WriteLaws.{
@@ -142,31 +142,31 @@ module _ (t : List ℕ) (c k : ℕ) where
 
     pub entry-len-some : (m n p l : ℕ) → not u ≡ false → m ≡ mapOf (entryAt t c k) → (m ≡ 0 → ⊥) → p ≡ length (pathAt t c)
         → n ≡ length (disclosuresAt t c k) → ((ds : List Disclosure) → n ≡ length ds → l ≡ length (listBytes ds))
-        → 3 + (p + l) ≡ length (entryBytesAt t c k)
+        → 4 + (p + l) ≡ length (entryBytesAt t c k)
     unfolding entryAt
     entry-len-some m n p l i e h f d g = rw (entry-some m i e h, entry-length (entryAt t c k), f, g (disclosuresAt t c k) d)
 
 -- The length of a component's entries.
 module _ (t : List ℕ) (c : ℕ) where
-  pub row-first : Counting (entryBytesAt t c) 36 16 0 0
-  row-first = count-first (entryBytesAt t c) 36 16 (entry-few t c)
+  pub row-first : Counting (entryBytesAt t c) 37 16 0 0
+  row-first = count-first (entryBytesAt t c) 37 16 (entry-few t c)
 
-  pub row-fits : {v n k : ℕ} → Counting (entryBytesAt t c) 36 16 n k → k < 16 → v ≡ length (entryBytesAt t c k) → Fits w64 (n + v)
+  pub row-fits : {v n k : ℕ} → Counting (entryBytesAt t c) 37 16 n k → k < 16 → v ≡ length (entryBytesAt t c k) → Fits w64 (n + v)
   row-fits {v} w h e = count-fits w v h e (omega arith)
 
-  pub row-last : {n k : ℕ} → Counting (entryBytesAt t c) 36 16 n k → 16 ≤ k → n ≡ length (interfaceBytes (rowEntries t c))
+  pub row-last : {n k : ℕ} → Counting (entryBytesAt t c) 37 16 n k → 16 ≤ k → n ≡ length (interfaceBytes (rowEntries t c))
   row-last w h = rw (row-bytes-are t c) (count-last w h)
 
 -- The length of the interface.
 module _ (t : List ℕ) (m : ℕ) where
-  pub table-first : Counting (rowBytesAt t) 576 m 0 0
-  table-first = count-first (rowBytesAt t) 576 m (row-few t)
+  pub table-first : Counting (rowBytesAt t) 592 m 0 0
+  table-first = count-first (rowBytesAt t) 592 m (row-few t)
 
-  pub table-fits : {v n c : ℕ} → Counting (rowBytesAt t) 576 m n c → c < m → v ≡ length (interfaceBytes (rowEntries t c)) → m ≤ 32
+  pub table-fits : {v n c : ℕ} → Counting (rowBytesAt t) 592 m n c → c < m → v ≡ length (interfaceBytes (rowEntries t c)) → m ≤ 32
       → Fits w64 (n + v)
   table-fits {v} w h e l = count-fits w v h e (omega arith)
 
-  pub table-last : {n c : ℕ} → Counting (rowBytesAt t) 576 m n c → m ≤ c → n ≡ length (interfaceBytes (tableEntries t m))
+  pub table-last : {n c : ℕ} → Counting (rowBytesAt t) 592 m n c → m ≤ c → n ≡ length (interfaceBytes (tableEntries t m))
   table-last w h = rw (table-bytes-are t m) (count-last w h)
 
 -- Bytes stored, one, and those of a path.
@@ -230,11 +230,11 @@ module _ (o : List ℕ) (at : ℕ) where
     list-written n e h s u = rw (list-bytes (disclosuresAt t c k) (λ q. h (e ∙ q)), ← e) (stored-more s u)
 
     -- An entry up to its map.
-    pub head-written : {o₁ o₂ o₃ : List ℕ} {a b r : ℕ} (m : ℕ) → m ≡ mapOf (entryAt t c k)
-        → Stored o o₁ at (k ∷ []) a → Stored o₁ o₂ a (length (pathAt t c) ∷ pathAt t c) b → Stored o₂ o₃ b (m ∷ []) r
-        → Stored o o₃ at (headThen (entryAt t c k) []) r
+    pub head-written : {o₁ o₂ o₃ o₄ : List ℕ} {a b d r : ℕ} (p m : ℕ) → p ≡ purposeAt t c → m ≡ mapOf (entryAt t c k)
+        → Stored o o₁ at (k ∷ []) a → Stored o₁ o₂ a (length (pathAt t c) ∷ pathAt t c) b → Stored o₂ o₃ b (p ∷ []) d → Stored o₃ o₄ d (m ∷ []) r
+        → Stored o o₄ at (headThen (entryAt t c k) []) r
     unfolding entryAt
-    head-written m e s v w = rw e at (stored-more s (stored-more v w))
+    head-written p m f e s v x w = rw (f, e) at (stored-more s (stored-more v (stored-more x w)))
 
     -- An entry.
     module _ (u : Bool) (is : u ≡ isSet (cell t c k 11)) where
@@ -252,18 +252,18 @@ module _ (o : List ℕ) (at : ℕ) where
 
   -- A component's entries, and the interface.
   module _ (t : List ℕ) (c : ℕ) where
-    pub row-written-first : Writing (entryBytesAt t c) 36 16 o at o at 0
-    row-written-first = write-first (entryBytesAt t c) 36 16 o at (entry-few t c)
+    pub row-written-first : Writing (entryBytesAt t c) 37 16 o at o at 0
+    row-written-first = write-first (entryBytesAt t c) 37 16 o at (entry-few t c)
 
-    pub row-written : {o₁ : List ℕ} {m k : ℕ} → Writing (entryBytesAt t c) 36 16 o at o₁ m k → 16 ≤ k
+    pub row-written : {o₁ : List ℕ} {m k : ℕ} → Writing (entryBytesAt t c) 37 16 o at o₁ m k → 16 ≤ k
         → Stored o o₁ at (interfaceBytes (rowEntries t c)) m
     row-written w h = rw (row-bytes-are t c) (write-last w h)
 
   module _ (t : List ℕ) (n : ℕ) where
-    pub table-written-first : Writing (rowBytesAt t) 576 n o at o at 0
-    table-written-first = write-first (rowBytesAt t) 576 n o at (row-few t)
+    pub table-written-first : Writing (rowBytesAt t) 592 n o at o at 0
+    table-written-first = write-first (rowBytesAt t) 592 n o at (row-few t)
 
-    pub table-written : {o₁ : List ℕ} {m c : ℕ} → Writing (rowBytesAt t) 576 n o at o₁ m c → n ≤ c
+    pub table-written : {o₁ : List ℕ} {m c : ℕ} → Writing (rowBytesAt t) 592 n o at o₁ m c → n ≤ c
         → Stored o o₁ at (interfaceBytes (tableEntries t n)) m
     table-written w h = rw (table-bytes-are t n) (write-last w h)
 

@@ -54,7 +54,7 @@ count-mark table n kind column repeated k = go (ltb kind 16) (ltb column 11) ref
     go true false e = refl
     go false b e = refl
 
-module _ {rows : ℕ} (table : List ℕ) (n : ℕ) (small : n < rows) (long : length table ≡ rows * 210) (k : ℕ) (kind : k < 16) where
+module _ {rows : ℕ} (table : List ℕ) (n : ℕ) (small : n < rows) (long : length table ≡ rows * 211) (k : ℕ) (kind : k < 16) where
   mark-set : mark (marked table n k) n k ≡ 1
   unfolding marked
   mark-set = rw (lt-ltb k 16 kind) (getD-set-same table (cellOf n k 11) 1 0 (rw long (cell-below n k 11 small kind (omega arith))))
@@ -84,7 +84,7 @@ module _ {rows : ℕ} (table : List ℕ) (n : ℕ) (small : n < rows) (long : le
   charge-mark at (Disclose t g) r c e = off-kind t (at g) c r (placeFrom table n g 0 (groupCount table n)) e
 
 -- Acts of one component that leave a kind unmarked need nothing of it.
-pub charged-mark : {rows : ℕ} (n : ℕ) → n < rows → (k : ℕ) → k < 16 → (at : ℕ → ℕ) (c : ℕ) (table : List ℕ) → length table ≡ rows * 210
+pub charged-mark : {rows : ℕ} (n : ℕ) → n < rows → (k : ℕ) → k < 16 → (at : ℕ → ℕ) (c : ℕ) (table : List ℕ) → length table ≡ rows * 211
     → {acts : List Act} → AllOf n acts → mark (charged table acts) n k ≡ 0 → (total (λ a. lands at k c (needOf a)) acts ≡ fin 0) × (mark table n k ≡ 0)
 unfolding charged total
 charged-mark n small k kind at c table long of-none e = (refl, e)

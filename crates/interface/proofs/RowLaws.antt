@@ -16,7 +16,7 @@ use Rattle.inference.specs.Counts.{Count, fin, unlimited, _⊕_, repeatedly, co
 use Rattle.inference.specs.Acts.{Act, Component}
 use Rattle.inference.specs.Needs.{needOf, isRead, isWrite, isAccess, disclosures, weigh, total, disclosed}
 use Rattle.inference.specs.Interface.{Disclosure, disclosuresOf, entryOf, isEmpty, holdsAny}
-use Rattle.inference.specs.Rows.{Orderly, cell, countOf, isSet, groupCount, groupAt, rowGroups, risingGroups, disclosuresAt, entryAt, pathAt, usedKinds, rowEntries}
+use Rattle.inference.specs.Rows.{Orderly, cell, countOf, isSet, groupCount, groupAt, rowGroups, risingGroups, disclosuresAt, entryAt, pathAt, purposeAt, usedKinds, rowEntries}
 use Rattle.inference.proofs.CountLaws.{join-comm}
 use Rattle.reading.specs.Forms.{member}
 use Rattle.interface.proofs.PathLaws.{Inside}
@@ -207,13 +207,14 @@ module _ (table : List ℕ) (n : ℕ) (path : List ℕ) (acts : List Act) (h : C
       ∙ map-places (λ g. g) (risingGroups path) 0
       ∙ map-same (risingGroups path)
 
-  pub orderly : pathAt table n ≡ path → every (λ g. ltb g 64) path ≡ true → Orderly table n
-  orderly same small = record {
+  pub orderly : pathAt table n ≡ path → every (λ g. ltb g 64) path ≡ true → purposeAt table n < 16 → Orderly table n
+  orderly same small purpose = record {
     low = λ i p. rw (h .groups i (omega (arith, h .number))) (group-low path i (omega (arith, h .number)));
     rises = λ i j p q.
         rw (h .groups i (omega (arith, h .number)), h .groups j (omega (arith, h .number))) (group-rises path i j p (omega (arith, h .number)));
     groups = groups-back ∙ ap risingGroups (sym same);
     path-low = ap (every (λ g. ltb g 64)) same ∙ small;
+    purpose-low = purpose;
     counts = λ k i p q. rw (h .cells k i p (omega arith))
         (number-small (total (λ a. lands at k i (needOf a)) acts)
         (total-few (λ a. lands at k i (needOf a)) (λ a. lands-few at k i (needOf a)) acts 0 (omega (arith, h .few))));
@@ -255,10 +256,11 @@ module _ (table : List ℕ) (n : ℕ) (path : List ℕ) (acts : List Act) (h : C
       ∙ map-places (into k) (risingGroups path) 0)
       ∙ unfold risingGroups in only-chosen (λ g. member g path) wanted (into k) 0 64 (λ g p r e. rw (nothing k g e) no-count)
 
-  entry-cells : (k : ℕ) → k < 16 → (c : Component) → c .number ≡ n → c .path ≡ pathAt table n → entryAt table n k ≡ entryOf c acts k
+  entry-cells : (k : ℕ) → k < 16 → (c : Component) → c .number ≡ n → c .path ≡ pathAt table n → c .purpose ≡ purposeAt table n
+      → entryAt table n k ≡ entryOf c acts k
   unfolding entryAt entryOf
-  entry-cells k q c e f = λ i. record {
-    component = record { number = sym e i; path = sym f i };
+  entry-cells k q c e f g = λ i. record {
+    component = record { number = sym e i; path = sym f i; purpose = sym g i };
     kind = k;
     read = flag-cell k 8 q (omega arith) (isRead k) (λ a. lands-read at columns k (needOf a)) i;
     write = flag-cell k 9 q (omega arith) (isWrite k) (λ a. lands-write at columns k (needOf a)) i;
@@ -280,9 +282,9 @@ module _ (table : List ℕ) (n : ℕ) (path : List ℕ) (acts : List Act) (h : C
       )
 
   -- a row whose cells are the counts of acts holds their entries
-  pub row-entries : (c : Component) → c .number ≡ n → c .path ≡ pathAt table n
+  pub row-entries : (c : Component) → c .number ≡ n → c .path ≡ pathAt table n → c .purpose ≡ purposeAt table n
       → rowEntries table n ≡ only holdsAny (map (entryOf c acts) (rising 0 16))
   unfolding rowEntries usedKinds
-  row-entries c e f =
+  row-entries c e f g =
       only-chosen (λ k. isSet (cell table n k 11)) holdsAny (entryAt table n) 0 16 (λ k p q u. unmarked-none k (omega arith) u)
-      ∙ ap (only holdsAny) (map-rising (entryAt table n) (entryOf c acts) 0 16 (λ k p q. entry-cells k (omega arith) c e f))
+      ∙ ap (only holdsAny) (map-rising (entryAt table n) (entryOf c acts) 0 16 (λ k p q. entry-cells k (omega arith) c e f g))

@@ -1,6 +1,6 @@
--- How long an interface can be: twelve bytes for the entry of a component and a kind, and three for each group disclosed to. An
+-- How long an interface can be: thirteen bytes for the entry of a component and a kind, and three for each group disclosed to. An
 -- act discloses to one group at most and takes at least one byte of the sheet, so that 32 components and 4,096 bytes make at most
--- 18,432 bytes of interface.
+-- 18,944 bytes of interface.
 use Prim.Native.Nat.{ℕ, zero, suc, _+_, _*_, _<_, _≤_}
 use mathlib.Core.Option.{Option, some}
 use mathlib.Core.Path.{_≡_, refl}
@@ -212,7 +212,7 @@ all-items [] = unfold itemsIn in omega arith
 all-items (l ∷ rest) = omega (arith, items-append (entriesOf l) (gather entriesOf rest), component-items l, all-items rest)
 
 -- Entries by their number and their groups.
-entries-size : {es : List Entry} → All Small es → length (interfaceBytes es) ≤ 12 * length es + 3 * itemsIn es
+entries-size : {es : List Entry} → All Small es → length (interfaceBytes es) ≤ 13 * length es + 3 * itemsIn es
 unfolding interfaceBytes gather itemsIn
 entries-size done = omega arith
 entries-size (also {x = e} {xs = es} s more) = omega (
@@ -287,7 +287,7 @@ located-acts (suc n) s names path preceding at scope p k e =
     (x .rest)
 
 -- So a sheet that was read has at most 4,096 acts, its entries disclose together to at most 4,096 groups, and its interface has at most
--- 18,432 bytes.
+-- 18,944 bytes.
 module _ (s charter : List ℕ) (sheet : Sheet) (k : ℕ) (h : SheetParts s charter sheet k) where
   pub acts-few : actsIn (located sheet) ≤ 4096
   unfolding located
@@ -311,5 +311,5 @@ module _ (s charter : List ℕ) (sheet : Sheet) (k : ℕ) (h : SheetParts s char
     sheet-components s charter sheet k h,
   )
 
-  pub interface-short : length (interfaceBytes (interface sheet)) ≤ 18432
+  pub interface-short : length (interfaceBytes (interface sheet)) ≤ 18944
   interface-short = omega (arith, entries-size (interface-small s charter sheet k h), entries-few, items-few)

@@ -1,5 +1,6 @@
 -- The components of a sheet that was read can be stored in the table: their numbers are consecutive, there are at most 32 of
--- them, their paths have at most eight groups below 64, none twice, and they have fewer acts than the sheet has bytes.
+-- them, their paths have at most eight groups below 64, none twice, their purposes are below 16, and they have fewer acts than the sheet
+-- has bytes.
 use Prim.Native.Nat.{ℕ, zero, suc, _+_, _-_, _*_, _<_, _≤_}
 use mathlib.Core.Option.{Option, some}
 use mathlib.Core.Path.{_≡_, refl, sym, ap, ap₂, _∙_}
@@ -16,12 +17,12 @@ use Rattle.reading.specs.Read.{Read, got, refused, andThen, byteAt, below}
 use Rattle.reading.specs.Types.{typeAt}
 use Rattle.reading.specs.Syntax.{Process, nil, par, new, input, output, repl, System, nilₛ, parₛ, groupₛ, newₛ, compₛ, Sheet, components}
 use native.Mathlib.Decide.{ℕ-discrete, decLt}
-use Rattle.reading.specs.Forms.{member, freshGroupIn, groupFormIn, componentFormIn, newFormIn, systemFormIn, systemAtIn, systemAt, processAt}
+use Rattle.reading.specs.Forms.{member, freshGroupIn, groupFormIn, purposeIn, componentFormIn, newFormIn, systemFormIn, systemAtIn, systemAt, processAt}
 use Rattle.reading.specs.System.{processFrom, readProcessIn, readProcess, component, systemFrom, readSystemIn, readSystem}
 use Rattle.reading.specs.declared.Form.{Form}
 use Rattle.reading.specs.declared.Form.the-variants.{Nil, Par, Group, New, Component, Input, Output, Replicate}
 use Rattle.reading.proofs.Parts.{never, parts, below-found, Every, of-found, every-then, every-cond, every-limited}
-use Rattle.reading.proofs.FormLaws.{FitsSystem, system-room}
+use Rattle.reading.proofs.FormLaws.{FitsSystem, system-room, purpose-small}
 use Rattle.reading.proofs.ReadLaws.{process-local, read-system-local}
 use Rattle.reading.proofs.Local.{place-after}
 use Rattle.reading.proofs.TreeLaws.{components-few, SheetParts}
@@ -112,7 +113,7 @@ own-acts c r scope (input x t p) = of-more refl (own-acts c r (scope ++ (some t 
 own-acts c r scope (output x y p) = of-more refl (own-acts c r scope p)
 own-acts c r scope (repl p) = own-acts c true scope p
 
--- A form's group is below 64 and new to its path (question 6).
+-- A form's group is below 64 and new to its path (question 6), and its purpose below 16.
 record NewTo (path : List ℕ) (g : ℕ) : Type 0 where
   small : g < 64
   fresh : member g path ≡ false
@@ -122,7 +123,7 @@ GroupNew path Nil = Unit {0}
 GroupNew path Par = Unit {0}
 GroupNew path (Group g) = NewTo path g
 GroupNew path (New t) = Unit {0}
-GroupNew path (Component own) = NewTo path (own .group)
+GroupNew path (Component own) = NewTo path (own .group) × (own .purpose < 16)
 GroupNew path (Input a) = Unit {0}
 GroupNew path (Output a) = Unit {0}
 GroupNew path Replicate = Unit {0}
@@ -142,7 +143,8 @@ form-group s at nest names path preceding = every-then P (byteAt s at) _ (λ cod
     (every-cond P (eqb code 1) _ _ (every-limited P _ at _ (λ e. tt))
     (every-cond P (eqb code 2) _ _ (every-limited P _ at _ (λ e. every-then P (freshGroupIn current s next path) _ (λ g m h. of-found _ (freshGroupIn current s next path) (fresh-new s next path) h)))
     (every-cond P (eqb code 3) _ _ (every-limited P _ at _ (λ e. every-then P (typeAt s next) _ (λ t m h. tt)))
-    (every-cond P (eqb code 4) _ _ (every-limited P _ at _ (λ e. every-then P (freshGroupIn current s next path) _ (λ g m h. of-found _ (freshGroupIn current s next path) (fresh-new s next path) h))) tt)))))
+    (every-cond P (eqb code 4) _ _ (every-limited P _ at _ (λ e. every-then P (freshGroupIn current s next path) _ (λ g m h.
+    every-then P (purposeIn current s m) _ (λ p k i. (of-found _ (freshGroupIn current s next path) (fresh-new s next path) h, purpose-small current s m i))))) tt)))))
   where
     P : Form → Type 0
     P = GroupNew path
@@ -241,7 +243,8 @@ module _ (read : ℕ → List ℕ → ℕ → ℕ → Read System) (process : �
       let c : Owner = componentAt preceding path own in
       rw (← z) (store-more (record {
         number = refl;
-        fits = fits-more path (own .group) fits (h .1) g;
+        fits = fits-more path (own .group) fits (h .1) (g .0);
+        purpose-low = g .1;
         own = own-acts c false scope (x .value);
         few = omega (arith, open-acts c false scope (x .value), a next (x .value) (x .place) (x .first));
       })
@@ -290,7 +293,7 @@ sheet-components s charter sheet k h =
 
 -- The table that a sheet's walk leaves in clear memory, where the sheet passes questions 7 to 10.
 module _ (s charter : List ℕ) (sheet : Sheet) (k : ℕ) (h : SheetParts s charter sheet k) (rows : ℕ) (room : components (sheet .system) ≤ rows)
-    (table : List ℕ) (long : length table ≡ rows * 210) (clear : Clear 0 table) (typed : worstAll (located sheet) ≡ 11) where
+    (table : List ℕ) (long : length table ≡ rows * 211) (clear : Clear 0 table) (typed : worstAll (located sheet) ≡ 11) where
   count : length (located sheet) ≡ components (sheet .system)
   unfolding located
   count = located-count 0 [] (map some (sheet .free)) (sheet .system)

@@ -14,6 +14,7 @@ use inference::rows::group_at;
 use inference::rows::group_count;
 use inference::rows::path_len;
 use inference::rows::path_of;
+use inference::rows::purpose_of;
 use reading::Path;
 
 // What stands in the cell of a component, a kind and a column.
@@ -96,7 +97,7 @@ pub fn entry_len(table: &[u16], component: usize, kind: usize) -> usize
     if map_at(table, component, kind, groups) == 0 {
         return 0;
     }
-    3 + (path_size(table, component) + list_len(groups))
+    4 + (path_size(table, component) + list_len(groups))
 }
 
 // The length of the entries of a component.
@@ -223,7 +224,7 @@ fn put_list(
     put_disclosures(table, component, kind, out, next)
 }
 
-// Writes an entry up to its map: kind, path, map.
+// Writes an entry up to its map: kind, path, purpose, map.
 pub fn put_head(
     table: &[u16],
     component: usize,
@@ -234,11 +235,12 @@ pub fn put_head(
 ) -> usize
     requires { ⌜ (component < 32) × (kind < 16) × (map ≡ mapOf (entryAt (now table) component kind)) × (at < 3500000000) ⌝ }
     ensures { λ r. ⌜ Stored (now (out .entry)) (now (out .exit)) at (headThen (entryAt (now (table .entry)) component kind) []) r ⌝ }
-    ensures near { λ r. ⌜ r ≤ at + 11 ⌝ }
+    ensures near { λ r. ⌜ r ≤ at + 12 ⌝ }
 {
     let first = put(out, at, kind);
     let second = put_path(table, component, out, first);
-    put(out, second, map)
+    let third = put(out, second, purpose_of(table, component));
+    put(out, third, map)
 }
 
 // Writes the entry of a component and a kind, where there is one.

@@ -40,6 +40,7 @@ use Rattle.listing.specs.Text.{
   itemsAt,
   bytesAt,
   pathLen,
+  purposeIn,
   mapIn,
   listPlace,
   itemsIn,
@@ -161,6 +162,9 @@ module _ (policy : List Tree) (required : Required) (e : Entry) where
   abbrev path : List ℕ
   path = e .component .path
 
+  abbrev purpose : ℕ
+  purpose = e .component .purpose
+
   abbrev verdicts : List Verdict
   verdicts = covering policy required e
 
@@ -174,19 +178,24 @@ module _ (policy : List Tree) (required : Required) (e : Entry) where
   -- The entry where it stands.
   module _ (s after : List ℕ) (at : ℕ) (here : drop at s ≡ slackEntry policy required e ++ after) where
     abbrev place : ℕ
-    place = at + 3 + length path
+    place = at + 4 + length path
 
-    path-there : drop (at + 2) s ≡ path ++ (mapOf e ∷ (sumsBytes sums ++ after))
+    path-there : drop (at + 2) s ≡ path ++ (purpose ∷ mapOf e ∷ (sumsBytes sums ++ after))
     unfolding slackEntry
-    path-there = after-there s at (e .kind ∷ length path ∷ []) here ∙ append-assoc path (mapOf e ∷ sumsBytes sums) after
+    path-there = after-there s at (e .kind ∷ length path ∷ []) here ∙ append-assoc path (purpose ∷ mapOf e ∷ sumsBytes sums) after
 
-    map-there : drop (at + 2 + length path) s ≡ mapOf e ∷ (sumsBytes sums ++ after)
-    map-there = after-there s (at + 2) path path-there
+    purpose-there : drop (at + 2 + length path) s ≡ purpose ∷ mapOf e ∷ (sumsBytes sums ++ after)
+    purpose-there = after-there s (at + 2) path path-there
+
+    map-there : drop (at + 3 + length path) s ≡ mapOf e ∷ (sumsBytes sums ++ after)
+    map-there =
+        let z : at + 2 + length path + 1 ≡ at + 3 + length path = omega arith in
+        rw z at (after-there s (at + 2 + length path) (purpose ∷ []) purpose-there)
 
     sums-there : drop place s ≡ sumsBytes sums ++ after
     sums-there =
-        let z : at + 2 + length path + 1 ≡ place = omega arith in
-        rw z at (after-there s (at + 2 + length path) (mapOf e ∷ []) map-there)
+        let z : at + 3 + length path + 1 ≡ place = omega arith in
+        rw z at (after-there s (at + 3 + length path) (mapOf e ∷ []) map-there)
 
     kind-is : getD s at 0 ≡ e .kind
     unfolding slackEntry
@@ -196,9 +205,13 @@ module _ (policy : List Tree) (required : Required) (e : Entry) where
     unfolding pathLen slackEntry
     len-is = byte-there s at 1 here
 
+    purpose-is : purposeIn s at ≡ purpose
+    unfolding purposeIn
+    purpose-is = rw (len-is, first-there s (at + 2 + length path) purpose-there)
+
     map-is : mapIn s at ≡ bit (e .read) 1 + (bit (e .write) 2 + (bit (e .access) 4 + bit (not (isEmpty sums)) 16))
     unfolding mapIn mapOf
-    map-is = rw (len-is, first-there s (at + 2 + length path) map-there, sums-empty)
+    map-is = rw (len-is, first-there s (at + 3 + length path) map-there, sums-empty)
 
     place-is : listPlace s at ≡ place
     unfolding listPlace
@@ -212,8 +225,8 @@ module _ (policy : List Tree) (required : Required) (e : Entry) where
     line-there : Storable verdicts → lineAt s at ≡ lineOf e verdicts
     unfolding lineAt lineText itemCount lineOf
     line-there k =
-        rw (kind-is, len-is, place-is, bytes-there path s _ (at + 2) path-there)
-        (bits-back (λ r w a l. lineText (e .kind) path r w a (itemsAt (itemsIn l s place) s (place + 1))) (e .read) (e .write) (e .access) (not (isEmpty sums)) (mapIn s at) map-is
+        rw (kind-is, len-is, purpose-is, place-is, bytes-there path s _ (at + 2) path-there)
+        (bits-back (λ r w a l. lineText (e .kind) path purpose r w a (itemsAt (itemsIn l s place) s (place + 1))) (e .read) (e .write) (e .access) (not (isEmpty sums)) (mapIn s at) map-is
         ∙ rw (count-there s after place sums sums-there, items-are k))
 
     next-there : nextAt s at ≡ at + length (slackEntry policy required e)
@@ -222,7 +235,7 @@ module _ (policy : List Tree) (required : Required) (e : Entry) where
         rw place-is
         (bits-back (λ r w a l. endOf l place (itemsIn l s place)) (e .read) (e .write) (e .access) (not (isEmpty sums)) (mapIn s at) map-is
         ∙ rw (count-there s after place sums sums-there, list-end place sums (sums-five verdicts))
-        (omega (arith, length-append path (mapOf e ∷ sumsBytes sums))))
+        (omega (arith, length-append path (purpose ∷ mapOf e ∷ sumsBytes sums))))
 
   -- The law: whatever stands before and after it, an entry's line is that of the entry and its covering.
   module _ (before after : List ℕ) where

@@ -29,6 +29,7 @@ use Rattle.listing.specs.Text.{
   itemsAt,
   bytesAt,
   pathLen,
+  purposeIn,
   mapIn,
   listPlace,
   itemsIn,
@@ -87,6 +88,11 @@ module _ (o : List ℕ) (at : ℕ) where
   path-some b from zero g h e s u = absurd (h refl)
   path-some b from (suc n) g h e s u = stored-more (rw e at s) (rw (sub-one (suc n)) at u)
 
+  pub component-written : {o₁ o₂ : List ℕ} {m r : ℕ} (b : List ℕ) (from len purpose : ℕ) → purpose ≡ getD b (from + len) 0
+      → Stored o o₁ at (pathText (bytesAt len b from)) m → Stored o₁ o₂ m (58 ∷ decimal purpose) r
+      → Stored o o₂ at (pathText (bytesAt len b from) ++ (58 ∷ decimal (getD b (from + len) 0))) r
+  component-written b from len purpose e s u = stored-more s (rw e at u)
+
   -- Flags.
   pub flag-unset : (value map letter : ℕ) → map / value % 2 ≡ 0 → Stored o o at (flagText (hasBit value map) letter) at
   unfolding flagText hasBit
@@ -143,8 +149,8 @@ module _ (o : List ℕ) (at : ℕ) where
 
   -- The two halves of a line.
   pub head-written : {o₁ o₂ o₃ : List ℕ} {a d r : ℕ} (b : List ℕ) (p len k : ℕ) → k ≡ getD b p 0 → Stored o o₁ at (decimal k) a
-      → Stored o₁ o₂ a (32 ∷ []) d → Stored o₂ o₃ d (pathText (bytesAt len b (p + 2))) r
-      → Stored o o₃ at (headText (getD b p 0) (bytesAt len b (p + 2))) r
+      → Stored o₁ o₂ a (32 ∷ []) d → Stored o₂ o₃ d (pathText (bytesAt len b (p + 2)) ++ (58 ∷ decimal (getD b (p + 2 + len) 0))) r
+      → Stored o o₃ at (headText (getD b p 0) (bytesAt len b (p + 2)) (getD b (p + 2 + len) 0)) r
   unfolding headText
   head-written b p len k e s u v = stored-more (rw e at s) (stored-more u v)
 
@@ -177,15 +183,16 @@ module _ (map list : ℕ) where
 
 -- The line, and the place of the next entry.
 module _ (b : List ℕ) (at len map items : ℕ) where
-  pub next-is : {r : ℕ} → len ≡ getD b (at + 1) 0 → map ≡ getD b (at + 2 + len) 0 → items ≡ itemsIn (hasBit 16 map) b (at + 3 + len)
-      → r ≡ endOf (hasBit 16 map) (at + 3 + len) items → r ≡ nextAt b at
+  pub next-is : {r : ℕ} → len ≡ getD b (at + 1) 0 → map ≡ getD b (at + 3 + len) 0 → items ≡ itemsIn (hasBit 16 map) b (at + 4 + len)
+      → r ≡ endOf (hasBit 16 map) (at + 4 + len) items → r ≡ nextAt b at
   unfolding nextAt itemCount listPlace mapIn pathLen
   next-is e f g h = rw (← e, ← f, ← g) h
 
-  pub line-written : {o o₁ o₂ : List ℕ} {m r : ℕ} → len ≡ getD b (at + 1) 0 → map ≡ getD b (at + 2 + len) 0
-      → items ≡ itemsIn (hasBit 16 map) b (at + 3 + len) → Stored o o₁ 0 (headText (getD b at 0) (bytesAt len b (at + 2))) m
-      → Stored o₁ o₂ m (flagsText (hasBit 1 map) (hasBit 2 map) (hasBit 4 map) ++ (itemsText (itemsAt items b (at + 3 + len + 1)) ++ (10 ∷ []))) r → Stored o o₂ 0 (lineAt b at) r
-  unfolding lineAt lineText itemCount listPlace mapIn pathLen
+  pub line-written : {o o₁ o₂ : List ℕ} {m r : ℕ} → len ≡ getD b (at + 1) 0 → map ≡ getD b (at + 3 + len) 0
+      → items ≡ itemsIn (hasBit 16 map) b (at + 4 + len)
+      → Stored o o₁ 0 (headText (getD b at 0) (bytesAt len b (at + 2)) (getD b (at + 2 + len) 0)) m
+      → Stored o₁ o₂ m (flagsText (hasBit 1 map) (hasBit 2 map) (hasBit 4 map) ++ (itemsText (itemsAt items b (at + 4 + len + 1)) ++ (10 ∷ []))) r → Stored o o₂ 0 (lineAt b at) r
+  unfolding lineAt lineText itemCount listPlace mapIn purposeIn pathLen
   line-written e f g s u = rw (← e, ← f, ← g) (stored-more s u)
 
 pub ruleset listing-steps = (
@@ -203,6 +210,7 @@ pub ruleset listing-steps = (
   dots-last,
   path-none,
   path-some,
+  component-written,
   flag-unset,
   flag-set,
   flags-written,

@@ -1,5 +1,6 @@
--- The text of an entry (document 01, "Example W", and document 02, Q-5): kind, path, then of r, w, a, dG:needed/granted those held, "with *
--- for unlimited"; on an entry and its covering, and on the bytes that stand for them. Bytes of letters and digits are ASCII's.
+-- The text of an entry (document 01, "Example W", and document 02, Q-5 and Q-6): kind, path, the purpose "printed after the path with a
+-- colon", then of r, w, a, dG:needed/granted those held, "with * for unlimited"; on an entry and its covering, and on the bytes that stand
+-- for them. Bytes of letters and digits are ASCII's.
 use Prim.Native.Nat.{ℕ, zero, suc, _+_, _*_, _/_, _%_}
 use mathlib.Core.List.{List, [], _∷_, _++_}
 use mathlib.Core.Bool.{Bool, true, false, cond}
@@ -54,18 +55,18 @@ textOf item = itemText (item .group) (item .needed) (item .granted)
 unfoldable pub itemsText : List Item → List ℕ
 itemsText items = gather textOf items
 
--- The kind and the path of an entry, parted by a space.
-unfoldable pub headText : ℕ → List ℕ → List ℕ
-headText kind path = decimal kind ++ (32 ∷ pathText path)
+-- The kind and the path of an entry, parted by a space, and its purpose, "printed after the path with a colon".
+unfoldable pub headText : ℕ → List ℕ → ℕ → List ℕ
+headText kind path purpose = decimal kind ++ (32 ∷ (pathText path ++ (58 ∷ decimal purpose)))
 
 -- "r, w, a", those held
 unfoldable pub flagsText : Bool → Bool → Bool → List ℕ
 flagsText read write access = flagText read 114 ++ (flagText write 119 ++ flagText access 97)
 
--- The line of an entry: kind, path, then of r, w, a, dG:needed/granted those held, ended by a newline.
-unfoldable pub lineText : ℕ → List ℕ → Bool → Bool → Bool → List Item → List ℕ
-lineText kind path read write access items =
-    headText kind path ++ (flagsText read write access ++ (itemsText items ++ (10 ∷ [])))
+-- The line of an entry: kind, path:purpose, then of r, w, a, dG:needed/granted those held, ended by a newline.
+unfoldable pub lineText : ℕ → List ℕ → ℕ → Bool → Bool → Bool → List Item → List ℕ
+lineText kind path purpose read write access items =
+    headText kind path purpose ++ (flagsText read write access ++ (itemsText items ++ (10 ∷ [])))
 
 -- What is printed of a verdict: a flag's own letter stands or not by what the entry needs, so nothing.
 unfoldable pub verdictText : Verdict → List ℕ
@@ -75,7 +76,7 @@ verdictText (counts h needed granted) = itemText h (countNumber needed) (countNu
 -- The line of an entry and its covering.
 unfoldable pub lineOf : Entry → List Verdict → List ℕ
 lineOf e verdicts =
-    headText (e .kind) (e .component .path)
+    headText (e .kind) (e .component .path) (e .component .purpose)
     ++ (flagsText (e .read) (e .write) (e .access) ++ (gather verdictText verdicts ++ (10 ∷ [])))
 
 -- The number that stands at a place in two bytes, the low byte first.
@@ -95,15 +96,18 @@ unfoldable pub bytesAt : ℕ → List ℕ → ℕ → List ℕ
 bytesAt zero s at = []
 bytesAt (suc n) s at = getD s at 0 ∷ bytesAt n s (at + 1)
 
--- The length of the path of the entry at a place, its map, and the place after its map.
+-- The length of the path of the entry at a place, "the purpose byte after its path", its map, and the place after its map.
 unfoldable pub pathLen : List ℕ → ℕ → ℕ
 pathLen s at = getD s (at + 1) 0
 
+unfoldable pub purposeIn : List ℕ → ℕ → ℕ
+purposeIn s at = getD s (at + 2 + pathLen s at) 0
+
 unfoldable pub mapIn : List ℕ → ℕ → ℕ
-mapIn s at = getD s (at + 2 + pathLen s at) 0
+mapIn s at = getD s (at + 3 + pathLen s at) 0
 
 unfoldable pub listPlace : List ℕ → ℕ → ℕ
-listPlace s at = at + 3 + pathLen s at
+listPlace s at = at + 4 + pathLen s at
 
 -- How many items a list has, and the place after it: there is none where bit 4 of the map does not stand.
 unfoldable pub itemsIn : Bool → List ℕ → ℕ → ℕ
@@ -118,7 +122,7 @@ itemCount s at = itemsIn (hasBit 16 (mapIn s at)) s (listPlace s at)
 -- The line of the entry that is stored with its slack at a place.
 unfoldable pub lineAt : List ℕ → ℕ → List ℕ
 lineAt s at =
-    lineText (getD s at 0) (bytesAt (pathLen s at) s (at + 2)) (hasBit 1 (mapIn s at)) (hasBit 2 (mapIn s at)) (hasBit 4 (mapIn s at))
+    lineText (getD s at 0) (bytesAt (pathLen s at) s (at + 2)) (purposeIn s at) (hasBit 1 (mapIn s at)) (hasBit 2 (mapIn s at)) (hasBit 4 (mapIn s at))
     (itemsAt (itemCount s at) s (listPlace s at + 1))
 
 -- The place of the entry after it.

@@ -1,4 +1,5 @@
-// What the program `list` prints for an entry that is stored with its slack: kind, path, then of r, w, a, dG:needed/granted those held.
+// What the program `list` prints for an entry that is stored with its slack: kind, path:purpose, then of r, w, a, dG:needed/granted those
+// held.
 ghost use mathlib.Core.Path.{_≡_};
 ghost use mathlib.Core.List.{[], _∷_, _++_};
 ghost use Prim.Native.Nat.{_+_, _*_, _<_, _≤_, _%_};
@@ -96,13 +97,14 @@ fn put_decimal(out: &mut [u8], at: usize, n: usize) -> usize
     put_digits(out, at, n, 5)
 }
 
-// A dot and a group.
-fn put_dot(group: usize, out: &mut [u8], at: usize) -> usize
+// A mark and a number.
+fn put_number(mark: usize, n: usize, out: &mut [u8], at: usize) -> usize
     requires { ⌜ at < 800000 ⌝ }
-    ensures { λ r. ⌜ Stored (now (out .entry)) (now (out .exit)) at (46 ∷ decimal group) r ⌝ }
+    ensures { λ r. ⌜ Stored (now (out .entry)) (now (out .exit)) at (mark ∷ decimal n) r ⌝ }
+    ensures near { λ r. ⌜ r ≤ at + 6 ⌝ }
 {
-    let next = put(out, at, 46);
-    put_decimal(out, next, group)
+    let next = put(out, at, mark);
+    put_decimal(out, next, n)
 }
 
 // Groups, a dot before each.
@@ -114,7 +116,7 @@ fn put_dots(s: &[u8], from: usize, len: usize, out: &mut [u8], at: usize) -> usi
     let mut next = at;
     let mut i: usize = 0;
     while i < len {
-        next = put_dot(byte(s, from + i), out, next);
+        next = put_number(46, byte(s, from + i), out, next);
         i += 1;
     }
     next
@@ -246,16 +248,27 @@ fn after(map: usize, list: usize, items: usize) -> usize
     }
 }
 
-// The kind of an entry, a space, and its path.
+// A path, a colon, and the purpose that stands after the path.
+fn put_component(s: &[u8], from: usize, len: usize, out: &mut [u8], at: usize) -> usize
+    requires { ⌜ (from < 100000000) × (len < 256) × (at < 100000) ⌝ }
+    ensures { λ r. ⌜ Stored (now (out .entry)) (now (out .exit)) at
+        (pathText (bytesAt len (now (s .entry)) from) ++ (58 ∷ decimal (getD (now (s .entry)) (from + len) 0))) r ⌝ }
+    ensures near { λ r. ⌜ r ≤ at + 6 * len + 6 ⌝ }
+{
+    let next = put_path(s, from, len, out, at);
+    put_number(58, byte(s, from + len), out, next)
+}
+
+// The kind of an entry, a space, and its path with its purpose.
 fn put_head(s: &[u8], at: usize, len: usize, out: &mut [u8]) -> usize
     requires { ⌜ (at < 1000000) × (len < 256) ⌝ }
     ensures { λ r. ⌜ Stored (now (out .entry)) (now (out .exit)) 0
-        (headText (getD (now (s .entry)) at 0) (bytesAt len (now (s .entry)) (at + 2))) r ⌝ }
+        (headText (getD (now (s .entry)) at 0) (bytesAt len (now (s .entry)) (at + 2)) (getD (now (s .entry)) (at + 2 + len) 0)) r ⌝ }
     ensures near { λ r. ⌜ r ≤ 2000 ⌝ }
 {
     let kind = put_decimal(out, 0, byte(s, at));
     let space = put(out, kind, 32);
-    put_path(s, at + 2, len, out, space)
+    put_component(s, at + 2, len, out, space)
 }
 
 // The flags of an entry, its items, and a newline.
@@ -276,8 +289,8 @@ pub fn entry_line(s: &[u8], at: usize, out: &mut [u8]) -> Line
     ensures { λ r. ⌜ Stored (now (out .entry)) (now (out .exit)) 0 (lineAt (now (s .entry)) at) (r .len) ⌝ }
 {
     let len = byte(s, at + 1);
-    let map = byte(s, at + 2 + len);
-    let list = at + 3 + len;
+    let map = byte(s, at + 3 + len);
+    let list = at + 4 + len;
     let items = item_count(s, map, list);
     let next = after(map, list, items);
     let head = put_head(s, at, len, out);

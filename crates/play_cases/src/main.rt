@@ -27,7 +27,7 @@ fn show(label: &[u8], sheet: &[u8], charter: &[u8], script: &[u8]) {
 fn on_w_in(label: &[u8], script: &[u8], log: &mut [u8]) {
     show_in(
         label,
-        b"\x02\x02\x00\x00\x00\x01\x00\x00\x02\x00\x01\x04\x01\x06\x00\x01\x00\x04\x02\x05\x00\x01\x00\x00\x05\x02\x00\x00\x00",
+        b"\x02\x02\x00\x00\x00\x01\x00\x00\x02\x00\x01\x04\x01\x00\x06\x00\x01\x00\x04\x02\x00\x05\x00\x01\x00\x00\x05\x02\x00\x00\x00",
         b"\x01\x00\x00\x08\x02\x01\x10\x01\x00\x01\x00\x00\x02\x05\x00",
         script,
         log,
@@ -68,7 +68,7 @@ fn scripts() {
 fn refused() {
     show(
         b"W's node 1 as 01 00 00",
-        b"\x02\x02\x00\x00\x00\x01\x00\x00\x02\x00\x01\x04\x01\x06\x00\x01\x00\x04\x02\x05\x00\x01\x00\x00\x05\x02\x00\x00\x00",
+        b"\x02\x02\x00\x00\x00\x01\x00\x00\x02\x00\x01\x04\x01\x00\x06\x00\x01\x00\x04\x02\x00\x05\x00\x01\x00\x00\x05\x02\x00\x00\x00",
         b"\x01\x00\x00\x08\x02\x01\x00\x00\x02\x05\x00",
         b"\x04\x00\x01",
     );
@@ -77,7 +77,7 @@ fn refused() {
 // A component of `rows * columns` repeats in parallel, under the charter 00.
 fn repeats(label: &[u8], rows: usize, columns: usize, form: &[u8], script: &[u8]) {
     let mut sheet = [0u8; 512];
-    let mut n = put_all(&mut sheet, 0, b"\x00\x04\x00");
+    let mut n = put_all(&mut sheet, 0, b"\x00\x04\x00\x00");
     n = put_grid(&mut sheet, n, rows, columns, form);
     show(label, first(&sheet, n), b"\x00", script);
 }
@@ -113,7 +113,7 @@ fn unfoldings() {
 // charter grants all.
 fn acts(label: &[u8], sender: &[u8], other: &[u8], script: &[u8]) {
     let mut sheet = [0u8; 512];
-    let mut n = put_all(&mut sheet, 0, b"\x02\x01\x00\x00\x00\x00\x04\x00\x01");
+    let mut n = put_all(&mut sheet, 0, b"\x02\x01\x00\x00\x00\x00\x04\x00\x00\x01");
     n = put_grid(&mut sheet, n, 2, 31, b"\x07\x00");
     n = put(&mut sheet, n, 1);
     n = put_all(&mut sheet, n, sender);
@@ -189,7 +189,7 @@ fn environment_names() {
     );
     names(
         b"1,023 new names and a repeat 07 03 00 00 00, 01 00 01 00 05 00 00",
-        b"\x00\x01\x04\x00\x07\x03\x00\x00\x00",
+        b"\x00\x01\x04\x00\x00\x07\x03\x00\x00\x00",
         15,
         b"\x01\x00\x01\x00\x05\x00\x00",
     );
@@ -201,7 +201,7 @@ fn moves(label: &[u8], count: usize, bytes: &[u8]) {
     let mut log = [0xAAu8; 8200];
     let n = put_times(&mut script, 0, count, bytes);
     let answer = play(
-        b"\x00\x04\x00\x07\x00",
+        b"\x00\x04\x00\x00\x07\x00",
         b"\x00",
         first(&script, n),
         &mut log,

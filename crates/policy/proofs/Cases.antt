@@ -9,10 +9,10 @@ use Rattle.policy.specs.WellFormed.{sameList, samePermissions, agree, me
 
 -- A map without a list; a list of one group with a count.
 abbrev flags : ℕ → Permissions
-flags m = record { map = m; list = [] }
+flags m = record { map = m; list = []; purposes = 65535 }
 
 abbrev discloses : ℕ → Permissions
-discloses n = record { map = 16; list = record { group = 5; count = n } ∷ [] }
+discloses n = record { map = 16; list = record { group = 5; count = n } ∷ []; purposes = 65535 }
 
 -- A tree with group 0 at its root.
 abbrev tree : ℕ → Permissions → Nodes → Tree

@@ -10,7 +10,7 @@ use Rattle.reading.proofs.Parts.{Every, of-found, every-then, every-cond}
 use Rattle.reading.specs.Read.{Read, got, refused, byteAt, below}
 use Rattle.reading.specs.System.{toItsEnd}
 use Rattle.policy.specs.Syntax.{Granted, Permissions, Node, Nodes, none, more, Tree, alone, hasBit, heads}
-use Rattle.policy.specs.Reading.{asEleven, must, twoBytes, isCount, itemAt, readList, countedList, readPermissions, children, readNode, readTrees, readPolicy}
+use Rattle.policy.specs.Reading.{asEleven, must, twoBytes, isCount, itemAt, readList, countedList, readPurposes, readPermissions, children, readNode, readTrees, readPolicy}
 
 -- A list of such counts, nodes whose lists are such, and trees of such nodes.
 unfoldable pub inCounts : List Granted → Bool
@@ -60,7 +60,8 @@ list-counted (suc n) s lowest at =
 permissions-counted : (s : List ℕ) (at : ℕ) → Every (λ p. inCounts (p .list) ≡ true) (readPermissions s at)
 unfolding Every readPermissions countedList
 permissions-counted s at =
-    every-then P (below 32 s at) _ (λ map m _. every-then P _ _ (λ list k e. of-found Q _ (every-cond Q (hasBit 16 map) _ _ (counted m) none-listed) e))
+    every-then P (below 64 s at) _ (λ map m _. every-then P _ _ (λ list k e. every-then P (readPurposes map s k) _ (λ purposes i _.
+    of-found Q _ (every-cond Q (hasBit 16 map) _ _ (counted m) none-listed) e)))
   where
     P : Permissions → Type 0
     P p = inCounts (p .list) ≡ true

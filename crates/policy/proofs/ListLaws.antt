@@ -42,15 +42,15 @@ below-is n s at {b} {k} e =
     let w : h .place ≡ k = cc in
     record { value = sym v ∙ i .value; next = sym w ∙ i .next; inside = i .inside }
 
-record WordIs (s : List ℕ) (at v k : ℕ) : Type 0 where
-  value : v ≡ wordIn s at
-  next : k ≡ at + 2
+pub record WordIs (s : List ℕ) (at v k : ℕ) : Type 0 where
+  pub value : v ≡ wordIn s at
+  pub next : k ≡ at + 2
 
 two-bytes : (s : List ℕ) (at a b m k : ℕ) → ByteIs s at a m → ByteIs s m b k → WordIs s at (a + 256 * b) k
 unfolding wordIn
 two-bytes s at a b m k h g = record { value = rw (h .value, g .value, h .next); next = rw (g .next, h .next) (omega arith) }
 
-word-is : (s : List ℕ) (at : ℕ) {v k : ℕ} → twoBytes s at ≡ got v k → WordIs s at v k
+pub word-is : (s : List ℕ) (at : ℕ) {v k : ℕ} → twoBytes s at ≡ got v k → WordIs s at v k
 unfolding twoBytes
 word-is s at {v} {k} e =
     let h = parts (byteAt s at) (λ low m. andThen (byteAt s m) (λ high k. got (low + 256 * high) k)) e in

@@ -1,32 +1,27 @@
--- How a disclose list and permissions are read, step by step: a refusal is handed on, and what was found goes on.
-use Prim.Native.Nat.{ℕ, zero, suc, _+_, _-_, _*_, _/_, _%_, _<_, _≤_}
-use mathlib.Core.Bool.{Bool, true, false, cond, or-false}
-use mathlib.Core.List.{List, [], _∷_}
-use mathlib.Core.Path.{_≡_, refl, sym, ap, _∙_}
+-- How a disclose list is read, step by step: a refusal is handed on, and what was found goes on.
+use Prim.Native.Nat.{ℕ, zero, suc, _+_, _-_, _*_, _<_, _≤_}
+use mathlib.Core.Bool.{Bool, true, false, or-false}
+use mathlib.Core.List.{List, _∷_}
+use mathlib.Core.Path.{_≡_, refl, sym, ap}
 use native.Mathlib.Numerals.{sub-one}
 use native.Mathlib.Omega.{arith}
-use native.Mathlib.Nat.{div-add-mod', mod-lt}
 use borrow.Author.Tests.{lt-ltb, le-leb, lt-leb, ne-eqb}
-use lib.Dec.{ltb, leb, lit<}
+use lib.Dec.{ltb, leb}
 use lib.ListN.{length, getD}
 use mir.Syntax.{w8, w64}
 use mir.Val.{Fits}
-use Rattle.reading.proofs.Parts.{never, parts, below-found}
+use Rattle.reading.proofs.Parts.{never}
 use Rattle.reading.proofs.Steps.{steps}
 use Rattle.reading.specs.Read.{Read, got, refused, andThen, byteAt, below}
-use Rattle.reading.specs.Told.{number, refusalOf}
+use Rattle.reading.specs.Told.{number}
 use Rattle.reading.specs.declared.Number.{Number}
 use Rattle.reading.specs.declared.Refusal.{Refusal}
 use Rattle.reading.specs.declared.NumberRead.{NumberRead}
 use Rattle.reading.specs.declared.NumberRead.the-variants as number-read
-use Rattle.policy.proofs.ListLaws.{ByteIs, byte-is, below-is, item-is, list-is, held}
-use Rattle.policy.specs.Syntax.{Granted, hasBit}
-use Rattle.policy.specs.Reading.{must, twoBytes, isCount, itemAt, readList, countedList, readPermissions}
-use Rattle.policy.specs.Rows.{itemsAt, permissionsOf}
-use Rattle.policy.specs.Loads.{groupOnly, countOnly, permissionsRead, permissionsFit, PermissionsFit}
-use Rattle.policy.specs.declared.Permissions.{Permissions as Stored}
-use Rattle.policy.specs.declared.PermissionsRead.{PermissionsRead}
-use Rattle.policy.specs.declared.PermissionsRead.the-variants as permissions-read
+use Rattle.policy.proofs.ListLaws.{byte-is, item-is, list-is}
+use Rattle.policy.specs.Syntax.{Granted}
+use Rattle.policy.specs.Reading.{must, twoBytes, isCount, itemAt, readList, countedList}
+use Rattle.policy.specs.Loads.{groupOnly, countOnly}
 
 -- A byte is small, so that two of them fit.
 pub byte-small : (s : List ℕ) (at : ℕ) (r : NumberRead) (n : Number) → ((i : ℕ) → Fits w8 (getD s i 0)) → r ≡ number-read.Found n → number r ≡ byteAt s at → n .value < 256
@@ -188,106 +183,3 @@ module _ (s : List ℕ) (at : ℕ) (r : NumberRead) (e : number r ≡ below 65 s
     items-read y h k = rw (length-read, lt-ltb 0 (n .value) (omega arith)) k
 
 pub ruleset counted-steps = (steps, length-refused, length-zero, items-read)
-
--- A list that was read, where only its length was kept.
-record ListOf (s : List ℕ) (at v k : ℕ) : Type 0 where
-  is : countedList s at ≡ got (itemsAt v s (at + 1)) k
-  few : v < 65
-
-counted-of : (s : List ℕ) (at : ℕ) (ds : List Granted) (k : ℕ) → countedList s at ≡ got ds k → (ds ≡ itemsAt (length ds) s (at + 1)) × (length ds < 65)
-unfolding countedList
-counted-of s at ds k e =
-    let h = parts (below 65 s at) (λ n m. must (ltb 0 n) at (readList n s 0 m)) e in
-    let i = held (ltb 0 (h .value)) at (readList (h .value) s 0 (h .place)) (h .rest) in
-    let l = list-is (h .value) s 0 (h .place) (i .then) in
-    let b = below-is 65 s at (h .first) in
-    let z : itemsAt (h .value) s (h .place) ≡ itemsAt (length ds) s (at + 1) = ap (λ (n : ℕ). itemsAt n s (h .place)) (sym (l .count)) ∙ ap (λ (n : ℕ). itemsAt (length ds) s n) (b .next) in
-    (l .items ∙ z, omega (arith, l .count, below-found 65 s at (h .first)))
-
-list-got : (s : List ℕ) (at : ℕ) {v k : ℕ} → got v k ≡ countOnly (countedList s at) → ListOf s at v k
-unfolding countOnly
-list-got s at {v} {k} h = go (countedList s at) refl h
-  where
-    go : (x : Read (List Granted)) → countedList s at ≡ x → got v k ≡ countOnly x → ListOf s at v k
-    go (got ds m) e h =
-        let z : length ds ≡ v = cc in
-        let y : m ≡ k = cc in
-        let l = counted-of s at ds m e in
-        record { is = e ∙ rw (← z, ← y) (ap (λ (l : List Granted). got l m) (l .0)); few = omega (arith, l .1) }
-    go (refused q p) e h = never (sym h)
-
-list-not : (x : Read (List Granted)) {q p : ℕ} → refused q p ≡ countOnly x → x ≡ refused q p
-unfolding countOnly
-list-not (got d m) h = never h
-list-not (refused a b) {q} {p} h = let v : a ≡ q = cc in let w : b ≡ p = cc in rw (v, w)
-
--- Bit 4 of a map below 32.
-no-list : (m : ℕ) → m < 16 → hasBit 16 m ≡ false
-unfolding hasBit
-no-list m h =
-    let l : m % 16 < 16 = mod-lt m (lit< tt) in
-    let z : m / 16 ≡ 0 = omega (arith, div-add-mod' m 16) in
-    rw z
-
-a-list : (m : ℕ) → 16 ≤ m → m < 32 → hasBit 16 m ≡ true
-unfolding hasBit
-a-list m h k =
-    let l : m % 16 < 16 = mod-lt m (lit< tt) in
-    let z : m / 16 ≡ 1 = omega (arith, div-add-mod' m 16) in
-    rw z
-
-pub no-permissions-fit : (w : PermissionsRead) (q : Refusal) → w ≡ permissions-read.Refused q → permissionsFit w
-no-permissions-fit w q e = rw e tt
-
--- Permissions: the map, and a list only if its bit stands.
-module _ (s : List ℕ) (at : ℕ) (r : NumberRead) (e : number r ≡ below 32 s at) where
-  pub map-refused : (q : Refusal) (w : PermissionsRead) → r ≡ number-read.Refused q → w ≡ permissions-read.Refused (refusalOf r) → permissionsRead s w ≡ readPermissions s at
-  unfolding readPermissions andThen
-  map-refused q w f k = let z = sym (rw f at e) in rw (z, k, f)
-
-  module _ (m : Number) (f : r ≡ number-read.Found m) where
-    map-place : ByteIs s at (m .value) (m .next)
-    map-place = below-is 32 s at {b = m .value} {k = m .next} (rw f at (sym e))
-
-    map-low : m .value < 32
-    map-low = below-found 32 s at {b = m .value} {k = m .next} (rw f at (sym e))
-
-    map-read : readPermissions s at ≡ andThen (cond (hasBit 16 (m .value)) (countedList s (m .next)) (got [] (m .next))) (λ list k. got (record { map = m .value; list = list }) k)
-    unfolding readPermissions andThen
-    map-read = let z = sym (rw f at e) in rw z
-
-    pub without-list : (p : Stored) → m .value < 16 → p .map ≡ m .value → p .count ≡ 0 → got (permissionsOf s p) (m .next) ≡ readPermissions s at
-    unfolding andThen permissionsOf itemsAt
-    without-list p h i j = rw (map-read, no-list (m .value) h, i, j)
-
-    pub without-fits : (p : Stored) → m .value < 16 → length s ≤ 4096 → p .map ≡ m .value → p .list ≡ m .next → p .count ≡ 0 → PermissionsFit p
-    without-fits p h l i k j = record {
-      small-map = omega arith;
-      small-list = omega (arith, map-place .next, map-place .inside);
-      small-count = omega arith;
-    }
-
-    module _ (h : 16 ≤ m .value) (c : NumberRead) (i : number c ≡ countOnly (countedList s (m .next))) where
-      pub list-refused : (q : Refusal) (w : PermissionsRead) → c ≡ number-read.Refused q → w ≡ permissions-read.Refused (refusalOf c) → permissionsRead s w ≡ readPermissions s at
-      unfolding andThen
-      list-refused q w j k = rw (map-read, a-list (m .value) h map-low, list-not (countedList s (m .next)) {q = q .question} {p = q .at} (rw j at i), k, j)
-
-      module _ (n : Number) (j : c ≡ number-read.Found n) where
-        list-read : ListOf s (m .next) (n .value) (n .next)
-        list-read = list-got s (m .next) {v = n .value} {k = n .next} (rw j at i)
-
-        pub with-list : (p : Stored) → p .map ≡ m .value → p .list ≡ m .next + 1 → p .count ≡ n .value → got (permissionsOf s p) (n .next) ≡ readPermissions s at
-        unfolding andThen permissionsOf
-        with-list p k l o = rw (map-read, a-list (m .value) h map-low, list-read .is, k, l, o)
-
-        pub with-fits : (p : Stored) → length s ≤ 4096 → p .map ≡ m .value → p .list ≡ m .next + 1 → p .count ≡ n .value → PermissionsFit p
-        with-fits p q k l o = record {
-          small-map = omega (arith, map-low);
-          small-list = omega (arith, map-place .next, map-place .inside);
-          small-count = omega (arith, list-read .few);
-        }
-
-      pub list-place : length s ≤ 4096 → Fits w64 (m .next + 1)
-      list-place q = record { fits = omega (arith, map-place .next, map-place .inside) }
-
-pub ruleset permission-steps = (steps, no-permissions-fit, map-refused, without-list, without-fits, list-refused, with-list, with-fits, list-place)

@@ -187,7 +187,7 @@ node-step zero c used at h = absurd (h refl)
 node-step (suc level) c used at h = rw (sub-one (suc level)) (node-suc level c used at)
 
 -- The node's row, and then those of the nodes below it.
-module _ (c : List ℕ) (d used : ℕ) (nodes nodes₁ nodes₂ : List ℕ) (r : NumberRead) (o : Opening) (long : length nodes ≡ 320) (low : used < 64) (fits : OpeningFits d o)
+module _ (c : List ℕ) (d used : ℕ) (nodes nodes₁ nodes₂ : List ℕ) (r : NumberRead) (o : Opening) (long : length nodes ≡ 384) (low : used < 64) (fits : OpeningFits d o)
     (stored : nodes₁ ≡ withNode nodes used (o .node)) where
   abbrev node : Nodes → Node
   node ns = record { group = flatOf c (o .node) .head .group; permissions = flatOf c (o .node) .head .permissions; below = ns }
@@ -244,7 +244,7 @@ module _ (level : ℕ) (c : List ℕ) (used at : ℕ) (nodes : List ℕ) where
           let z = sym (rw f at e) in
           not-loaded d used (number-read.Refused w) (q .question) (q .at) (rw (node-step level c used at h, lt-ltb used 64 low, z)) (rw (k, f))
 
-      pub node-loaded : (o : Opening) (nodes₁ nodes₂ : List ℕ) (r : NumberRead) → level ≤ 8 → length nodes ≡ 320 → b ≡ opening-read.Found o → openingFits (8 - level) b
+      pub node-loaded : (o : Opening) (nodes₁ nodes₂ : List ℕ) (r : NumberRead) → level ≤ 8 → length nodes ≡ 384 → b ≡ opening-read.Found o → openingFits (8 - level) b
           → nodes₁ ≡ withNode nodes used (o .node)
           → Loaded c (childrenRead (level - 1) c (o .children) (used + 1) (o .next)) (8 - (level - 1)) (used + 1) nodes₁ nodes₂ r
           → Loaded c (nodeRead (readNode level c used at)) (8 - level) used nodes nodes₂ r

@@ -25,35 +25,40 @@ one-row c nodes row = refl
 module _ (l : List ℕ) (row : ℕ) (n : Node) where
   -- The table after each store but the last.
   abbrev one : List ℕ
-  one = set l (row * 5) (n .group)
+  one = set l (row * 6) (n .group)
 
   abbrev two : List ℕ
-  two = set one (row * 5 + 1) (n .permissions .map)
+  two = set one (row * 6 + 1) (n .permissions .map)
 
   abbrev three : List ℕ
-  three = set two (row * 5 + 2) (n .permissions .list)
+  three = set two (row * 6 + 2) (n .permissions .list)
 
   abbrev four : List ℕ
-  four = set three (row * 5 + 3) (n .permissions .count)
+  four = set three (row * 6 + 3) (n .permissions .count)
+
+  abbrev five : List ℕ
+  five = set four (row * 6 + 4) (n .depth)
 
   -- A cell before the row.
-  cell-kept : (i : ℕ) → i < row * 5 → getD (withNode l row n) i 0 ≡ getD l i 0
+  cell-kept : (i : ℕ) → i < row * 6 → getD (withNode l row n) i 0 ≡ getD l i 0
   unfolding withNode
   cell-kept i h =
-      getD-set-other four (row * 5 + 4) i (n .depth) 0 (λ e. absurd (omega arith))
-      ∙ getD-set-other three (row * 5 + 3) i (n .permissions .count) 0 (λ e. absurd (omega arith))
-      ∙ getD-set-other two (row * 5 + 2) i (n .permissions .list) 0 (λ e. absurd (omega arith))
-      ∙ getD-set-other one (row * 5 + 1) i (n .permissions .map) 0 (λ e. absurd (omega arith))
-      ∙ getD-set-other l (row * 5) i (n .group) 0 (λ e. absurd (omega arith))
+      getD-set-other five (row * 6 + 5) i (n .permissions .purposes) 0 (λ e. absurd (omega arith))
+      ∙ getD-set-other four (row * 6 + 4) i (n .depth) 0 (λ e. absurd (omega arith))
+      ∙ getD-set-other three (row * 6 + 3) i (n .permissions .count) 0 (λ e. absurd (omega arith))
+      ∙ getD-set-other two (row * 6 + 2) i (n .permissions .list) 0 (λ e. absurd (omega arith))
+      ∙ getD-set-other one (row * 6 + 1) i (n .permissions .map) 0 (λ e. absurd (omega arith))
+      ∙ getD-set-other l (row * 6) i (n .group) 0 (λ e. absurd (omega arith))
 
   row-kept : (r : ℕ) → r < row → nodeAt (withNode l row n) r ≡ nodeAt l r
   unfolding nodeAt
   row-kept r h = rw (
-    cell-kept (r * 5) (omega arith),
-    cell-kept (r * 5 + 1) (omega arith),
-    cell-kept (r * 5 + 2) (omega arith),
-    cell-kept (r * 5 + 3) (omega arith),
-    cell-kept (r * 5 + 4) (omega arith),
+    cell-kept (r * 6) (omega arith),
+    cell-kept (r * 6 + 1) (omega arith),
+    cell-kept (r * 6 + 2) (omega arith),
+    cell-kept (r * 6 + 3) (omega arith),
+    cell-kept (r * 6 + 4) (omega arith),
+    cell-kept (r * 6 + 5) (omega arith),
   )
 
   flats-kept : (c : List ℕ) (start len : ℕ) → start + len ≤ row → flats c (withNode l row n) start len ≡ flats c l start len
@@ -62,40 +67,50 @@ module _ (l : List ℕ) (row : ℕ) (n : Node) where
   flats-kept c start (suc len) h = rw (row-kept start (omega arith), flats-kept c (suc start) len (omega arith))
 
   -- The row's own cells.
-  module _ (long : length l ≡ 320) (low : row < 64) where
-    own-0 : getD (withNode l row n) (row * 5) 0 ≡ n .group
+  module _ (long : length l ≡ 384) (low : row < 64) where
+    own-0 : getD (withNode l row n) (row * 6) 0 ≡ n .group
     unfolding withNode
     own-0 =
-        getD-set-other four (row * 5 + 4) (row * 5) (n .depth) 0 (λ e. absurd (omega arith))
-        ∙ getD-set-other three (row * 5 + 3) (row * 5) (n .permissions .count) 0 (λ e. absurd (omega arith))
-        ∙ getD-set-other two (row * 5 + 2) (row * 5) (n .permissions .list) 0 (λ e. absurd (omega arith))
-        ∙ getD-set-other one (row * 5 + 1) (row * 5) (n .permissions .map) 0 (λ e. absurd (omega arith))
-        ∙ getD-set-same l (row * 5) (n .group) 0 (omega arith)
+        getD-set-other five (row * 6 + 5) (row * 6) (n .permissions .purposes) 0 (λ e. absurd (omega arith))
+        ∙ getD-set-other four (row * 6 + 4) (row * 6) (n .depth) 0 (λ e. absurd (omega arith))
+        ∙ getD-set-other three (row * 6 + 3) (row * 6) (n .permissions .count) 0 (λ e. absurd (omega arith))
+        ∙ getD-set-other two (row * 6 + 2) (row * 6) (n .permissions .list) 0 (λ e. absurd (omega arith))
+        ∙ getD-set-other one (row * 6 + 1) (row * 6) (n .permissions .map) 0 (λ e. absurd (omega arith))
+        ∙ getD-set-same l (row * 6) (n .group) 0 (omega arith)
 
-    own-1 : getD (withNode l row n) (row * 5 + 1) 0 ≡ n .permissions .map
+    own-1 : getD (withNode l row n) (row * 6 + 1) 0 ≡ n .permissions .map
     unfolding withNode
     own-1 =
-        getD-set-other four (row * 5 + 4) (row * 5 + 1) (n .depth) 0 (λ e. absurd (omega arith))
-        ∙ getD-set-other three (row * 5 + 3) (row * 5 + 1) (n .permissions .count) 0 (λ e. absurd (omega arith))
-        ∙ getD-set-other two (row * 5 + 2) (row * 5 + 1) (n .permissions .list) 0 (λ e. absurd (omega arith))
-        ∙ getD-set-same one (row * 5 + 1) (n .permissions .map) 0 (simp length-set (omega arith))
+        getD-set-other five (row * 6 + 5) (row * 6 + 1) (n .permissions .purposes) 0 (λ e. absurd (omega arith))
+        ∙ getD-set-other four (row * 6 + 4) (row * 6 + 1) (n .depth) 0 (λ e. absurd (omega arith))
+        ∙ getD-set-other three (row * 6 + 3) (row * 6 + 1) (n .permissions .count) 0 (λ e. absurd (omega arith))
+        ∙ getD-set-other two (row * 6 + 2) (row * 6 + 1) (n .permissions .list) 0 (λ e. absurd (omega arith))
+        ∙ getD-set-same one (row * 6 + 1) (n .permissions .map) 0 (simp length-set (omega arith))
 
-    own-2 : getD (withNode l row n) (row * 5 + 2) 0 ≡ n .permissions .list
+    own-2 : getD (withNode l row n) (row * 6 + 2) 0 ≡ n .permissions .list
     unfolding withNode
     own-2 =
-        getD-set-other four (row * 5 + 4) (row * 5 + 2) (n .depth) 0 (λ e. absurd (omega arith))
-        ∙ getD-set-other three (row * 5 + 3) (row * 5 + 2) (n .permissions .count) 0 (λ e. absurd (omega arith))
-        ∙ getD-set-same two (row * 5 + 2) (n .permissions .list) 0 (simp length-set (omega arith))
+        getD-set-other five (row * 6 + 5) (row * 6 + 2) (n .permissions .purposes) 0 (λ e. absurd (omega arith))
+        ∙ getD-set-other four (row * 6 + 4) (row * 6 + 2) (n .depth) 0 (λ e. absurd (omega arith))
+        ∙ getD-set-other three (row * 6 + 3) (row * 6 + 2) (n .permissions .count) 0 (λ e. absurd (omega arith))
+        ∙ getD-set-same two (row * 6 + 2) (n .permissions .list) 0 (simp length-set (omega arith))
 
-    own-3 : getD (withNode l row n) (row * 5 + 3) 0 ≡ n .permissions .count
+    own-3 : getD (withNode l row n) (row * 6 + 3) 0 ≡ n .permissions .count
     unfolding withNode
     own-3 =
-        getD-set-other four (row * 5 + 4) (row * 5 + 3) (n .depth) 0 (λ e. absurd (omega arith))
-        ∙ getD-set-same three (row * 5 + 3) (n .permissions .count) 0 (simp length-set (omega arith))
+        getD-set-other five (row * 6 + 5) (row * 6 + 3) (n .permissions .purposes) 0 (λ e. absurd (omega arith))
+        ∙ getD-set-other four (row * 6 + 4) (row * 6 + 3) (n .depth) 0 (λ e. absurd (omega arith))
+        ∙ getD-set-same three (row * 6 + 3) (n .permissions .count) 0 (simp length-set (omega arith))
 
-    own-4 : getD (withNode l row n) (row * 5 + 4) 0 ≡ n .depth
+    own-4 : getD (withNode l row n) (row * 6 + 4) 0 ≡ n .depth
     unfolding withNode
-    own-4 = getD-set-same four (row * 5 + 4) (n .depth) 0 (simp length-set (omega arith))
+    own-4 =
+        getD-set-other five (row * 6 + 5) (row * 6 + 4) (n .permissions .purposes) 0 (λ e. absurd (omega arith))
+        ∙ getD-set-same four (row * 6 + 4) (n .depth) 0 (simp length-set (omega arith))
+
+    own-5 : getD (withNode l row n) (row * 6 + 5) 0 ≡ n .permissions .purposes
+    unfolding withNode
+    own-5 = getD-set-same five (row * 6 + 5) (n .permissions .purposes) 0 (simp length-set (omega arith))
 
     row-stored : NodeFits n → nodeAt (withNode l row n) row ≡ n
     unfolding nodeAt
@@ -105,10 +120,12 @@ module _ (l : List ℕ) (row : ℕ) (n : Node) where
       own-2,
       own-3,
       own-4,
+      own-5,
       mod-eq-of-lt (f .small-group),
       mod-eq-of-lt (f .small-permissions .small-map),
       mod-eq-of-lt (f .small-permissions .small-list),
       mod-eq-of-lt (f .small-permissions .small-count),
+      mod-eq-of-lt (f .small-permissions .small-purposes),
       mod-eq-of-lt (f .small-depth),
     )
 

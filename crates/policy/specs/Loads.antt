@@ -34,9 +34,10 @@ whyOf (permissions-read.Refused r) = r
 
 -- What is stored of permissions fits its cells, and so does what is stored of a node.
 pub record PermissionsFit (p : Stored) : Type 0 where
-  pub small-map : p .map < 32
+  pub small-map : p .map < 64
   pub small-list : p .list < 8192
   pub small-count : p .count < 128
+  pub small-purposes : p .purposes < 65536
 
 pub record NodeFits (n : Row) : Type 0 where
   pub small-group : n .group < 64

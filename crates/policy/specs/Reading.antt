@@ -41,11 +41,17 @@ readList (suc n) s lowest at =
 unfoldable pub countedList : List ℕ → ℕ → Read (List Granted)
 countedList s at = andThen (below 65 s at) (λ n m. must (ltb 0 n) at (readList n s 0 m))
 
--- "a permission map .., and only if bit 4 stands a list"; "map bits 5 to 7 zero"
+-- "bit 5 announces a two-byte map of purposes, bit p for purpose p, stored after the disclose list"; "without bit 5 it grants for all"
+-- (document 02, Q-6): all sixteen bits stand.
+unfoldable pub readPurposes : ℕ → List ℕ → ℕ → Read ℕ
+readPurposes map s at = cond (hasBit 32 map) (twoBytes s at) (got 65535 at)
+
+-- "a permission map .., and only if bit 4 stands a list", and then the purposes; "map bits 5 to 7 zero", of which Q-6 leaves 6 and 7.
 unfoldable pub readPermissions : List ℕ → ℕ → Read Permissions
 readPermissions s at =
-    andThen (below 32 s at) (λ map m.
-    andThen (cond (hasBit 16 map) (countedList s m) (got [] m)) (λ list k. got (record { map = map; list = list }) k))
+    andThen (below 64 s at) (λ map m.
+    andThen (cond (hasBit 16 map) (countedList s m) (got [] m)) (λ list k.
+    andThen (readPurposes map s k) (λ purposes e. got (record { map = map; list = list; purposes = purposes }) e)))
 
 -- `count` children, one after another; `read used at` reads one, where `used` nodes stand before it.
 unfoldable pub children : (ℕ → ℕ → Read Node) → ℕ → ℕ → ℕ → Read Nodes

@@ -1,4 +1,4 @@
--- The table of a policy's nodes (src/nodes.rt): rows of five cells, in reading order, each node with the number of nodes above
+-- The table of a policy's nodes (src/nodes.rt): rows of six cells, in reading order, each node with the number of nodes above
 -- it. A cell is read within its range, so that no fact about the table has to be carried along. A tree's rows hold that tree
 -- (`flatten`).
 use Prim.Native.Nat.{ℕ, zero, suc, _+_, _*_, _%_}
@@ -11,19 +11,20 @@ use Rattle.policy.specs.declared.Permissions.{Permissions as Stored}
 
 unfoldable pub nodeAt : List ℕ → ℕ → Node
 nodeAt nodes row = record {
-  group = getD nodes (row * 5) 0 % 64;
+  group = getD nodes (row * 6) 0 % 64;
   permissions = record {
-    map = getD nodes (row * 5 + 1) 0 % 32;
-    list = getD nodes (row * 5 + 2) 0 % 8192;
-    count = getD nodes (row * 5 + 3) 0 % 128;
+    map = getD nodes (row * 6 + 1) 0 % 64;
+    list = getD nodes (row * 6 + 2) 0 % 8192;
+    count = getD nodes (row * 6 + 3) 0 % 128;
+    purposes = getD nodes (row * 6 + 5) 0 % 65536;
   };
-  depth = getD nodes (row * 5 + 4) 0 % 8;
+  depth = getD nodes (row * 6 + 4) 0 % 8;
 }
 
 unfoldable pub withNode : List ℕ → ℕ → Node → List ℕ
 withNode nodes row n =
-    set (set (set (set (set nodes (row * 5) (n .group)) (row * 5 + 1) (n .permissions .map)) (row * 5 + 2) (n .permissions .list))
-    (row * 5 + 3) (n .permissions .count)) (row * 5 + 4) (n .depth)
+    set (set (set (set (set (set nodes (row * 6) (n .group)) (row * 6 + 1) (n .permissions .map)) (row * 6 + 2) (n .permissions .list))
+    (row * 6 + 3) (n .permissions .count)) (row * 6 + 4) (n .depth)) (row * 6 + 5) (n .permissions .purposes)
 
 -- the two-byte number at a place
 unfoldable pub wordIn : List ℕ → ℕ → ℕ
@@ -36,7 +37,7 @@ itemsAt (suc n) c at = record { group = getD c at 0; count = wordIn c (at + 1) }
 
 -- the permissions that a row points to
 unfoldable pub permissionsOf : List ℕ → Stored → Permissions
-permissionsOf c p = record { map = p .map; list = itemsAt (p .count) c (p .list) }
+permissionsOf c p = record { map = p .map; list = itemsAt (p .count) c (p .list); purposes = p .purposes }
 
 -- A node of the table: its head, and how many nodes stand above it.
 pub record Flat : Type 0 where

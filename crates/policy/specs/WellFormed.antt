@@ -31,9 +31,9 @@ sameList (c ∷ cs) [] = false
 sameList (c ∷ cs) (d ∷ ds) = (eqb (c .group) (d .group) && eqb (c .count) (d .count)) && sameList cs ds
 
 unfoldable pub samePermissions : Permissions → Permissions → Bool
-samePermissions p q = eqb (p .map) (q .map) && sameList (p .list) (q .list)
+samePermissions p q = eqb (p .map) (q .map) && (sameList (p .list) (q .list) && eqb (p .purposes) (q .purposes))
 
--- Two nodes of one group have the same map and list.
+-- Two nodes of one group have the same map, list and purposes.
 unfoldable pub agree : Head → Head → Bool
 agree a b = not (eqb (a .group) (b .group)) || samePermissions (a .permissions) (b .permissions)
 
@@ -41,7 +41,8 @@ unfoldable pub allAgree : List Head → Bool
 allAgree [] = true
 allAgree (a ∷ later) = every (agree a) later && allAgree later
 
--- 14: "no node whose group stands at an earlier node of its tree with another map or list?"
+-- 14: "no node whose group stands at an earlier node of its tree with another map or list?"; it "compares the purpose maps too"
+-- (document 02, Q-6).
 unfoldable pub sameHeads : List Tree → Bool
 sameHeads trees = every (λ t. allAgree (heads (t .root))) trees
 
@@ -67,7 +68,7 @@ metIn trees = gather (λ t. metFrom [] [] (alone (t .root))) trees
 unfoldable pub isNew : Met → Bool
 isNew m = not (member (m .head .group) (m .above))
 
--- 14 at one node: "no node whose group stands at an earlier node of its tree with another map or list?"
+-- 14 at one node: "no node whose group stands at an earlier node of its tree with another map or list?", or other purposes.
 unfoldable pub isSame : Met → Bool
 isSame m = every (λ e. agree e (m .head)) (m .earlier)
 
@@ -95,7 +96,7 @@ unfoldable pub groupsAt : List Head → List ℕ
 groupsAt hs = map (λ h. h .group) hs
 
 -- 15: "where a node has nondisclose, is every group disclosed to by nodes below it (the node itself not asked) a group of it or
--- of a node below it?"
+-- of a node below it?" It ignores purposes (Q-6).
 unfoldable pub keepsWithin : ℕ → Permissions → Nodes → Bool
 keepsWithin g p below =
     not (hasBit 8 (p .map)) || every (λ h. member h (g ∷ groupsAt (headsOf below))) (disclosedTo (headsOf below))

@@ -6,14 +6,16 @@ pub mod read;
 use reading::End;
 use reading::Refusal;
 
-// A node's permission map and where its disclose list stands: the place of its first item and how many there are.
+// A node's permission map, where its disclose list stands (the place of its first item, and how many there are: 0 where it has no
+// list), and the purposes for which it grants, bit p for purpose p.
 pub struct Permissions {
     pub map: usize,
     pub list: usize,
     pub count: usize,
+    pub purposes: usize,
 }
 
-// A permission map with its list, and the place after it.
+// A permission map with its list and its purposes, and the place after them.
 pub struct PermissionsAt {
     pub permissions: Permissions,
     pub next: usize,

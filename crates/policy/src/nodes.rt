@@ -1,8 +1,8 @@
-// The table of a policy's nodes, in lent memory: a row of five cells for each node, at most 64 rows.
+// The table of a policy's nodes, in lent memory: a row of six cells for each node, at most 64 rows.
 ghost use mathlib.Core.Path.{_≡_};
 ghost use Prim.Native.Nat.{_<_, _≤_};
 ghost use lib.ListN.{getD, set};
-ghost use Rattle.policy.specs.Syntax.{hasBit};
+ghost use Rattle.policy.specs.Syntax.{hasBit, bitAt};
 ghost use Rattle.policy.specs.Rows.{nodeAt, withNode, wordIn};
 ghost use Rattle.policy.specs.Loads.{startOf};
 use crate::Node;
@@ -22,11 +22,12 @@ pub fn node_at(nodes: &[usize], row: usize) -> Node
     requires { ⌜ row ≤ 64 ⌝ }
     ensures { λ r. ⌜ r ≡ nodeAt (now (nodes .entry)) row ⌝ }
 {
-    let base = row * 5;
+    let base = row * 6;
     let permissions = Permissions {
-        map: cell(nodes, base + 1) % 32,
+        map: cell(nodes, base + 1) % 64,
         list: cell(nodes, base + 2) % 8192,
         count: cell(nodes, base + 3) % 128,
+        purposes: cell(nodes, base + 5) % 65536,
     };
     Node {
         group: cell(nodes, base) % 64,
@@ -48,13 +49,14 @@ pub fn store_node(nodes: &mut [usize], row: usize, node: Node)
     requires { ⌜ row < 64 ⌝ }
     ensures { λ r. ⌜ now (nodes .exit) ≡ withNode (now (nodes .entry)) row node ⌝ }
 {
-    let base = row * 5;
+    let base = row * 6;
     let permissions = node.permissions;
     put(nodes, base, node.group);
     put(nodes, base + 1, permissions.map);
     put(nodes, base + 2, permissions.list);
     put(nodes, base + 3, permissions.count);
     put(nodes, base + 4, node.depth);
+    put(nodes, base + 5, permissions.purposes);
 }
 
 // The two-byte number at a place of a policy, the low byte first.
@@ -72,6 +74,19 @@ pub fn has_bit(map: usize, value: usize) -> bool
     ensures { λ r. ⌜ r ≡ hasBit value map ⌝ }
 {
     map / value % 2 != 0
+}
+
+// Bit `place` of a map.
+pub fn bit_at(map: usize, place: usize) -> bool
+    ensures { λ r. ⌜ r ≡ bitAt place map ⌝ }
+{
+    let mut rest = map;
+    let mut left = place;
+    while 0 < left {
+        rest /= 2;
+        left -= 1;
+    }
+    rest % 2 != 0
 }
 
 // The rows of the t-th tree.

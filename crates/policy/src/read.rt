@@ -1,10 +1,13 @@
 // Reads a policy into the table of nodes: question 11.
 ghost use mathlib.Core.Path.{_≡_};
-ghost use mathlib.Core.List.{List};
+ghost use mathlib.Core.Bool.{cond};
+ghost use mathlib.Core.List.{List, []};
 ghost use Prim.Native.Nat.{ℕ, _≤_, _<_, _-_};
 ghost use lib.ListN.{length, take};
+ghost use Rattle.reading.specs.Read.{got};
 ghost use Rattle.reading.specs.Told.{number, refusalOf};
-ghost use Rattle.policy.specs.Reading.{twoBytes, isCount, itemAt, readList, countedList, readPermissions, readNode, readPolicy};
+ghost use Rattle.policy.specs.Syntax.{hasBit};
+ghost use Rattle.policy.specs.Reading.{twoBytes, isCount, itemAt, readList, countedList, readPurposes, readPermissions, readNode, readPolicy};
 ghost use Rattle.policy.specs.Loads.{
   permissionsRead,
   permissionsFit,
@@ -31,6 +34,7 @@ use crate::PermissionsAt;
 use crate::PermissionsRead;
 use crate::PolicyRead;
 use crate::Trees;
+use crate::nodes::has_bit;
 use crate::nodes::store_node;
 use reading::End;
 use reading::Number;
@@ -141,39 +145,58 @@ fn not_permissions(read: NumberRead) -> PermissionsRead
     PermissionsRead::Refused(refusal(read))
 }
 
-// A permission map with its list: where it stands, not what it holds.
+// The list of a permission map, where bit 4 announces one; the number found is how many items it has.
+fn list_at(c: &[u8], at: usize, map: usize) -> NumberRead
+    ensures { λ r. ⌜ number r ≡ countOnly (cond (hasBit 16 map) (countedList (now (c .entry)) at) (got [] at)) ⌝ }
+{
+    if has_bit(map, 16) {
+        counted_list(c, at)
+    } else {
+        NumberRead::Found(Number { value: 0, next: at })
+    }
+}
+
+// The purposes of a permission map: two bytes where bit 5 announces them, and otherwise all sixteen.
+fn purposes_at(c: &[u8], at: usize, map: usize) -> NumberRead
+    ensures { λ r. ⌜ number r ≡ readPurposes map (now (c .entry)) at ⌝ }
+{
+    if has_bit(map, 32) {
+        two_bytes(c, at)
+    } else {
+        NumberRead::Found(Number {
+            value: 65535,
+            next: at,
+        })
+    }
+}
+
+// A permission map with its list and its purposes: where the list stands, not what it holds.
 fn permissions_at(c: &[u8], at: usize) -> PermissionsRead
     requires { ⌜ length (now c) ≤ 4096 ⌝ }
     ensures { λ r. ⌜ permissionsRead (now (c .entry)) r ≡ readPermissions (now (c .entry)) at ⌝ }
     ensures { λ r. ⌜ permissionsFit r ⌝ }
 {
-    let first = byte_below(c, at, 32);
+    let first = byte_below(c, at, 64);
     let NumberRead::Found(map) = first else {
         return not_permissions(first);
     };
-    if map.value < 16 {
-        let permissions = Permissions {
-            map: map.value,
-            list: map.next,
-            count: 0,
-        };
-        return PermissionsRead::Found(PermissionsAt {
-            permissions,
-            next: map.next,
-        });
-    }
-    let second = counted_list(c, map.next);
+    let second = list_at(c, map.next, map.value);
     let NumberRead::Found(list) = second else {
         return not_permissions(second);
+    };
+    let third = purposes_at(c, list.next, map.value);
+    let NumberRead::Found(purposes) = third else {
+        return not_permissions(third);
     };
     let permissions = Permissions {
         map: map.value,
         list: map.next + 1,
         count: list.value,
+        purposes: purposes.value,
     };
     PermissionsRead::Found(PermissionsAt {
         permissions,
-        next: list.next,
+        next: purposes.next,
     })
 }
 
@@ -237,7 +260,7 @@ fn why_not(read: OpeningRead) -> Refusal
 // Reads a node and the nodes below it into the table from row `used` on; the number found is that of the rows then used.
 // `level` more nodes may be nested.
 fn read_node(c: &[u8], at: usize, level: usize, used: usize, nodes: &mut [usize]) -> NumberRead
-    requires { ⌜ (level ≤ 8) × (length (now nodes) ≡ 320) × (length (now c) ≤ 4096) ⌝ }
+    requires { ⌜ (level ≤ 8) × (length (now nodes) ≡ 384) × (length (now c) ≤ 4096) ⌝ }
     ensures { λ r. ⌜ Loaded (now (c .entry)) (nodeRead (readNode level (now (c .entry)) used at)) (8 - level) used (now (nodes .entry))
         (now (nodes .exit)) r ⌝ }
 {
@@ -272,7 +295,7 @@ fn read_children(
     used: usize,
     nodes: &mut [usize],
 ) -> NumberRead
-    requires { ⌜ (level < 8) × (count < 256) × (length (now nodes) ≡ 320) × (length (now c) ≤ 4096) ⌝ }
+    requires { ⌜ (level < 8) × (count < 256) × (length (now nodes) ≡ 384) × (length (now c) ≤ 4096) ⌝ }
     ensures { λ r. ⌜ Loaded (now (c .entry)) (childrenRead level (now (c .entry)) count used at) (8 - level) used (now (nodes .entry))
         (now (nodes .exit)) r ⌝ }
 {
@@ -335,7 +358,7 @@ pub fn no_trees() -> Trees
 
 // Reads `count` trees, one after another, to the end of the policy.
 fn read_trees(c: &[u8], at: usize, count: usize, nodes: &mut [usize]) -> PolicyRead
-    requires { ⌜ (count ≤ 16) × (length (now nodes) ≡ 320) × (length (now c) ≤ 4096) ⌝ }
+    requires { ⌜ (count ≤ 16) × (length (now nodes) ≡ 384) × (length (now c) ≤ 4096) ⌝ }
     ensures { λ r. ⌜ LoadedPolicy (now (c .entry)) (treesToEnd count (now (c .entry)) at) (now (nodes .exit)) r ⌝ }
 {
     let mut trees = no_trees();
@@ -366,7 +389,7 @@ fn read_trees(c: &[u8], at: usize, count: usize, nodes: &mut [usize]) -> PolicyR
 
 // Reads a policy to its end.
 pub fn read_policy(c: &[u8], nodes: &mut [usize]) -> PolicyRead
-    requires { ⌜ (length (now nodes) ≡ 320) × (length (now c) ≤ 4096) ⌝ }
+    requires { ⌜ (length (now nodes) ≡ 384) × (length (now c) ≤ 4096) ⌝ }
     ensures { λ r. ⌜ LoadedPolicy (now (c .entry)) (readPolicy (now (c .entry))) (now (nodes .exit)) r ⌝ }
 {
     let read = byte_below(c, 0, 17);

@@ -1,4 +1,5 @@
--- What a form that was read tells of the limits: there was room for it, and a process has only the forms of processes.
+-- What a form that was read tells of the limits: there was room for it, a purpose is in its range, and a process has only the forms of
+-- processes.
 use Prim.Native.Nat.{ℕ, _<_}
 use mathlib.Core.Bool.{Bool, true, false, _&&_}
 use mathlib.Core.List.{List}
@@ -7,10 +8,11 @@ use native.Mathlib.Omega.{arith}
 use borrow.Author.Tests.{ltb-true}
 use lib.Dec.{ltb, eqb}
 use lib.ListN.{length}
-use Rattle.reading.proofs.Parts.{Every, of-found, every-then, every-cond, every-limited}
+use Rattle.reading.proofs.Parts.{Every, of-found, every-then, every-cond, every-limited, below-found}
+use Rattle.reading.specs.Dialects.{old, current, purposesIn}
 use Rattle.reading.specs.Read.{got, byteAt}
 use Rattle.reading.specs.Types.{typeAtIn}
-use Rattle.reading.specs.Forms.{newFormIn, inputFormIn, outputForm, freshGroupIn, groupFormIn, componentFormIn, processFormIn, processAtIn, systemFormIn, systemAtIn}
+use Rattle.reading.specs.Forms.{newFormIn, inputFormIn, outputForm, freshGroupIn, groupFormIn, purposeIn, componentFormIn, processFormIn, processAtIn, systemFormIn, systemAtIn}
 use Rattle.reading.specs.declared.Dialect.{Dialect}
 use Rattle.reading.specs.declared.Form.{Form}
 use Rattle.reading.specs.declared.Form.the-variants.{Nil, Par, Group, New, Component, Input, Output, Replicate}
@@ -62,6 +64,12 @@ module _ (d : Dialect) (s : List ℕ) (at nest names : ℕ) where
   pub process-room : {f : Form} {next : ℕ} → processAtIn d s at nest names ≡ got f next → FitsProcess nest names f
   process-room e = of-found (FitsProcess nest names) (processAtIn d s at nest names) process-every e
 
+-- A purpose that was read is one of sixteen.
+pub purpose-small : (d : Dialect) (s : List ℕ) (at : ℕ) {p k : ℕ} → purposeIn d s at ≡ got p k → p < 16
+unfolding purposeIn purposesIn
+purpose-small old s at {p} e = let z : 0 ≡ p = cc in omega arith
+purpose-small current s at e = below-found 16 s at e
+
 module _ (d : Dialect) (s : List ℕ) (at nest names : ℕ) (path : List ℕ) (preceding : ℕ) where
   fits : Form → Type 0
   fits = FitsSystem nest names (length path) preceding
@@ -72,7 +80,7 @@ module _ (d : Dialect) (s : List ℕ) (at nest names : ℕ) (path : List ℕ) (p
 
   component-every : (next : ℕ) → (0 < nest) × (length path < 8) × (preceding < 32) → Every fits (componentFormIn d s next path)
   unfolding fits Every FitsSystem componentFormIn
-  component-every next h = every-then fits (freshGroupIn d s next path) _ (λ g m _. h)
+  component-every next h = every-then fits (freshGroupIn d s next path) _ (λ g m _. every-then fits (purposeIn d s m) _ (λ p k _. h))
 
   new-every : (next : ℕ) → (0 < nest) × (names < 64) → Every fits (newFormIn d s next)
   unfolding fits Every FitsSystem newFormIn

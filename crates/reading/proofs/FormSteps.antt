@@ -1,13 +1,13 @@
 -- The arms of the matches on a code byte: what stands at a place, from the byte there and from what the arm's function answers.
-use Prim.Native.Nat.{ℕ}
+use Prim.Native.Nat.{ℕ, _<_, _≤_}
 use mathlib.Core.Bool.{Bool, true, false, cond, _&&_}
 use mathlib.Core.List.{List}
 use mathlib.Core.Path.{_≡_}
-use borrow.Author.Tests.{ne-eqb}
+use borrow.Author.Tests.{ne-eqb, lt-ltb, le-ltb}
 use Rattle.reading.proofs.Steps.{steps}
-use Rattle.reading.specs.Dialects.{groupsIn}
+use Rattle.reading.specs.Dialects.{groupsIn, purposesIn}
 use Rattle.reading.specs.Read.{Read, got, refused, andThen, below}
-use Rattle.reading.specs.Forms.{member, limited, freshGroupIn, newFormIn, inputFormIn, outputForm, groupFormIn, componentFormIn, processFormIn, systemFormIn}
+use Rattle.reading.specs.Forms.{member, limited, freshGroupIn, newFormIn, inputFormIn, outputForm, groupFormIn, purposeIn, componentFormIn, processFormIn, systemFormIn}
 use Rattle.reading.specs.declared.Dialect.{Dialect}
 use Rattle.reading.specs.declared.Form.{Form}
 use Rattle.reading.specs.declared.Form.the-variants.{Nil, Par, Replicate}
@@ -28,6 +28,18 @@ unfolding freshGroupIn
 fresh-below d n s at path e h = rw e at h
 
 pub ruleset fresh-steps = (flag-steps, fresh-below)
+
+-- A purpose, stated or not: `n` is the code's number of purposes.
+module _ (d : Dialect) {y : Read ℕ} (n : ℕ) (s : List ℕ) (at : ℕ) (e : n ≡ purposesIn d) where
+  pub purpose-stated : 0 < n → y ≡ below n s at → y ≡ purposeIn d s at
+  unfolding purposeIn
+  purpose-stated h k = rw (← e, lt-ltb 0 n h) k
+
+  pub purpose-none : n ≤ 0 → y ≡ got 0 at → y ≡ purposeIn d s at
+  unfolding purposeIn
+  purpose-none h k = rw (← e, le-ltb 0 n h) k
+
+pub ruleset purpose-steps = (steps, purpose-stated, purpose-none)
 
 -- Processes: `b` is the code's flag for a form that binds a name.
 module _ (d : Dialect) (s : List ℕ) (at next : ℕ) (level binder : Bool) (code : ℕ) where

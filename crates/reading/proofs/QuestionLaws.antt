@@ -7,11 +7,11 @@ use mathlib.Core.Path.{_≡_}
 use native.Mathlib.Omega.{arith}
 use lib.Dec.{ltb, leb, eqb}
 use lib.ListN.{length}
-use Rattle.reading.specs.Dialects.{current, groupsIn, kindsIn}
+use Rattle.reading.specs.Dialects.{current, groupsIn, kindsIn, purposesIn}
 use Rattle.reading.specs.Read.{Read, got, refused, andThen, byteAt, below}
 use Rattle.reading.specs.Types.{channel, groupsThenKindIn, typeAtIn}
 use Rattle.reading.specs.Syntax.{Process, System, components}
-use Rattle.reading.specs.Forms.{member, limited, newFormIn, inputFormIn, outputForm, freshGroupIn, groupFormIn, componentFormIn, processFormIn, processAtIn, systemFormIn, systemAtIn}
+use Rattle.reading.specs.Forms.{member, limited, newFormIn, inputFormIn, outputForm, freshGroupIn, groupFormIn, purposeIn, componentFormIn, processFormIn, processAtIn, systemFormIn, systemAtIn}
 use Rattle.reading.specs.System.{processFrom, readProcessIn, component, systemFrom, readSystemIn, freeTypesIn, headerIn, toItsEnd, readSheetIn, sheetOfIn, sheetOf}
 use Rattle.reading.specs.declared.Dialect.{Dialect}
 use Rattle.reading.specs.declared.Form.{Form}
@@ -85,6 +85,15 @@ unfolding freshGroupIn
 asks-fresh d s at path =
     asks-then _ (asks-below (groupsIn d) s at) (λ g k. asks-cond (member g path) (asks-early 6 at (omega arith) (omega arith)) asks-got)
 
+asks-purpose : (d : Dialect) (s : List ℕ) (at : ℕ) → Asks (purposeIn d s at)
+unfolding purposeIn
+asks-purpose d s at = asks-cond (ltb 0 (purposesIn d)) (asks-below (purposesIn d) s at) asks-got
+
+asks-component : (d : Dialect) (s : List ℕ) (at : ℕ) (path : List ℕ) → Asks (componentFormIn d s at path)
+unfolding componentFormIn
+asks-component d s at path =
+    asks-then _ (asks-fresh d s at path) (λ g m. asks-map (λ p. Component (record { group = g; purpose = p })) (asks-purpose d s m))
+
 asks-process-form : (d : Dialect) (s : List ℕ) (at next : ℕ) (level binder : Bool) (code : ℕ) → Asks (processFormIn d s at next level binder code)
 unfolding processFormIn
 asks-process-form d s at next level binder code =
@@ -103,13 +112,13 @@ asks-process-at d s at nest names =
 
 asks-system-form : (d : Dialect) (s : List ℕ) (at next : ℕ) (path : List ℕ) (level binder deeper another : Bool) (code : ℕ)
     → Asks (systemFormIn d s at next path level binder deeper another code)
-unfolding systemFormIn groupFormIn componentFormIn
+unfolding systemFormIn groupFormIn
 asks-system-form d s at next path level binder deeper another code =
     asks-cond (eqb code 0) (asks-limited level at asks-got)
     (asks-cond (eqb code 1) (asks-limited level at asks-got)
     (asks-cond (eqb code 2) (asks-limited deeper at (asks-map (λ g. Group g) (asks-fresh d s next path)))
     (asks-cond (eqb code 3) (asks-limited binder at (asks-new d s next))
-    (asks-cond (eqb code 4) (asks-limited another at (asks-map (λ g. Component (record { group = g })) (asks-fresh d s next path)))
+    (asks-cond (eqb code 4) (asks-limited another at (asks-component d s next path))
     (asks-early 4 at (omega arith) (omega arith))))))
 
 asks-system-at : (d : Dialect) (s : List ℕ) (at nest names : ℕ) (path : List ℕ) (preceding : ℕ) → Asks (systemAtIn d s at nest names path preceding)

@@ -12,11 +12,11 @@ use lib.Seq.{getD-take}
 use Rattle.reading.proofs.FormLaws.{FitsProcess, FitsSystem, process-room, process-level, system-room, system-level}
 use Rattle.reading.proofs.Local.{agree-before, ends, Local, same-bytes, same-refusal, from-earlier, got-local, refused-local, cond-local, limited-local, then-local}
 use Rattle.reading.proofs.Parts.{never, parts, passed, byte-found}
-use Rattle.reading.specs.Dialects.{current, groupsIn, kindsIn}
+use Rattle.reading.specs.Dialects.{current, groupsIn, kindsIn, purposesIn}
 use Rattle.reading.specs.Read.{Read, got, refused, andThen, byteAt, below}
 use Rattle.reading.specs.Types.{channel, groupsThenKindIn, typeAtIn}
 use Rattle.reading.specs.Syntax.{Process, nil, par, new, input, output, repl, System, nilₛ, parₛ, groupₛ, newₛ, compₛ, Sheet, components}
-use Rattle.reading.specs.Forms.{member, newFormIn, inputFormIn, outputForm, freshGroupIn, groupFormIn, componentFormIn, processFormIn, processAtIn, systemFormIn, systemAtIn}
+use Rattle.reading.specs.Forms.{member, newFormIn, inputFormIn, outputForm, freshGroupIn, groupFormIn, purposeIn, componentFormIn, processFormIn, processAtIn, systemFormIn, systemAtIn}
 use Rattle.reading.specs.System.{processFrom, readProcessIn, component, systemFrom, readSystemIn, freeTypesIn, headerIn, toItsEnd, readSheetIn, sheetOfIn, sheetOf}
 use Rattle.reading.specs.declared.Dialect.{Dialect}
 use Rattle.reading.specs.declared.Form.{Form}
@@ -103,9 +103,15 @@ pub group-local : (d : Dialect) (at : ℕ) (path : List ℕ) → Local (at + 1) 
 unfolding groupFormIn
 group-local d at path = then-local _ _ (fresh-local d at path) (λ s g next e. got-local (Group g) next (omega arith))
 
+pub purpose-local : (d : Dialect) (at : ℕ) → Local at (λ s. purposeIn d s at)
+unfolding purposeIn
+purpose-local d at =
+    cond-local (ltb 0 (purposesIn d)) _ _ (from-earlier (omega arith) (below-local (purposesIn d) at)) (got-local 0 at (omega arith))
+
 pub component-local : (d : Dialect) (at : ℕ) (path : List ℕ) → Local (at + 1) (λ s. componentFormIn d s at path)
 unfolding componentFormIn
-component-local d at path = then-local _ _ (fresh-local d at path) (λ s g next e. got-local (Component (record { group = g })) next (omega arith))
+component-local d at path = then-local _ _ (fresh-local d at path) (λ s g next e.
+    then-local _ _ (purpose-local d next) (λ s′ p m f. got-local (Component (record { group = g; purpose = p })) m (omega arith)))
 
 -- Forms.
 pub process-local : (d : Dialect) (at nest names : ℕ) → Local (at + 1) (λ s. processAtIn d s at nest names)

@@ -13,7 +13,7 @@ use Rattle.reading.specs.Dialects.{groupsIn, kindsIn}
 use Rattle.reading.specs.Read.{got, andThen, below}
 use Rattle.reading.specs.Types.{channel, numberOf, shape, groupsThenKindIn, typeAtIn}
 use Rattle.reading.specs.declared.Dialect.{Dialect}
-use Rattle.reading.specs.declared.Dialect.the-variants.{Current}
+use Rattle.reading.specs.declared.Dialect.the-variants.{Old, Current}
 use Rattle.reading.specs.declared.Shape.the-variants.{Plain, Channel}
 
 -- Every number is the number of its shape.
@@ -59,10 +59,12 @@ power-step factor (suc n) h = rw (sub-one (suc n), pow-succ' 64 n, mul-assoc)
 -- No dialect has a group or a kind but those that types are numbered for.
 pub groups-64 : (d : Dialect) → groupsIn d ≤ 64
 unfolding groupsIn
+groups-64 Old = omega arith
 groups-64 Current = omega arith
 
 pub kinds-16 : (d : Dialect) → kindsIn d ≤ 16
 unfolding kindsIn
+kinds-16 Old = omega arith
 kinds-16 Current = omega arith
 
 -- A type read with n groups.

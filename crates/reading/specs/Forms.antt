@@ -6,7 +6,7 @@ use mathlib.Core.Bool.{Bool, true, false, cond, _&&_, _||_}
 use lib.ListN.{length}
 use lib.Dec.{ltb, eqb}
 use Rattle.reading.specs.Read.{Read, got, refused, andThen, byteAt, below}
-use Rattle.reading.specs.Dialects.{current, groupsIn}
+use Rattle.reading.specs.Dialects.{current, groupsIn, purposesIn}
 use Rattle.reading.specs.Types.{typeAtIn}
 use Rattle.reading.specs.declared.Dialect.{Dialect}
 use Rattle.reading.specs.declared.Form.{Form}
@@ -45,9 +45,15 @@ freshGroupIn d s at path = andThen (below (groupsIn d) s at) (λ g next. cond (m
 unfoldable pub groupFormIn : Dialect → List ℕ → ℕ → List ℕ → Read Form
 groupFormIn d s at path = andThen (freshGroupIn d s at path) (λ g next. got (Group g) next)
 
--- "a post: its group"
+-- "purpose (0 to 15) ..; purpose 0 is ordinary work, and one above 15 fails question 4." Where posts state none, it is 0.
+unfoldable pub purposeIn : Dialect → List ℕ → ℕ → Read ℕ
+purposeIn d s at = cond (ltb 0 (purposesIn d)) (below (purposesIn d) s at) (got 0 at)
+
+-- "A post is stored as 04, group, purpose (0 to 15), process": what stands between its code and its process.
 unfoldable pub componentFormIn : Dialect → List ℕ → ℕ → List ℕ → Read Form
-componentFormIn d s at path = andThen (freshGroupIn d s at path) (λ g next. got (Component (record { group = g })) next)
+componentFormIn d s at path =
+    andThen (freshGroupIn d s at path) (λ g next.
+    andThen (purposeIn d s next) (λ p m. got (Component (record { group = g; purpose = p })) m))
 
 -- The forms of processes by their codes: is there room for one more form (`level`), for one that binds a name (`binder`)?
 unfoldable pub processFormIn : Dialect → List ℕ → ℕ → ℕ → Bool → Bool → ℕ → Read Form

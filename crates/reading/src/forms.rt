@@ -10,6 +10,7 @@ ghost use Rattle.reading.specs.Forms.{
   outputForm,
   freshGroupIn,
   groupFormIn,
+  purposeIn,
   componentFormIn,
   processAtIn,
   systemAtIn,
@@ -29,6 +30,7 @@ use crate::bytes::byte_at;
 use crate::bytes::byte_below;
 use crate::bytes::refusal;
 use crate::dialects::groups;
+use crate::dialects::purposes;
 use crate::paths;
 use crate::types::type_at;
 
@@ -182,7 +184,19 @@ fn group_form(
     })
 }
 
-// A component: its own fields, of which the group is new to the path.
+// The purpose of a component, in its range (question 4); 0 where the dialect states none.
+fn purpose(dialect: Dialect, s: &[u8], at: usize) -> NumberRead
+    ensures { λ r. ⌜ number r ≡ purposeIn dialect (now (s .entry)) at ⌝ }
+{
+    let bound = purposes(dialect);
+    if 0 < bound {
+        byte_below(s, at, bound)
+    } else {
+        NumberRead::Found(Number { value: 0, next: at })
+    }
+}
+
+// A component: its own fields, the group, which is new to the path, and then the purpose.
 fn component_form(
     dialect: Dialect,
     s: &[u8],
@@ -196,14 +210,21 @@ fn component_form(
     if !room {
         return too_many(at);
     }
-    let read = fresh_group(dialect, s, next, path);
-    let NumberRead::Found(group) = read else {
-        return not_read(read);
+    let first = fresh_group(dialect, s, next, path);
+    let NumberRead::Found(group) = first else {
+        return not_read(first);
     };
-    let own = OwnFields { group: group.value };
+    let second = purpose(dialect, s, group.next);
+    let NumberRead::Found(purpose) = second else {
+        return not_read(second);
+    };
+    let own = OwnFields {
+        group: group.value,
+        purpose: purpose.value,
+    };
     FormRead::Found(Place {
         form: Form::Component(own),
-        next: group.next,
+        next: purpose.next,
     })
 }
 

@@ -9,6 +9,7 @@ pub mod types;
 
 // The dialects of the format; `dialects` tells what they differ in.
 pub enum Dialect {
+    Old,
     Current,
 }
 
@@ -51,6 +52,7 @@ pub struct Act {
 // The own fields of a component (document 01: a post): those that stand between its code and its process.
 pub struct OwnFields {
     pub group: usize,
+    pub purpose: usize,
 }
 
 // The forms of systems and processes, with their fields.

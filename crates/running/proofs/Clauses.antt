@@ -10,7 +10,7 @@ use native.Mathlib.Omega.{arith}
 use Rattle.reading.specs.Syntax.{Process, nil, input, output, repl, parₛ, groupₛ, compₛ, Sheet}
 use Rattle.inference.specs.Counts.{Count, fin, unlimited}
 use Rattle.inference.specs.Acts.{Component, Act}
-use Rattle.inference.specs.Classes.{allIn, shares}
+use Rattle.inference.specs.Classes.{allIn, sameSet, shares}
 use Rattle.inference.specs.Needs.{disclosed}
 use Rattle.fit.specs.Grants.{countGranted}
 use Rattle.policy.specs.Syntax.{Permissions, Tree, none, more}
@@ -22,7 +22,7 @@ use Rattle.running.proofs.Computed.{played-computed}
 
 -- all definitions that these cases compute with
 unfoldable guarantees-computed : Unit {0}
-unfolding played-computed allIn shares scopeOf allNamed sameGroups sameComponent isComponentOf allLocated threadActs stateActs passes isTyped actsWhere isNumber ofComponent nextOf nextAct grantsNeed isFine nextFine noError actAt sendOf isTaken disclosuresOfAct disclosedWhere disclosedBy isWithin
+unfolding played-computed allIn sameSet shares scopeOf allNamed sameGroups sameComponent isComponentOf allLocated threadActs stateActs passes isTyped actsWhere isNumber ofComponent nextOf nextAct grantsNeed isFine nextFine noError actAt sendOf isTaken disclosuresOfAct disclosedWhere disclosedBy isWithin
 guarantees-computed = tt
 
 -- W: name 0 is a channel of links, 0[0[0]], whose number is 1,040; name 1 is a link, 0[0], whose number is 16.
@@ -33,7 +33,7 @@ abbrev receiving : Process
 receiving = input 0 16 (input 2 0 nil)
 
 abbrev w : Sheet
-w = record { free = 1040 ∷ 16 ∷ []; system = groupₛ 0 (parₛ (compₛ (record { group = 1 }) sending) (compₛ (record { group = 2 }) receiving)) }
+w = record { free = 1040 ∷ 16 ∷ []; system = groupₛ 0 (parₛ (compₛ (record { group = 1; purpose = 0 }) sending) (compₛ (record { group = 2; purpose = 0 }) receiving)) }
 
 -- W's charter with permissions for node 1: W's own, and none.
 abbrev charter : Permissions → List Tree
@@ -42,19 +42,19 @@ charter own =
       kind = 0;
       root = record {
         group = 0;
-        permissions = record { map = 8; list = [] };
-        below = more 1 own none (more 2 (record { map = 5; list = [] }) none none);
+        permissions = record { map = 8; list = []; purposes = 65535 };
+        below = more 1 own none (more 2 (record { map = 5; list = []; purposes = 65535 }) none none);
       };
     } ∷ []
 
 abbrev once : Permissions
-once = record { map = 16; list = record { group = 0; count = 1 } ∷ [] }
+once = record { map = 16; list = record { group = 0; count = 1 } ∷ []; purposes = 65535 }
 
 abbrev never : Permissions
-never = record { map = 0; list = [] }
+never = record { map = 0; list = []; purposes = 65535 }
 
 abbrev thread : ℕ → List ℕ → List ℕ → Process → Thread
-thread number path names p = record { component = record { number = number; path = path }; names = names; process = p }
+thread number path names p = record { component = record { number = number; path = path; purpose = 0 }; names = names; process = p }
 
 abbrev state : List Thread → State
 state threads = record { threads = threads; types = 1040 ∷ 16 ∷ []; known = true ∷ true ∷ [] }
@@ -151,17 +151,17 @@ counts-along = refl
 abbrev three : Sheet
 three = record {
   free = 1040 ∷ 16 ∷ [];
-  system = parₛ (groupₛ 0 (compₛ (record { group = 1 }) sending)) (parₛ (groupₛ 1 (compₛ (record { group = 0 }) sending)) (groupₛ 0 (groupₛ 1 (compₛ (record { group = 2 }) sending))));
+  system = parₛ (groupₛ 0 (compₛ (record { group = 1; purpose = 0 }) sending)) (parₛ (groupₛ 1 (compₛ (record { group = 0; purpose = 0 }) sending)) (groupₛ 0 (groupₛ 1 (compₛ (record { group = 2; purpose = 0 }) sending))));
 }
 
 abbrev first : Component
-first = record { number = 0; path = 0 ∷ 1 ∷ [] }
+first = record { number = 0; path = 0 ∷ 1 ∷ []; purpose = 0 }
 
 abbrev second : Component
-second = record { number = 1; path = 1 ∷ 0 ∷ [] }
+second = record { number = 1; path = 1 ∷ 0 ∷ []; purpose = 0 }
 
 abbrev third : Component
-third = record { number = 2; path = 0 ∷ 1 ∷ 2 ∷ [] }
+third = record { number = 2; path = 0 ∷ 1 ∷ 2 ∷ []; purpose = 0 }
 
 pub classes-told :
     map (shares first) (first ∷ second ∷ third ∷ []) ∷ map (shares second) (first ∷ second ∷ third ∷ []) ∷ map (shares third) (first ∷ second ∷ third ∷ []) ∷ []
@@ -207,3 +207,69 @@ pub shared-fails :
     ≡ (true ∷ true ∷ true ∷ []) ∷ (false ∷ false ∷ true ∷ []) ∷ (false ∷ false ∷ true ∷ []) ∷ []
 unfolding guarantees-computed
 shared-fails = refl
+
+-- Purposes (document 02, Q-6). A thread of W's sender with another purpose, and charters whose node 1 discloses once for purpose 0 alone and
+-- for purpose 1 alone.
+abbrev for : ℕ → Thread → Thread
+for purpose t = record {
+  component = record { number = t .component .number; path = t .component .path; purpose = purpose };
+  names = t .names;
+  process = t .process;
+}
+
+abbrev onceFor : ℕ → Permissions
+onceFor purposes = record { map = 48; list = record { group = 0; count = 1 } ∷ []; purposes = purposes }
+
+-- `placed`: the sender with its own purpose, and with another.
+pub purpose-placed : map (allLocated w) (state (for 0 sender ∷ []) ∷ state (for 1 sender ∷ []) ∷ []) ≡ true ∷ false ∷ []
+unfolding guarantees-computed
+purpose-placed = refl
+
+-- `no-error`: the sender with purposes 0 and 1, each under both charters, and under one that grants for no purpose.
+pub purpose-error :
+    map (λ t. noError (charter (onceFor 1)) (state (t ∷ []))) (for 0 sender ∷ for 1 sender ∷ [])
+    ∷ map (λ t. noError (charter (onceFor 2)) (state (t ∷ []))) (for 0 sender ∷ for 1 sender ∷ [])
+    ∷ map (λ t. noError (charter (onceFor 0)) (state (t ∷ []))) (for 0 sender ∷ for 1 sender ∷ []) ∷ []
+    ≡ (true ∷ false ∷ []) ∷ (false ∷ true ∷ []) ∷ (false ∷ false ∷ []) ∷ []
+unfolding guarantees-computed
+purpose-error = refl
+
+-- A sheet of three that send alike, all of path 0.1: the first two with purpose 0, the third with purpose 1, which so does not share.
+abbrev purposes : Sheet
+purposes = record {
+  free = 1040 ∷ 16 ∷ [];
+  system = groupₛ 0 (parₛ (compₛ (record { group = 1; purpose = 0 }) sending) (parₛ (compₛ (record { group = 1; purpose = 0 }) sending) (compₛ (record { group = 1; purpose = 1 }) sending)));
+}
+
+abbrev ordinary : Component
+ordinary = record { number = 0; path = 0 ∷ 1 ∷ []; purpose = 0 }
+
+abbrev other : Component
+other = record { number = 2; path = 0 ∷ 1 ∷ []; purpose = 1 }
+
+pub purpose-classes : map (shares ordinary) (ordinary ∷ other ∷ []) ∷ map (shares other) (ordinary ∷ other ∷ []) ∷ [] ≡ (true ∷ false ∷ []) ∷ (false ∷ true ∷ []) ∷ []
+unfolding guarantees-computed
+purpose-classes = refl
+
+-- `within`, where the charter's count is 1 for each purpose: the two of purpose 0 exceed it together, at the start and after an output of
+-- one; the one of purpose 1 keeps to it, at the start and after its own output, whatever the others do. Were the purpose ignored, it would
+-- not: the three of the path have disclosed one and still infer two.
+abbrev kept : Component → List Move → Bool
+kept c ms =
+    isWithin (countGranted 0 (charter once) 0 c) (disclosedWhere (shares c) 0 0 (start purposes) ms)
+    (disclosed 0 0 (actsWhere (shares c) (stateActs (runStates (start purposes) ms))))
+
+abbrev ofPath : List Move → List Count
+ofPath ms =
+    fin (disclosedWhere (λ c. true) 0 0 (start purposes) ms) ∷ disclosed 0 0 (stateActs (runStates (start purposes) ms)) ∷ []
+
+pub purpose-within :
+    map (λ c. kept c []) (ordinary ∷ other ∷ []) ∷ map (λ c. kept c (sendOut 0 ∷ [])) (ordinary ∷ other ∷ [])
+    ∷ map (λ c. kept c (sendOut 2 ∷ [])) (ordinary ∷ other ∷ []) ∷ []
+    ≡ (false ∷ true ∷ []) ∷ (false ∷ true ∷ []) ∷ (false ∷ true ∷ []) ∷ []
+unfolding guarantees-computed
+purpose-within = refl
+
+pub path-without : ofPath (sendOut 2 ∷ []) ≡ fin 1 ∷ fin 2 ∷ []
+unfolding guarantees-computed
+path-without = refl

@@ -95,7 +95,9 @@ same-groups (g ∷ gs) = and-both (eqb g g) (sameGroups gs gs) (eq-eqb g g refl)
 
 same-component : (c : Component) → sameComponent c c ≡ true
 unfolding sameComponent
-same-component c = and-both (eqb (c .number) (c .number)) (sameGroups (c .path) (c .path)) (eq-eqb (c .number) (c .number) refl) (same-groups (c .path))
+same-component c =
+    and-both (eqb (c .number) (c .number)) (sameGroups (c .path) (c .path) && eqb (c .purpose) (c .purpose)) (eq-eqb (c .number) (c .number) refl)
+    (and-both (sameGroups (c .path) (c .path)) (eqb (c .purpose) (c .purpose)) (same-groups (c .path)) (eq-eqb (c .purpose) (c .purpose) refl))
 
 components-located : (sheet : Sheet) → All (λ l. isComponentOf sheet (l .component) ≡ true) (located sheet)
 unfolding isComponentOf

@@ -31,7 +31,7 @@ scopeOf types names = map (λ n. getElem? types n) names
 unfoldable pub allNamed : State → Bool
 allNamed s = every (λ t. every isKnown (scopeOf (s .types) (t .names))) (s .threads)
 
--- Every thread's component, its number and its path, is a component of the sheet.
+-- Every thread's component, its number, its path and its purpose, is a component of the sheet.
 unfoldable pub sameGroups : List ℕ → List ℕ → Bool
 sameGroups [] [] = true
 sameGroups [] (h ∷ hs) = false
@@ -39,7 +39,7 @@ sameGroups (g ∷ gs) [] = false
 sameGroups (g ∷ gs) (h ∷ hs) = eqb g h && sameGroups gs hs
 
 unfoldable pub sameComponent : Component → Component → Bool
-sameComponent c d = eqb (c .number) (d .number) && sameGroups (c .path) (d .path)
+sameComponent c d = eqb (c .number) (d .number) && (sameGroups (c .path) (d .path) && eqb (c .purpose) (d .purpose))
 
 unfoldable pub isComponentOf : Sheet → Component → Bool
 isComponentOf sheet c = any (λ l. sameComponent (l .component) c) (located sheet)
@@ -96,7 +96,7 @@ nextOf (repl p) rest = none
 unfoldable pub nextAct : State → Thread → Option Act
 nextAct s t = nextOf (t .process) (threadActs (s .types) t)
 
--- A permission that a component's grant holds: a flag, or a count of at least one.
+-- A permission that a component's grant, which is for its purpose, holds: a flag, or a count of at least one.
 unfoldable pub grantsNeed : List Tree → Component → Need → Bool
 grantsNeed policy c Nothing = true
 grantsNeed policy c (Read k) = flagGranted 1 policy k c
@@ -104,7 +104,8 @@ grantsNeed policy c (Write k) = flagGranted 2 policy k c
 grantsNeed policy c (Access k) = flagGranted 4 policy k c
 grantsNeed policy c (Disclose k h) = atMost (fin 1) (countGranted h policy k c)
 
--- "it is an error if it fails 7 to 10 under the names' types, or needs a permission that its path's grant lacks"
+-- "it is an error if it fails 7 to 10 under the names' types, or needs a permission that its path's grant lacks"; "an error where the grant
+-- for that purpose lacks it" (document 02, Q-6)
 unfoldable pub isFine : List Tree → Act → Bool
 isFine policy a = passes a && grantsNeed policy (a .component) (needOf a)
 
@@ -156,8 +157,9 @@ reached a ms = runStates (start (a .sheet)) ms
 
 -- Demand 3, of one list of moves: what holds of the state after them.
 pub record Guaranteed (a : Accepted) (ms : List Move) : Type 0 where
-  -- every run name of every thread has a type, and every thread is one of a component of the sheet, with that component's path:
-  -- so `typed` and `no-error`, which ask of the thread's own names and path, ask of the sheet's
+  -- every run name of every thread has a type, and every thread is one of a component of the sheet, with that component's path and
+  -- purpose ("Threads take their post's purpose through a run", document 02, Q-6): so `typed` and `no-error`, which ask of the thread's
+  -- own names, path and purpose, ask of the sheet's
   pub named : allNamed (reached a ms) ≡ true
   pub placed : allLocated (a .sheet) (reached a ms) ≡ true
   -- "each remaining text passes 7 to 10 throughout"
@@ -166,10 +168,11 @@ pub record Guaranteed (a : Accepted) (ms : List Move) : Type 0 where
   -- inferred there"
   pub not-beyond : (n : ℕ) → NotBeyond (ofComponent n (stateActs (reached a ms))) (ofComponent n (sheetActs (a .sheet)))
   -- no thread's next act is an error: none "fails 7 to 10 under the names' types, or needs a permission that its path's grant
-  -- lacks"
+  -- lacks", which is the grant for its purpose
   pub no-error : noError (a .policy) (reached a ms) ≡ true
-  -- of the class of each component (the components whose paths have its groups), kind and group whose count is finite: "the links all
-  -- its posts have handed over, plus those they still infer, are together at most the charter's count" (document 02, Q-4)
+  -- of the class of each component (the components whose paths have its groups and which have its purpose), kind and group whose count
+  -- is finite: "the links all its posts have handed over, plus those they still infer, are together at most the charter's count"
+  -- (document 02, Q-4), which "belong[s] to path and purpose" (Q-6)
   pub within : (l : Located) → List·Memᴰ l (located (a .sheet)) → (kind group : ℕ) → kind < 16 → group < 64
       → isWithin (countGranted group (a .policy) kind (l .component))
       (disclosedWhere (shares (l .component)) kind group (start (a .sheet)) ms)

@@ -158,7 +158,7 @@ module _ (c nodes table : List ℕ) (p : PolicyRead) (n : ℕ) (l : LoadedPolicy
   entries-pass ge order = entries-decide c nodes p l (tableRequired table n) n m h fault v 64 k le (λ policy held. q policy held order) (rw (le-ltb v 19 ge) refl)
 
 -- A table of another length is never lent.
-pub no-table : (c nodes table : List ℕ) (n : ℕ) (r : Judged) → length nodes ≡ 320 → (length nodes ≡ 320 → ⊥) → InOrder table n
+pub no-table : (c nodes table : List ℕ) (n : ℕ) (r : Judged) → length nodes ≡ 384 → (length nodes ≡ 384 → ⊥) → InOrder table n
     → JudgesLater c nodes (tableRequired table n) n r
 no-table c nodes table n r e f order = absurd (f e)
 
@@ -265,19 +265,19 @@ module _ (s c : List ℕ) (r : NumberRead) (told : number r ≡ countedIn (sheet
         go (refused p m) i u = never (sym (ap number (sym f) ∙ u))
 
     -- a new table of enough rows
-    ready : (rows : ℕ) → n .value ≤ rows → Ready s c (replicate (rows * 210) 0)
+    ready : (rows : ℕ) → n .value ≤ rows → Ready s c (replicate (rows * 211) 0)
     ready rows h = record {
       reads = record { tree = counts .sheet; end = counts .end; reads = counts .reads };
       rows = rows;
       room = omega (arith, counts .number-is);
-      long = length-replicate {A = ℕ} (rows * 210) 0;
-      zeros = λ i. unfold ClearFrom in clear-zeros (rows * 210) i (omega arith);
+      long = length-replicate {A = ℕ} (rows * 211) 0;
+      zeros = λ i. unfold ClearFrom in clear-zeros (rows * 211) i (omega arith);
     }
 
-    pub few-ready : n .value ≤ 4 → Ready s c (replicate 840 0)
+    pub few-ready : n .value ≤ 4 → Ready s c (replicate 844 0)
     few-ready h = ready 4 h
 
-    pub all-ready : Ready s c (replicate 6720 0)
+    pub all-ready : Ready s c (replicate 6752 0)
     all-ready = ready 32 (omega (arith, counts .number-is, sheet-components s c (counts .sheet) (counts .end) (sheet-parts s c (counts .reads))))
 
 pub ruleset judging = (needs, short-charter, typing-fails, typing-passes, unread-fails, few-ready, all-ready)

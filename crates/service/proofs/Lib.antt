@@ -3,6 +3,7 @@ pub mod Computed
 pub mod Table
 pub mod Cases
 pub mod Shared
+pub mod Purposes
 pub mod JudgeLaws
 pub mod FirstLaws
 pub mod PassedLaws

@@ -1,4 +1,4 @@
--- How much room `check` can need: an interface has at most 18,432 bytes, so that an output of that length is never refused
+-- How much room `check` can need: an interface has at most 18,944 bytes, so that an output of that length is never refused
 -- with 19; and the number of a question that fails is at most 19.
 use Prim.Native.Nat.{ℕ, _≤_}
 use mathlib.Core.Path.{_≡_, refl}
@@ -16,13 +16,13 @@ use Rattle.service.specs.Check.{fitting, interfaceFor, written, checked}
 use Rattle.service.proofs.FirstLaws.{passed-reads, failed-below}
 
 -- an interface that is accepted is short
-pub accepted-short : (s c : List ℕ) (a : Accepted) → judged s c ≡ passed a → length (interfaceBytes (interface (a .sheet))) ≤ 18432
+pub accepted-short : (s c : List ℕ) (a : Accepted) → judged s c ≡ passed a → length (interfaceBytes (interface (a .sheet))) ≤ 18944
 accepted-short s c a e =
     let r = passed-reads s c a e in interface-short s c (a .sheet) (r .end) (sheet-parts s c (r .reads))
 
--- What a call of `check` answers: a length of at most 18,432, or a number of at most 19.
+-- What a call of `check` answers: a length of at most 18,944, or a number of at most 19.
 unfoldable pub InRange : Asked ℕ → Type 0
-InRange (passed n) = n ≤ 18432
+InRange (passed n) = n ≤ 18944
 InRange (failed q) = q ≤ 19
 
 pub check-in-range : (s c output : List ℕ) → InRange (checked s c output .answer)
@@ -38,8 +38,8 @@ check-in-range s c output = go (judged s c) refl
     go (passed a) e = unfold interfaceFor fitting in fits a (leb (length (interfaceBytes (interface (a .sheet)))) (length output)) e
     go (failed n) e = unfold interfaceFor written InRange in omega (arith, failed-below s c n e)
 
--- An output of 18,432 bytes has room for every interface: a call that passes questions 1 to 18 is accepted.
-pub always-room : (s c output : List ℕ) (a : Accepted) → judged s c ≡ passed a → 18432 ≤ length output
+-- An output of 18,944 bytes has room for every interface: a call that passes questions 1 to 18 is accepted.
+pub always-room : (s c output : List ℕ) (a : Accepted) → judged s c ≡ passed a → 18944 ≤ length output
     → checked s c output .answer ≡ passed (length (interfaceBytes (interface (a .sheet))))
 unfolding checked interfaceFor fitting ask written
 always-room s c output a e h =

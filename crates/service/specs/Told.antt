@@ -44,7 +44,7 @@ pub record Ready (s charter table : List ℕ) : Type 0 where
   pub reads : Reads s charter
   pub rows : ℕ
   pub room : components (reads .tree .system) ≤ rows
-  pub long : length table ≡ rows * 210
+  pub long : length table ≡ rows * 211
   pub zeros : (i : ℕ) → getD table i 0 ≡ 0
 
 -- A charter that reads, and its trees in the table of nodes.

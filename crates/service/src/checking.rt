@@ -31,7 +31,7 @@ fn check_read(sheet: &[u8], charter: &[u8], table: &mut [u16], output: &mut [u8]
     requires { ⌜ Ready (now sheet) (now charter) (now table) ⌝ }
     ensures { λ r. ⌜ Checked (now (sheet .entry)) (now (charter .entry)) (now (output .entry)) (now (output .exit)) r ⌝ }
 {
-    let mut nodes = [0usize; 320];
+    let mut nodes = [0usize; 384];
     let judged = judge_read(sheet, charter, table, &mut nodes);
     if judged.fault < 64 {
         return Answer::Refused(judged.fault);
@@ -49,9 +49,9 @@ pub fn check(sheet: &[u8], charter: &[u8], output: &mut [u8]) -> Answer
         return Answer::Refused(refusal(read).question);
     };
     if components.value <= 4 {
-        let mut few = [0u16; 840];
+        let mut few = [0u16; 844];
         return check_read(sheet, charter, &mut few, output);
     }
-    let mut table = [0u16; 6720];
+    let mut table = [0u16; 6752];
     check_read(sheet, charter, &mut table, output)
 }

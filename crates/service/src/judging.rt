@@ -19,12 +19,12 @@ use wellformed::questions::policy_fault;
 
 // Questions 11 to 18 of a charter and a table of components whose groups are in order, with a table for the charter's nodes: the first that fails, or 64.
 fn judge_with(charter: &[u8], table: &[u16], components: usize, nodes: &mut [usize]) -> Judged
-    requires { ⌜ (components ≤ 32) × (length (now charter) ≤ 4096) × (length (now nodes) ≡ 320) ⌝ }
+    requires { ⌜ (components ≤ 32) × (length (now charter) ≤ 4096) × (length (now nodes) ≡ 384) ⌝ }
     ensures { λ r. ⌜ (((n : ℕ) → n < components → Orderly (now (table .entry)) n)
         → JudgesLater (now (charter .entry)) (now (nodes .exit)) (tableRequired (now (table .entry)) components) components r) ⌝ }
 {
     // Never so; said for the compiler, which then tests no index of the table again.
-    if nodes.len() != 320 {
+    if nodes.len() != 384 {
         return Judged {
             fault: 11,
             components,
@@ -66,7 +66,7 @@ fn judge_with(charter: &[u8], table: &[u16], components: usize, nodes: &mut [usi
 
 // Questions 7 to 18 of a sheet that reads, with a clear table for its components and a table for the charter's nodes.
 pub fn judge_read(sheet: &[u8], charter: &[u8], table: &mut [u16], nodes: &mut [usize]) -> Judged
-    requires { ⌜ Ready (now sheet) (now charter) (now table) × (length (now nodes) ≡ 320) ⌝ }
+    requires { ⌜ Ready (now sheet) (now charter) (now table) × (length (now nodes) ≡ 384) ⌝ }
     ensures { λ r. ⌜ Judges (now (sheet .entry)) (now (charter .entry)) (now (table .exit)) (now (nodes .exit)) r ⌝ }
 {
     let walk = infer(sheet, table);
@@ -89,13 +89,13 @@ pub fn first_failed(sheet: &[u8], charter: &[u8]) -> usize
     let NumberRead::Found(components) = read else {
         return refusal(read).question;
     };
-    let mut nodes = [0usize; 320];
+    let mut nodes = [0usize; 384];
     if components.value <= 4 {
-        let mut few = [0u16; 840];
+        let mut few = [0u16; 844];
         let judged = judge_read(sheet, charter, &mut few, &mut nodes);
         return judged.fault;
     }
-    let mut table = [0u16; 6720];
+    let mut table = [0u16; 6752];
     let judged = judge_read(sheet, charter, &mut table, &mut nodes);
     judged.fault
 }

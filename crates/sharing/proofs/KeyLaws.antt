@@ -1,6 +1,6 @@
--- Keys: a number for a list of groups, whose digits they are. Lists of groups with one key are the same; so components share exactly if
--- the keys of their rows are the same.
-use Prim.Native.Nat.{ℕ, zero, suc, _+_, _%_, _<_, _≤_}
+-- Keys: a number for a list of groups, whose digits they are, and one digit more for a purpose. Lists of groups with one key are the same;
+-- so components share exactly if the keys of their rows are the same.
+use Prim.Native.Nat.{ℕ, zero, suc, _+_, _*_, _%_, _<_, _≤_}
 use mathlib.Core.Path.{_≡_, refl, sym, ap, ap₂, _∙_}
 use mathlib.Core.List.{List, [], _∷_, map}
 use mathlib.Core.Bool.{Bool, true, false, cond, _||_}
@@ -14,8 +14,8 @@ use Rattle.reading.proofs.TotalLaws.{both-left, both-right}
 use Rattle.inference.specs.Acts.{Component}
 use Rattle.inference.specs.Classes.{shares}
 use Rattle.inference.specs.Lists.{every, only, rising}
-use Rattle.inference.specs.Rows.{Orderly, groupCount, groupAt, rowGroups, risingGroups, pathAt}
-use Rattle.inference.proofs.ClassLaws.{or-second, same-truth, shares-member, member-shares}
+use Rattle.inference.specs.Rows.{Orderly, groupCount, groupAt, rowGroups, risingGroups, pathAt, purposeAt}
+use Rattle.inference.proofs.ClassLaws.{or-second, same-truth, shares-member, shares-purpose, member-shares}
 use Rattle.sharing.specs.Sums.{keyOf, rowKey}
 
 pub key-same : (xs ys : List ℕ) → every (λ g. ltb g 64) xs ≡ true → every (λ g. ltb g 64) ys ≡ true → keyOf xs ≡ keyOf ys → xs ≡ ys
@@ -80,26 +80,39 @@ every-rising f start (suc n) h = rw (lt-ltb (f start) 64 (h start (omega arith))
 
 -- The component of a row.
 abbrev pub componentOf : List ℕ → ℕ → Component
-componentOf table n = record { number = n; path = pathAt table n }
+componentOf table n = record { number = n; path = pathAt table n; purpose = purposeAt table n }
 
 module _ (table : List ℕ) (m n : ℕ) (up : Orderly table m) (up′ : Orderly table n) where
   low : (k : ℕ) → Orderly table k → every (λ g. ltb g 64) (rowGroups table k) ≡ true
   unfolding rowGroups
   low k o = every-rising (groupAt table k) 0 (groupCount table k) (λ i l. o .low i (omega arith))
 
-  pub key-groups : rowKey table m ≡ rowKey table n → rowGroups table m ≡ rowGroups table n
+  -- a purpose is a digit
+  digit : (k : ℕ) → Orderly table k → purposeAt table k % 16 ≡ purposeAt table k
+  digit k o = mod-eq-of-lt (o .purpose-low)
+
+  key-digits : rowKey table m ≡ rowKey table n → keyOf (rowGroups table m) * 16 + purposeAt table m ≡ keyOf (rowGroups table n) * 16 + purposeAt table n
   unfolding rowKey
-  key-groups e = key-same (rowGroups table m) (rowGroups table n) (low m up) (low n up′) e
+  key-digits e = rw (digit m up, digit n up′) at e
+
+  pub key-groups : rowKey table m ≡ rowKey table n → rowGroups table m ≡ rowGroups table n
+  key-groups e =
+      key-same (rowGroups table m) (rowGroups table n) (low m up) (low n up′)
+      (omega (arith, key-digits e, up .purpose-low, up′ .purpose-low))
+
+  key-purpose : rowKey table m ≡ rowKey table n → purposeAt table m ≡ purposeAt table n
+  key-purpose e = omega (arith, key-digits e, up .purpose-low, up′ .purpose-low)
 
   share-key : shares (componentOf table m) (componentOf table n) ≡ true → rowKey table m ≡ rowKey table n
   unfolding rowKey risingGroups
   share-key h =
-      ap keyOf (up .groups
+      ap₂ (λ (groups : List ℕ) (purpose : ℕ). keyOf groups * 16 + purpose % 16) (up .groups
       ∙ unfold risingGroups in only-same (λ g. member g (pathAt table m)) (λ g. member g (pathAt table n)) (shares-member (componentOf table m) (componentOf table n) h) (rising 0 64)
-      ∙ sym (up′ .groups))
+      ∙ sym (up′ .groups)) (shares-purpose (componentOf table m) (componentOf table n) h)
 
   key-share : rowKey table m ≡ rowKey table n → shares (componentOf table m) (componentOf table n) ≡ true
   key-share e = member-shares (componentOf table m) (componentOf table n) (λ g. same-truth (member g (pathAt table m)) (member g (pathAt table n)) (across g m n up up′ same) (across g n m up′ up (sym same)))
+      (key-purpose e)
     where
       same : risingGroups (pathAt table m) ≡ risingGroups (pathAt table n)
       same = sym (up .groups) ∙ key-groups e ∙ up′ .groups

@@ -16,7 +16,7 @@ use lib.ListN.{length, getD, set, length-set}
 use lib.Seq.{getD-set-same, getD-set-other}
 use Rattle.reading.proofs.Tables.{unset, unread}
 use Rattle.inference.specs.Lists.{rising}
-use Rattle.inference.specs.Rows.{cell, isSet, groupCount, groupAt, rowGroups}
+use Rattle.inference.specs.Rows.{cell, isSet, groupCount, groupAt, rowGroups, purposeAt}
 use Rattle.sharing.specs.Sums.{keyOf, rowKey, firstWith, classFrom, classOf, added, sumCell, addAt, addPlaces, addKind, addKinds, addRow, addRows, anyShared, sumAt, neededAt}
 
 -- The most that a key of so many groups can be, and one more.
@@ -35,6 +35,11 @@ most-seven (suc (suc (suc (suc (suc zero))))) h = omega arith
 most-seven (suc (suc (suc (suc (suc (suc zero)))))) h = omega arith
 most-seven (suc (suc (suc (suc (suc (suc (suc zero))))))) h = omega arith
 most-seven (suc (suc (suc (suc (suc (suc (suc (suc n)))))))) h = absurd (omega arith)
+
+most-eight : (n : ℕ) → n ≤ 8 → most n ≤ 318644812890625
+unfolding most
+most-eight zero h = omega arith
+most-eight (suc n) h = omega (arith, most-seven n (omega arith))
 
 -- A key is made from the last group to the first.
 pub record Keying (table : List ℕ) (component count place key : ℕ) : Type 0 where
@@ -79,7 +84,24 @@ module _ (table : List ℕ) (component count place key : ℕ) (s : Keying table 
       let y : count - 0 ≡ count = omega arith in
       rw (← e, ← y, ← z) (s .same)
 
-pub ruleset key-steps = (needs, key-first, key-times, key-plus, key-next, key-last)
+  pub key-few : place ≤ 0 → key < 318644812890625
+  key-few h = omega (arith, s .small, most-eight (count - place) (omega (arith, s .few)))
+
+pub ruleset key-steps = (needs, key-first, key-times, key-plus, key-next, key-last, key-few)
+
+-- The purpose as one digit more.
+pub class-fits : (key purpose : ℕ) → key < 318644812890625 → Fits w64 (key * 16 + purpose % 16)
+class-fits key purpose h = let digit : purpose % 16 < 16 = mod-lt purpose (lit< tt) in omega arith
+
+pub class-times : (key : ℕ) → key < 318644812890625 → Fits w64 (key * 16)
+class-times key h = omega arith
+
+pub row-key-is : (table : List ℕ) (component key purpose : ℕ) → key ≡ keyOf (rowGroups table component) → purpose ≡ purposeAt table component
+    → key * 16 + purpose % 16 ≡ rowKey table component
+unfolding rowKey
+row-key-is table component key purpose e f = rw (e, f)
+
+pub ruleset class-steps = (needs, class-fits, class-times, row-key-is)
 
 -- Cells.
 pub sum-place : (class kind place : ℕ) → class * 129 + (1 + (kind * 8 + place)) ≡ sumCell class kind place
@@ -216,7 +238,7 @@ class-found table keys key at zero h = refl
 class-found table keys key at (suc left) h = rw (h at (omega arith), class-found table keys key (suc at) left (λ j l. h j (omega arith)))
 
 -- with the component's own key
-module _ (table keys : List ℕ) (component : ℕ) (s : Known table keys component) (small : component < 32) (key : ℕ) (is : key ≡ keyOf (rowGroups table component)) where
+module _ (table keys : List ℕ) (component : ℕ) (s : Known table keys component) (small : component < 32) (key : ℕ) (is : key ≡ rowKey table component) where
   known-more : Known table (set keys component key) (component + 1)
   known-more = record { known = λ j l. go j l (ℕ-discrete j component); full = length-set keys component key ∙ s .full }
     where
@@ -251,7 +273,7 @@ sum-first sums table components keys h k = record {
 }
 
 module _ (first table : List ℕ) (components : ℕ) (sums keys : List ℕ) (component : ℕ) (s : Summing first table components sums keys component) where
-  pub sum-next : (key : ℕ) → key ≡ keyOf (rowGroups table component) → component < components → (class : ℕ) (sums′ : List ℕ)
+  pub sum-next : (key : ℕ) → key ≡ rowKey table component → component < components → (class : ℕ) (sums′ : List ℕ)
       → class ≡ firstWith (getD (set keys component key) component 0) (set keys component key) 0 component
       → sums′ ≡ addRow sums class table component → length sums′ ≡ length sums → Summing first table components sums′ (set keys component key) (component + 1)
   unfolding addRows
@@ -294,7 +316,7 @@ module _ (table : List ℕ) (components : ℕ) (keys : List ℕ) (component : �
   pub compare-there : (v : ℕ) → component < components → component < length (set keys component v)
   compare-there v h = key-fits table keys component v (s .keyed) (omega (arith, s .few))
 
-  module _ (key : ℕ) (is : key ≡ keyOf (rowGroups table component)) (h : component < components) (class : ℕ)
+  module _ (key : ℕ) (is : key ≡ rowKey table component) (h : component < components) (class : ℕ)
       (e : class ≡ firstWith (getD (set keys component key) component 0) (set keys component key) 0 component) where
     turn : (ltb class component || anyShared table (suc component) (components - suc component)) ≡ anyShared table 0 components
     unfolding anyShared

@@ -8,7 +8,7 @@ use lib.ListN.{length, getD, set}
 use lib.Dec.{ltb, eqb}
 use Rattle.inference.specs.Counts.{Count, fin, unlimited}
 use Rattle.inference.specs.Interface.{Required, needed}
-use Rattle.inference.specs.Rows.{cell, isSet, groupCount, groupAt, rowGroups, entryAt}
+use Rattle.inference.specs.Rows.{cell, isSet, groupCount, groupAt, rowGroups, purposeAt, entryAt}
 
 -- groups as the digits of a number, each one more than the group: two lists of groups have one number only if they are the same
 -- (`key-same` of proofs/KeyLaws.antt)
@@ -16,8 +16,9 @@ unfoldable pub keyOf : List ℕ → ℕ
 keyOf [] = 0
 keyOf (g ∷ rest) = keyOf rest * 65 + (g % 64 + 1)
 
+-- the same of a component's groups, with its purpose as the last digit
 unfoldable pub rowKey : List ℕ → ℕ → ℕ
-rowKey table component = keyOf (rowGroups table component)
+rowKey table component = keyOf (rowGroups table component) * 16 + purposeAt table component % 16
 
 -- the first place of a key among `left` places from a place on, or the place after them
 unfoldable pub firstWith : ℕ → List ℕ → ℕ → ℕ → ℕ

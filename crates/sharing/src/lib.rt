@@ -1,4 +1,4 @@
-// Components that share a count (document 02, Q-4): what each class of them needs to disclose, in sums that are made once for a table.
+// Components that share a count (document 02, Q-4 and Q-6): what each class of them needs to disclose, in sums that are made once for a table.
 // The sums stand in lent memory, in a row of 129 cells for each component. Cell 0 is the number of the first component of its class; in
 // that component's row stand, from cell 1 on, for each kind the sums of the class for its groups, by their places. 4,000,000 is unlimited.
 // Where no components share, there is no such memory, and each needs its own counts.
@@ -6,16 +6,18 @@ ghost use mathlib.Core.Path.{_≡_};
 ghost use Prim.Native.Nat.{_<_, _≤_, _%_};
 ghost use lib.ListN.{length, getD, set};
 ghost use Rattle.inference.specs.Rows.{cell, rowGroups};
-ghost use Rattle.sharing.specs.Sums.{added, addAt, addKind, addRow, addRows, anyShared, firstWith, keyOf, neededAt, sumAt, sumCell};
+ghost use Rattle.sharing.specs.Sums.{added, addAt, addKind, addRow, addRows, anyShared, firstWith, keyOf, neededAt, rowKey, sumAt, sumCell};
 use inference::rows::group_at;
 use inference::rows::group_count;
+use inference::rows::purpose_of;
 use interface::count_at;
 use interface::is_used;
 
 // A number for the groups of a component's path, one for each set of groups: they are its digits.
-fn class_key(table: &[u16], component: usize) -> usize
+fn groups_key(table: &[u16], component: usize) -> usize
     requires { ⌜ component < 32 ⌝ }
     ensures { λ r. ⌜ r ≡ keyOf (rowGroups (now (table .entry)) component) ⌝ }
+    ensures few { λ r. ⌜ r < 318644812890625 ⌝ }
 {
     let mut key: usize = 0;
     let mut place = group_count(table, component);
@@ -24,6 +26,14 @@ fn class_key(table: &[u16], component: usize) -> usize
         key = key * 65 + (group_at(table, component, place) % 64 + 1);
     }
     key
+}
+
+// The same with its purpose as the last digit: one for each class.
+fn class_key(table: &[u16], component: usize) -> usize
+    requires { ⌜ component < 32 ⌝ }
+    ensures { λ r. ⌜ r ≡ rowKey (now (table .entry)) component ⌝ }
+{
+    groups_key(table, component) * 16 + purpose_of(table, component) % 16
 }
 
 // The place of the sum of a class, a kind and a group.

@@ -46,9 +46,9 @@ use Rattle.interface.proofs.Alls.{All, done, also, all-map, all-append}
 use Rattle.interface.proofs.ByteLaws.{interface-small}
 use Rattle.interface.proofs.SizeLaws.{actsIn, acts-few}
 use Rattle.policy.specs.Reading.{isCount}
-use Rattle.policy.specs.Syntax.{Granted, Head, Nodes, Tree, alone}
+use Rattle.policy.specs.Syntax.{Granted, Head, Nodes, Tree, alone, bitAt}
 use Rattle.policy.proofs.CountLaws.{inCounts, Counted, counted-none, counted-more, AllCounted, all-none, all-more, policy-counted}
-use Rattle.fit.specs.Grants.{reachedAmong, reached, treeFor, reachedIn, reachedFor, givenBy, storedCount, listed, joined, countGranted}
+use Rattle.fit.specs.Grants.{reachedAmong, reached, treeFor, reachedIn, reachedFor, noPermissions, onlyFor, forPurpose, grantingTo, givenBy, storedCount, listed, joined, countGranted}
 use Rattle.fit.specs.Satisfies.{Verdict, flag, counts, verdictOf, covering}
 use Rattle.service.specs.Questions.{passed, Accepted, judged}
 use Rattle.service.proofs.FirstLaws.{passed-reads}
@@ -177,6 +177,16 @@ reached-counted kind path (all-more {t = t} {rest = rest} c more) = go (eqb (t .
     go true here later = here
     go false here later = later
 
+-- for a purpose too
+for-counted : (purpose : ℕ) {heads : List Head} → All CountedHead heads → All CountedHead (map (forPurpose purpose) heads)
+unfolding CountedHead forPurpose onlyFor
+for-counted purpose done = done
+for-counted purpose (also {x = head} l more) = also (go (bitAt purpose (head .permissions .purposes))) (for-counted purpose more)
+  where
+    go : (b : Bool) → inCounts (cond b (head .permissions) noPermissions .list) ≡ true
+    go true = l
+    go false = unfold inCounts every in refl
+
 given-up : (h g : ℕ) {heads : List Head} → All CountedHead heads → UpTo 4095 (listed h (givenBy g heads .list))
 unfolding givenBy
 given-up h g done = unfold listed in up-nothing 4095
@@ -194,9 +204,9 @@ joined-up h {heads} all (g ∷ path) =
     (given-up h g all) (joined-up h all path)
 
 pub granted-few : (h kind : ℕ) (c : Component) {policy : List Tree} → length (c .path) ≤ 8 → AllCounted policy → UpTo 32760 (countGranted h policy kind c)
-unfolding countGranted
+unfolding countGranted grantingTo
 granted-few h kind c short all =
-    up-more (4095 * length (c .path)) 32760 _ (omega arith) (joined-up h (reached-counted kind (c .path) all) (c .path))
+    up-more (4095 * length (c .path)) 32760 _ (omega arith) (joined-up h (for-counted (c .purpose) (reached-counted kind (c .path) all)) (c .path))
 
 -- The policy of what is accepted was read.
 accepted-counted : (s c : List ℕ) (a : Accepted) → judged s c ≡ passed a → AllCounted (a .policy)

@@ -118,10 +118,10 @@ unfolding verdictsFor
 groups-few c nodes trees table sums n k = places-few c nodes _ table sums n k
 
 module _ (c nodes : List ℕ) (trees : Trees) (table sums : List ℕ) where
-  pub at-few : (n k : ℕ) → length (slackAt c nodes trees table sums n k) ≤ 52
+  pub at-few : (n k : ℕ) → length (slackAt c nodes trees table sums n k) ≤ 53
   unfolding slackAt entryAt
   at-few n k =
-      cond-few (isSet (cell table n k 11)) (cond (holdsAny (entryAt table n k)) whole []) 52 (cond-few (holdsAny (entryAt table n k)) whole 52 few)
+      cond-few (isSet (cell table n k 11)) (cond (holdsAny (entryAt table n k)) whole []) 53 (cond-few (holdsAny (entryAt table n k)) whole 53 few)
     where
       list : List ℕ
       list = sumsBytes (only onGroup (verdictsFor c nodes trees table sums n k))
@@ -129,7 +129,7 @@ module _ (c nodes : List ℕ) (trees : Trees) (table sums : List ℕ) where
       whole : List ℕ
       whole = headThen (entryAt table n k) list
 
-      few : length whole ≤ 52
+      few : length whole ≤ 53
       few = omega (
         arith,
         head-length (entryAt table n k) list,
@@ -146,8 +146,8 @@ module _ (c nodes : List ℕ) (trees : Trees) (table sums : List ℕ) where
   unfolding slackRows partsFrom
   rows-are m = let z : m - 0 ≡ m = omega arith in rw z refl
 
-  pub slack-row-few : (n : ℕ) → length (slackRow c nodes trees table sums n) ≤ 832
-  slack-row-few n = rw (row-is n) (parts-few (slackAt c nodes trees table sums n) 52 16 (at-few n))
+  pub slack-row-few : (n : ℕ) → length (slackRow c nodes trees table sums n) ≤ 848
+  slack-row-few n = rw (row-is n) (parts-few (slackAt c nodes trees table sums n) 53 16 (at-few n))
 
 -- Parts that are the same make the same.
 same-from : {A : Type 0} (f g : ℕ → List A) (n i : ℕ) → ((j : ℕ) → j < i + n → f j ≡ g j) → gather f (rising i n) ≡ gather g (rising i n)

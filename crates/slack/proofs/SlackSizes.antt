@@ -1,5 +1,5 @@
 -- How much room `slack` can need: each group of an entry's list takes five bytes where the interface takes three. An interface has at most
--- 18,432 bytes and its entries disclose together to at most 4,096 groups, so that the slack has at most 26,624 bytes.
+-- 18,944 bytes and its entries disclose together to at most 4,096 groups, so that the slack has at most 27,136 bytes.
 use Prim.Native.Nat.{ℕ, _+_, _*_, _≤_}
 use mathlib.Core.Bool.{Bool, true, false}
 use mathlib.Core.List.{List, [], _∷_, map}
@@ -60,7 +60,7 @@ module _ (policy : List Tree) (required : Required) where
   slack-length = entries-length (required .entries)
 
 -- The slack of what is accepted is short.
-pub slack-short : (s c : List ℕ) (a : Accepted) → judged s c ≡ passed a → length (slackBytes (a .policy) (requiredOf (a .sheet))) ≤ 26624
+pub slack-short : (s c : List ℕ) (a : Accepted) → judged s c ≡ passed a → length (slackBytes (a .policy) (requiredOf (a .sheet))) ≤ 27136
 unfolding requiredOf
 slack-short s c a e =
     let r = passed-reads s c a e in
@@ -71,9 +71,9 @@ slack-short s c a e =
       items-few s c (a .sheet) (r .end) (sheet-parts s c (r .reads)),
     )
 
--- What a call of `slack` answers: a length of at most 26,624, or a number of at most 19.
+-- What a call of `slack` answers: a length of at most 27,136, or a number of at most 19.
 unfoldable pub SlackInRange : Asked ℕ → Type 0
-SlackInRange (passed n) = n ≤ 26624
+SlackInRange (passed n) = n ≤ 27136
 SlackInRange (failed q) = q ≤ 19
 
 pub slack-in-range : (s c output : List ℕ) → SlackInRange (slackTold s c output .answer)
@@ -89,8 +89,8 @@ slack-in-range s c output = go (judged s c) refl
     go (passed a) e = unfold slackFor fitting in fits a (leb (length (slackBytes (a .policy) (requiredOf (a .sheet)))) (length output)) e
     go (failed n) e = unfold slackFor written SlackInRange in omega (arith, failed-below s c n e)
 
--- An output of 26,624 bytes has room for every slack: a call that passes questions 1 to 18 is accepted.
-pub slack-always-room : (s c output : List ℕ) (a : Accepted) → judged s c ≡ passed a → 26624 ≤ length output
+-- An output of 27,136 bytes has room for every slack: a call that passes questions 1 to 18 is accepted.
+pub slack-always-room : (s c output : List ℕ) (a : Accepted) → judged s c ≡ passed a → 27136 ≤ length output
     → slackTold s c output .answer ≡ passed (length (slackBytes (a .policy) (requiredOf (a .sheet))))
 unfolding slackTold slackFor fitting ask written
 slack-always-room s c output a e h =

@@ -113,17 +113,17 @@ module _ (o : List ℕ) (at : ℕ) (table : List ℕ) (n k : ℕ) where
 
 -- A component's entries, and all.
 module _ (o : List ℕ) (at : ℕ) (c nodes : List ℕ) (trees : Trees) (table sums : List ℕ) where
-  pub row-first : (n : ℕ) → Writing (slackAt c nodes trees table sums n) 52 16 o at o at 0
-  row-first n = write-first (slackAt c nodes trees table sums n) 52 16 o at (at-few c nodes trees table sums n)
+  pub row-first : (n : ℕ) → Writing (slackAt c nodes trees table sums n) 53 16 o at o at 0
+  row-first n = write-first (slackAt c nodes trees table sums n) 53 16 o at (at-few c nodes trees table sums n)
 
-  pub row-last : {o₁ : List ℕ} {m k : ℕ} (n : ℕ) → Writing (slackAt c nodes trees table sums n) 52 16 o at o₁ m k → 16 ≤ k
+  pub row-last : {o₁ : List ℕ} {m k : ℕ} (n : ℕ) → Writing (slackAt c nodes trees table sums n) 53 16 o at o₁ m k → 16 ≤ k
       → Stored o o₁ at (slackRow c nodes trees table sums n) m
   row-last n w h = rw (row-is c nodes trees table sums n) (write-last w h)
 
-  pub rows-first : (m : ℕ) → Writing (slackRow c nodes trees table sums) 832 m o at o at 0
-  rows-first m = write-first (slackRow c nodes trees table sums) 832 m o at (slack-row-few c nodes trees table sums)
+  pub rows-first : (m : ℕ) → Writing (slackRow c nodes trees table sums) 848 m o at o at 0
+  rows-first m = write-first (slackRow c nodes trees table sums) 848 m o at (slack-row-few c nodes trees table sums)
 
-  pub rows-last : {o₁ : List ℕ} {r i : ℕ} (m : ℕ) → Writing (slackRow c nodes trees table sums) 832 m o at o₁ r i → m ≤ i
+  pub rows-last : {o₁ : List ℕ} {r i : ℕ} (m : ℕ) → Writing (slackRow c nodes trees table sums) 848 m o at o₁ r i → m ≤ i
       → Stored o o₁ at (slackRows c nodes trees table sums m) r
   rows-last m w h = rw (rows-are c nodes trees table sums m) (write-last w h)
 

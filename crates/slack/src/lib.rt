@@ -122,7 +122,7 @@ fn put_kind(
     out: &mut [u8],
     at: usize,
 ) -> usize
-    requires { ⌜ (component < 32) × (kind < 16) × Bounded trees × (length (now nodes) ≡ 320) × (at < 3000000000) ⌝ }
+    requires { ⌜ (component < 32) × (kind < 16) × Bounded trees × (length (now nodes) ≡ 384) × (at < 3000000000) ⌝ }
     ensures { λ r. ⌜ Stored (now (out .entry)) (now (out .exit)) at
         (slackAt (now (c .entry)) (now (nodes .entry)) trees (now (table .entry)) (now (sums .entry)) component kind) r ⌝ }
 {
@@ -144,7 +144,7 @@ fn put_row(
     out: &mut [u8],
     at: usize,
 ) -> usize
-    requires { ⌜ (component < 32) × Bounded trees × (length (now nodes) ≡ 320) × (at < 2000000000) ⌝ }
+    requires { ⌜ (component < 32) × Bounded trees × (length (now nodes) ≡ 384) × (at < 2000000000) ⌝ }
     ensures { λ r. ⌜ Stored (now (out .entry)) (now (out .exit)) at
         (slackRow (now (c .entry)) (now (nodes .entry)) trees (now (table .entry)) (now (sums .entry)) component) r ⌝ }
 {
@@ -168,7 +168,7 @@ fn write_slack(
     components: usize,
     out: &mut [u8],
 ) -> usize
-    requires { ⌜ (components ≤ 32) × Bounded trees × (length (now nodes) ≡ 320) ⌝ }
+    requires { ⌜ (components ≤ 32) × Bounded trees × (length (now nodes) ≡ 384) ⌝ }
     ensures { λ r. ⌜ Stored (now (out .entry)) (now (out .exit)) 0
         (slackRows (now (c .entry)) (now (nodes .entry)) trees (now (table .entry)) (now (sums .entry)) components) r ⌝ }
 {
@@ -191,7 +191,7 @@ fn deliver(
     components: usize,
     output: &mut [u8],
 ) -> Answer
-    requires { ⌜ (components ≤ 32) × Bounded trees × (length (now nodes) ≡ 320) ⌝ }
+    requires { ⌜ (components ≤ 32) × Bounded trees × (length (now nodes) ≡ 384) ⌝ }
     ensures { λ r. ⌜ Delivered (slackRows (now (c .entry)) (now (nodes .entry)) trees (now (table .entry)) (now (sums .entry)) components)
         (now (output .entry)) (now (output .exit)) r ⌝ }
 {
@@ -212,7 +212,7 @@ pub fn slack_judged(
     judged: Judged,
     output: &mut [u8],
 ) -> Answer
-    requires { ⌜ (judged .components ≤ 32) × (11 < judged .fault → Bounded (judged .trees)) × (length (now nodes) ≡ 320) ⌝ }
+    requires { ⌜ (judged .components ≤ 32) × (11 < judged .fault → Bounded (judged .trees)) × (length (now nodes) ≡ 384) ⌝ }
     ensures { λ r. ⌜ ((sheet : List ℕ) → Judges sheet (now (charter .entry)) (now (table .entry)) (now (nodes .entry)) judged
         → Tells sheet (now (charter .entry)) (now (output .entry)) (now (output .exit)) r) ⌝ }
 {
@@ -237,7 +237,7 @@ fn slack_read(sheet: &[u8], charter: &[u8], table: &mut [u16], output: &mut [u8]
     requires { ⌜ Ready (now sheet) (now charter) (now table) ⌝ }
     ensures { λ r. ⌜ Tells (now (sheet .entry)) (now (charter .entry)) (now (output .entry)) (now (output .exit)) r ⌝ }
 {
-    let mut nodes = [0usize; 320];
+    let mut nodes = [0usize; 384];
     let judged = judge_read(sheet, charter, table, &mut nodes);
     slack_judged(charter, &nodes, table, judged, output)
 }
@@ -252,9 +252,9 @@ pub fn slack(sheet: &[u8], charter: &[u8], output: &mut [u8]) -> Answer
         return Answer::Refused(refusal(read).question);
     };
     if components.value <= 4 {
-        let mut few = [0u16; 840];
+        let mut few = [0u16; 844];
         return slack_read(sheet, charter, &mut few, output);
     }
-    let mut table = [0u16; 6720];
+    let mut table = [0u16; 6752];
     slack_read(sheet, charter, &mut table, output)
 }

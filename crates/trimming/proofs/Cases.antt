@@ -16,7 +16,7 @@ use Rattle.trimming.specs.Trim.{lowered, itemThen, lowerList, withoutLis
 
 -- Below group 0 a component of group 1 discloses once data of kind 0 and once of kind 1, and one of group 2 three times of kind 0, all into group 0.
 abbrev sheet : List ℕ
-sheet = 0x04 ∷ 0x02 ∷ 0x00 ∷ 0x00 ∷ 0x00 ∷ 0x01 ∷ 0x00 ∷ 0x00 ∷ 0x02 ∷ 0x00 ∷ 0x00 ∷ 0x01 ∷ 0x01 ∷ 0x00 ∷ 0x01 ∷ 0x02 ∷ 0x00 ∷ 0x01 ∷ 0x04 ∷ 0x01 ∷ 0x06 ∷ 0x00 ∷ 0x01 ∷ 0x06 ∷ 0x02 ∷ 0x03 ∷ 0x00 ∷ 0x04 ∷ 0x02 ∷ 0x06 ∷ 0x00 ∷ 0x01 ∷ 0x06 ∷ 0x00 ∷ 0x01 ∷ 0x06 ∷ 0x00 ∷ 0x01 ∷ 0x00 ∷ []
+sheet = 0x04 ∷ 0x02 ∷ 0x00 ∷ 0x00 ∷ 0x00 ∷ 0x01 ∷ 0x00 ∷ 0x00 ∷ 0x02 ∷ 0x00 ∷ 0x00 ∷ 0x01 ∷ 0x01 ∷ 0x00 ∷ 0x01 ∷ 0x02 ∷ 0x00 ∷ 0x01 ∷ 0x04 ∷ 0x01 ∷ 0x00 ∷ 0x06 ∷ 0x00 ∷ 0x01 ∷ 0x06 ∷ 0x02 ∷ 0x03 ∷ 0x00 ∷ 0x04 ∷ 0x02 ∷ 0x00 ∷ 0x06 ∷ 0x00 ∷ 0x01 ∷ 0x06 ∷ 0x00 ∷ 0x01 ∷ 0x06 ∷ 0x00 ∷ 0x01 ∷ 0x00 ∷ []
 
 -- A charter, by the permissions of its groups: 0, 1 and 2 of kind 0, where 1 stands below 0 and again below 2, and 0 of kind 1.
 abbrev charterOf : List ℕ → List ℕ → List ℕ → List ℕ → List ℕ
@@ -34,12 +34,20 @@ reads = 0x11 ∷ 0x01 ∷ 0x00 ∷ 0x01 ∷ 0x00 ∷ []
 abbrev lists : List ℕ
 lists = 0x10 ∷ 0x02 ∷ 0x00 ∷ 0x01 ∷ 0x00 ∷ 0x03 ∷ 0x07 ∷ 0x00 ∷ []
 
+-- A count for group 0 and purpose 0.
+abbrev givesFor : ℕ → List ℕ
+givesFor count = 0x30 ∷ 0x01 ∷ 0x00 ∷ count ∷ 0x00 ∷ 0x01 ∷ 0x00 ∷ []
+
 -- Of kind 0 group 0 gives 4 and groups 1 and 2 give 1 each; of kind 1 group 0 gives 1. And the same with group 0 giving without limit.
 abbrev four : List ℕ
 four = charterOf (gives 4) reads lists (gives 1)
 
 abbrev free : List ℕ
 free = charterOf (0x10 ∷ 0x01 ∷ 0x00 ∷ 0xFF ∷ 0xFF ∷ []) reads lists (gives 1)
+
+-- The first with group 0 giving for purpose 0 alone.
+abbrev ordinary : List ℕ
+ordinary = charterOf (givesFor 4) reads lists (gives 1)
 
 abbrev treesOf : Read (List Tree) → List Tree
 treesOf (got policy next) = policy
@@ -82,6 +90,9 @@ rows =
     row four 1 0 0 1 (charterOf (gives 4) reads lists (0x00 ∷ [])) 18 ∷
     -- unlimited stays
     row free 0 0 0 4095 free 0 ∷
+    -- group 0 gives for purpose 0 alone: its purposes stay, without the list too
+    row ordinary 0 0 0 2 (charterOf (givesFor 2) reads lists (gives 1)) 0 ∷
+    row ordinary 0 0 0 4 (charterOf (0x20 ∷ 0x01 ∷ 0x00 ∷ []) reads lists (gives 1)) 18 ∷
     []
 
 lowered-written : map trimmed rows ≡ map written rows

@@ -26,7 +26,7 @@ same-self (d ∷ l) = rw (eq-eqb (d .group) (d .group) refl, eq-eqb (d .count) (
 
 permissions-self : (p q : Permissions) → p ≡ q → samePermissions p q ≡ true
 unfolding samePermissions
-permissions-self p q e = rw (e, eq-eqb (q .map) (q .map) refl, same-self (q .list))
+permissions-self p q e = rw (e, eq-eqb (q .map) (q .map) refl, same-self (q .list), eq-eqb (q .purposes) (q .purposes) refl)
 
 module _ (g h by : ℕ) where
   -- 13

@@ -15,9 +15,9 @@ use Rattle.inference.specs.Lists.{every, any}
 use Rattle.inference.specs.Counts.{fin, _⊕_, atMost}
 use Rattle.inference.specs.Interface.{Entry, isEmpty}
 use Rattle.inference.proofs.CountLaws.{join-comm, join-assoc, at-most-self, join-mono}
-use Rattle.policy.specs.Syntax.{Permissions, Nodes, none, more, Node, Tree, Head, alone, hasBit}
+use Rattle.policy.specs.Syntax.{Permissions, Nodes, none, more, Node, Tree, Head, alone, hasBit, bitAt}
 use Rattle.policy.specs.WellFormed.{distinct, groupsAt}
-use Rattle.fit.specs.Grants.{reachedAmong, reached, treeFor, reachedIn, reachedFor, givenBy, flagGranted, listed, joined, countGranted}
+use Rattle.fit.specs.Grants.{reachedAmong, reached, treeFor, reachedIn, reachedFor, noPermissions, onlyFor, forPurpose, grantingTo, givenBy, flagGranted, listed, joined, countGranted}
 use Rattle.fit.specs.Satisfies.{isTree, hasTree, pathReached}
 use Rattle.trimming.specs.Trim.{lowerList, withoutList, mapFor, lowerPermissions, lowerAt, lowerNodes, lowerNode, lowerTree, lower}
 use Rattle.trimming.proofs.TestLaws.{cond-ind}
@@ -39,20 +39,38 @@ module _ (g h by : ℕ) where
       go false e = refl
 
   -- A group gives what its node gives, lowered; a group at no reached node gives nothing.
-  nothing-lowered : record { map = 0; list = [] } ≡ lowerPermissions h by (record { map = 0; list = [] })
+  nothing-lowered : noPermissions ≡ lowerPermissions h by noPermissions
   unfolding lowerPermissions mapFor withoutList hasBit isEmpty lowerList
   nothing-lowered = refl
 
   given-lowered : (n : ℕ) (hs : List Head) → givenBy n (map (lowerHead g h by) hs) ≡ lowerAt g h by n (givenBy n hs)
   unfolding givenBy lowerHead lowerAt
   given-lowered n [] =
-      cond-ind (λ (p : Permissions). record { map = 0; list = [] } ≡ p) (eqb n g) (lowerPermissions h by (record { map = 0; list = [] })) (record { map = 0; list = [] }) (λ e. nothing-lowered) (λ e. refl)
+      cond-ind (λ (p : Permissions). noPermissions ≡ p) (eqb n g) (lowerPermissions h by noPermissions) noPermissions (λ e. nothing-lowered) (λ e. refl)
   given-lowered n (a ∷ hs) = go (eqb (a .group) n) refl (given-lowered n hs)
     where
       go : (b : Bool) → eqb (a .group) n ≡ b → givenBy n (map (lowerHead g h by) hs) ≡ lowerAt g h by n (givenBy n hs)
           → cond b (lowerAt g h by (a .group) (a .permissions)) (givenBy n (map (lowerHead g h by) hs)) ≡ lowerAt g h by n (cond b (a .permissions) (givenBy n hs))
       go true e rest = rw (eqb-true (a .group) n e)
       go false e rest = rest
+
+  -- For a purpose, a lowered node grants what the node grants for it, lowered.
+  only-lowered : (purpose n : ℕ) (p : Permissions) → onlyFor purpose (lowerAt g h by n p) ≡ lowerAt g h by n (onlyFor purpose p)
+  unfolding lowerAt lowerPermissions onlyFor
+  only-lowered purpose n p =
+      cond-ind (λ q. onlyFor purpose q ≡ cond (eqb n g) (lowerPermissions h by (onlyFor purpose p)) (onlyFor purpose p)) (eqb n g) (lowerPermissions h by p) p
+      (λ e. rw e (go (bitAt purpose (p .purposes)))) (λ e. rw e)
+    where
+      go : (b : Bool) → cond b (lowerPermissions h by p) noPermissions ≡ lowerPermissions h by (cond b p noPermissions)
+      go true = refl
+      go false = nothing-lowered
+
+  heads-for : (purpose : ℕ) (hs : List Head) → map (forPurpose purpose) (map (lowerHead g h by) hs) ≡ map (lowerHead g h by) (map (forPurpose purpose) hs)
+  unfolding forPurpose lowerHead
+  heads-for purpose [] = refl
+  heads-for purpose (a ∷ hs) =
+      ap₂ (λ (p : Permissions) (l : List Head). record { group = a .group; permissions = p } ∷ l)
+      (only-lowered purpose (a .group) (a .permissions)) (heads-for purpose hs)
 
   flags-lowered : (v : ℕ) → Low v → (hs : List Head) (path : List ℕ)
       → any (λ n. hasBit v (givenBy n (map (lowerHead g h by) hs) .map)) path ≡ any (λ n. hasBit v (givenBy n hs .map)) path
@@ -149,6 +167,16 @@ module _ (g h by : ℕ) where
         go true e rest = rw (eqb-true (t .kind) k e) (root-reached path (eqb k kind) (t .root))
         go false e rest = rest
 
+    pub nodes-granting : (k : ℕ) (c : Component) (policy : List Tree)
+        → grantingTo (lower kind g h by policy) k c ≡ changed (eqb k kind) (grantingTo policy k c)
+    unfolding grantingTo
+    nodes-granting k c policy = rw (nodes-reached k (c .path) policy) (go (eqb k kind))
+      where
+        go : (b : Bool) → map (forPurpose (c .purpose)) (changed b (reachedFor policy k (c .path)))
+            ≡ changed b (map (forPurpose (c .purpose)) (reachedFor policy k (c .path)))
+        go true = heads-for (c .purpose) (reachedFor policy k (c .path))
+        go false = refl
+
     module _ (policy : List Tree) where
       -- 16 and 17 are answered as before.
       pub tree-kept : (e : Entry) → hasTree (lower kind g h by policy) e ≡ hasTree policy e
@@ -168,23 +196,23 @@ module _ (g h by : ℕ) where
       pub flag-kept : (v : ℕ) → Low v → (k : ℕ) (c : Component) → flagGranted v (lower kind g h by policy) k c ≡ flagGranted v policy k c
       unfolding flagGranted
       flag-kept v low k c =
-          rw (nodes-reached k (c .path) policy)
-          (cond-ind (λ hs. any (λ n. hasBit v (givenBy n hs .map)) (c .path) ≡ any (λ n. hasBit v (givenBy n (reachedFor policy k (c .path)) .map)) (c .path)) (eqb k kind) _ _
-          (λ e. flags-lowered v low (reachedFor policy k (c .path)) (c .path)) (λ e. refl))
+          rw (nodes-granting k c policy)
+          (cond-ind (λ hs. any (λ n. hasBit v (givenBy n hs .map)) (c .path) ≡ any (λ n. hasBit v (givenBy n (grantingTo policy k c) .map)) (c .path)) (eqb k kind) _ _
+          (λ e. flags-lowered v low (grantingTo policy k c) (c .path)) (λ e. refl))
 
       pub count-kept : (i k : ℕ) (c : Component) → (eqb k kind && (member g (c .path) && eqb i h)) ≡ false
           → countGranted i (lower kind g h by policy) k c ≡ countGranted i policy k c
       unfolding countGranted
-      count-kept i k c e = rw (nodes-reached k (c .path) policy) (go (eqb k kind) (member g (c .path)) refl (eqb i h) refl e)
+      count-kept i k c e = rw (nodes-granting k c policy) (go (eqb k kind) (member g (c .path)) refl (eqb i h) refl e)
         where
           go : (b m : Bool) → member g (c .path) ≡ m → (j : Bool) → eqb i h ≡ j → (b && (m && j)) ≡ false
-              → joined i (changed b (reachedFor policy k (c .path))) (c .path) ≡ joined i (reachedFor policy k (c .path)) (c .path)
+              → joined i (changed b (grantingTo policy k c)) (c .path) ≡ joined i (grantingTo policy k c) (c .path)
           go true true p true q f = let z : _≡_ {A = ℕ} 0 1 = cc in absurd (omega arith)
-          go true true p false q f = joined-count (reachedFor policy k (c .path)) i (eqb-false i h q) (c .path)
-          go true false p j q f = joined-without (reachedFor policy k (c .path)) i (c .path) p
+          go true true p false q f = joined-count (grantingTo policy k c) i (eqb-false i h q) (c .path)
+          go true false p j q f = joined-without (grantingTo policy k c) i (c .path) p
           go false m p j q f = refl
 
       pub count-lowered : (k : ℕ) (c : Component) → eqb k kind ≡ true → distinct (c .path) ≡ true
           → atMost (countGranted h policy k c) (fin by ⊕ countGranted h (lower kind g h by policy) k c) ≡ true
       unfolding countGranted
-      count-lowered k c e d = rw (nodes-reached k (c .path) policy, e) (joined-kept (reachedFor policy k (c .path)) (c .path) d)
+      count-lowered k c e d = rw (nodes-granting k c policy, e) (joined-kept (grantingTo policy k c) (c .path) d)

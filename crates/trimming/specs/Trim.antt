@@ -33,9 +33,9 @@ withoutList map = cond (hasBit 16 map) (map - 16) map
 unfoldable pub mapFor : List Granted → ℕ → ℕ
 mapFor list map = cond (isEmpty list) (withoutList map) map
 
--- A map and its list.
+-- A map and its list; the purposes stay.
 unfoldable pub lowerPermissions : ℕ → ℕ → Permissions → Permissions
-lowerPermissions h by p = record { map = mapFor (lowerList h by (p .list)) (p .map); list = lowerList h by (p .list) }
+lowerPermissions h by p = record { map = mapFor (lowerList h by (p .list)) (p .map); list = lowerList h by (p .list); purposes = p .purposes }
 
 -- What a node of group n has, where the nodes of group g are lowered.
 unfoldable pub lowerAt : ℕ → ℕ → ℕ → ℕ → Permissions → Permissions

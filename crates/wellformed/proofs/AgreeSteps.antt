@@ -1,8 +1,8 @@
--- The same permissions: item by item, and list by list.
+-- The same permissions: item by item, list by list, and the purposes.
 use Prim.Native.Nat.{ℕ, _+_, _-_, _*_, _<_, _≤_}
-use mathlib.Core.Bool.{Bool, true, false, not, _&&_}
+use mathlib.Core.Bool.{Bool, true, false, not, _&&_, and-true, and-false}
 use mathlib.Core.List.{List, [], _∷_}
-use mathlib.Core.Path.{_≡_, refl, sym, ap, ap₂}
+use mathlib.Core.Path.{_≡_, refl, sym, ap, ap₂, _∙_}
 use native.Mathlib.Omega.{arith}
 use borrow.Author.Tests.{not-true, not-false, eq-eqb, ne-eqb, eqb-true}
 use lib.Dec.{eqb}
@@ -49,6 +49,11 @@ module _ (c : List ℕ) (a b n i : ℕ) (s : ItemsLeft c a b n i) where
 granted-equal : (x y : Granted) → x .group ≡ y .group → x .count ≡ y .count → x ≡ y
 granted-equal x y e f = ap₂ (λ (g n : ℕ). record { group = g; count = n }) e f
 
+granting-equal : (p q : Granting) → p .map ≡ q .map → p .list ≡ q .list → p .purposes ≡ q .purposes → p ≡ q
+granting-equal p q e f g =
+    ap₂ (λ (m : ℕ) (l : List Granted). record { map = m; list = l; purposes = p .purposes }) e f
+    ∙ ap (λ (n : ℕ). record { map = q .map; list = q .list; purposes = n }) g
+
 list-equal : (l m : List Granted) → sameList l m ≡ true → l ≡ m
 unfolding sameList
 list-equal [] [] e = refl
@@ -62,26 +67,38 @@ list-equal (x ∷ l) (y ∷ m) e =
 pub permissions-equal : (p q : Granting) → samePermissions p q ≡ true → p ≡ q
 unfolding samePermissions
 permissions-equal p q e =
-    let h = both-true (eqb (p .map) (q .map)) (sameList (p .list) (q .list)) e in
-    ap₂ (λ (m : ℕ) (l : List Granted). record { map = m; list = l }) (eqb-true (p .map) (q .map) (h .0)) (list-equal (p .list) (q .list) (h .1))
+    let h = both-true (eqb (p .map) (q .map)) (sameList (p .list) (q .list) && eqb (p .purposes) (q .purposes)) e in
+    let k = both-true (sameList (p .list) (q .list)) (eqb (p .purposes) (q .purposes)) (h .1) in
+    granting-equal p q (eqb-true (p .map) (q .map) (h .0)) (list-equal (p .list) (q .list) (k .0)) (eqb-true (p .purposes) (q .purposes) (k .1))
 
 module _ (c : List ℕ) (p q : Permissions) where
   pub map-differs : (p .map ≡ q .map → ⊥) → false ≡ samePermissions (permissionsOf c p) (permissionsOf c q)
   unfolding samePermissions permissionsOf
   map-differs h = rw (ne-eqb (p .map) (q .map) h)
 
-  pub count-differs : p .map ≡ q .map → (p .count ≡ q .count → ⊥) → false ≡ samePermissions (permissionsOf c p) (permissionsOf c q)
+  -- Whether the lists are the same.
+  abbrev lists : Bool
+  lists = sameList (itemsAt (p .count) c (p .list)) (itemsAt (q .count) c (q .list))
+
+  pub purposes-differ : p .map ≡ q .map → (p .purposes ≡ q .purposes → ⊥) → false ≡ samePermissions (permissionsOf c p) (permissionsOf c q)
   unfolding samePermissions permissionsOf
-  count-differs e h = rw (eq-eqb (p .map) (q .map) e) (go (sameList (itemsAt (p .count) c (p .list)) (itemsAt (q .count) c (q .list))) refl)
+  purposes-differ e h = rw (eq-eqb (p .map) (q .map) e, ne-eqb (p .purposes) (q .purposes) h, and-false lists)
+
+  lists-differ : (p .count ≡ q .count → ⊥) → lists ≡ false
+  lists-differ h = go lists refl
     where
-      go : (t : Bool) → sameList (itemsAt (p .count) c (p .list)) (itemsAt (q .count) c (q .list)) ≡ t → false ≡ t
+      go : (t : Bool) → lists ≡ t → t ≡ false
       go true k = absurd (h (rw (items-count (p .count) c (p .list), items-count (q .count) c (q .list)) at (ap length (list-equal (itemsAt (p .count) c (p .list)) (itemsAt (q .count) c (q .list)) k))))
       go false k = refl
 
-  pub list-decides : (r : Bool) → p .map ≡ q .map → p .count ≡ q .count → r ≡ sameList (itemsAt (p .count) c (p .list)) (itemsAt (p .count) c (q .list))
-      → r ≡ samePermissions (permissionsOf c p) (permissionsOf c q)
+  pub count-differs : p .map ≡ q .map → (p .count ≡ q .count → ⊥) → false ≡ samePermissions (permissionsOf c p) (permissionsOf c q)
   unfolding samePermissions permissionsOf
-  list-decides r e h k = rw (eq-eqb (p .map) (q .map) e, ← h) k
+  count-differs e h = rw (eq-eqb (p .map) (q .map) e, lists-differ h)
+
+  pub list-decides : (r : Bool) → p .map ≡ q .map → p .purposes ≡ q .purposes → p .count ≡ q .count
+      → r ≡ sameList (itemsAt (p .count) c (p .list)) (itemsAt (p .count) c (q .list)) → r ≡ samePermissions (permissionsOf c p) (permissionsOf c q)
+  unfolding samePermissions permissionsOf
+  list-decides r e i h k = rw (eq-eqb (p .map) (q .map) e, eq-eqb (p .purposes) (q .purposes) i, and-true lists, ← h) k
 
 pub ruleset agree-steps = (
   node-steps,
@@ -92,6 +109,7 @@ pub ruleset agree-steps = (
   items-differ,
   items-next,
   map-differs,
+  purposes-differ,
   count-differs,
   list-decides,
 )

@@ -45,12 +45,15 @@ fn same_items(c: &[u8], a: usize, b: usize, count: usize) -> bool
     true
 }
 
-// The same map and list?
+// The same map, list and purposes?
 fn same_permissions(c: &[u8], p: Permissions, q: Permissions) -> bool
     requires { ⌜ (p .list < 8192) × (q .list < 8192) × (p .count < 128) ⌝ }
     ensures { λ r. ⌜ r ≡ samePermissions (permissionsOf (now (c .entry)) p) (permissionsOf (now (c .entry)) q) ⌝ }
 {
     if p.map != q.map {
+        return false;
+    }
+    if p.purposes != q.purposes {
         return false;
     }
     if p.count != q.count {
@@ -59,8 +62,8 @@ fn same_permissions(c: &[u8], p: Permissions, q: Permissions) -> bool
     same_items(c, p.list, q.list, p.count)
 }
 
-// 14 at one node: the same map and list as at the last node of its group before it, whose row is the one before `next`? Where
-// `next` is 0 there is no such node.
+// 14 at one node: the same map, list and purposes as at the last node of its group before it, whose row is the one before
+// `next`? Where `next` is 0 there is no such node.
 fn same_as_last(c: &[u8], nodes: &[usize], next: usize, node: Node) -> bool
     requires { ⌜ (next ≤ 64) × (node .permissions .list < 8192) ⌝ }
     ensures { λ r. ⌜ r ≡ sameAsLast (now (c .entry)) (now (nodes .entry)) next (permissionsOf (now (c .entry)) (node .permissions)) ⌝ }

@@ -5,7 +5,7 @@ use Rattle.commands.proofs.print_entries.Statement.{statement}
 use Rattle.commands.proofs.print_entries.Tie as tie
 
 abbrev Inv-loop : tie.InvT-loop
-Inv-loop slack between at₀ turns₀ at turns = turns ≤ 6656
+Inv-loop slack between at₀ turns₀ at turns = turns ≤ 5428
 
 abbrev μ-loop : tie.MeasureT-loop
 μ-loop slack between at₀ turns₀ at turns = turns

@@ -9,7 +9,7 @@ use Rattle.interface.proofs.interface_len.Statement.{statement}
 use Rattle.interface.proofs.interface_len.Tie as tie
 
 abbrev Inv-loop : tie.InvT-loop
-Inv-loop table components len₀ component₀ len component = Counting (rowBytesAt table) 576 components len component
+Inv-loop table components len₀ component₀ len component = Counting (rowBytesAt table) 592 components len component
 
 abbrev μ-loop : tie.MeasureT-loop
 μ-loop table components len₀ component₀ len component = components - component

@@ -1,4 +1,4 @@
--- The length of a component's entries. Invariant: what is summed and what the kinds left would add are all, at most 36 a kind,
+-- The length of a component's entries. Invariant: what is summed and what the kinds left would add are all, at most 37 a kind,
 -- so that the sum fits.
 use Rattle.interface.proofs.InterfaceSteps.{interface-steps}
 use borrow.Author.Needs.{needs}
@@ -9,7 +9,7 @@ use Rattle.interface.proofs.row_len.Statement.{statement}
 use Rattle.interface.proofs.row_len.Tie as tie
 
 abbrev Inv-loop : tie.InvT-loop
-Inv-loop table component len₀ kind₀ len kind = Counting (entryBytesAt table component) 36 16 len kind
+Inv-loop table component len₀ kind₀ len kind = Counting (entryBytesAt table component) 37 16 len kind
 
 abbrev μ-loop : tie.MeasureT-loop
 μ-loop table component len₀ kind₀ len kind = 16 - kind

@@ -9,7 +9,7 @@ use Rattle.interface.proofs.write_interface.Statement.{statement}
 use Rattle.interface.proofs.write_interface.Tie as tie
 
 abbrev Inv-loop : tie.InvT-loop
-Inv-loop table components out₀ next₀ component₀ out next component = Writing (rowBytesAt table) 576 components out₀ 0 out next component
+Inv-loop table components out₀ next₀ component₀ out next component = Writing (rowBytesAt table) 592 components out₀ 0 out next component
 
 abbrev μ-loop : tie.MeasureT-loop
 μ-loop table components out₀ next₀ component₀ out next component = components - component

@@ -1,4 +1,4 @@
--- A component's entries. Invariant: storing the kinds left makes of the output now what storing all makes of it at first, at most 52 bytes
+-- A component's entries. Invariant: storing the kinds left makes of the output now what storing all makes of it at first, at most 53 bytes
 -- a kind.
 use Prim.Native.Nat.{_-_}
 use Rattle.interface.proofs.WriteLaws.{Writing}
@@ -8,7 +8,7 @@ use Rattle.slack.proofs.put_row.Statement.{statement}
 use Rattle.slack.proofs.put_row.Tie as tie
 
 abbrev Inv-loop : tie.InvT-loop
-Inv-loop c nodes trees table sums component out₀ at next₀ kind₀ out next kind = Writing (slackAt c nodes trees table sums component) 52 16 out₀ at out next kind
+Inv-loop c nodes trees table sums component out₀ at next₀ kind₀ out next kind = Writing (slackAt c nodes trees table sums component) 53 16 out₀ at out next kind
 
 abbrev μ-loop : tie.MeasureT-loop
 μ-loop c nodes trees table sums component out₀ at next₀ kind₀ out next kind = 16 - kind

@@ -1,4 +1,4 @@
--- All entries. Invariant: storing the components left makes of the output now what storing all makes of it at first, at most 832 bytes a
+-- All entries. Invariant: storing the components left makes of the output now what storing all makes of it at first, at most 848 bytes a
 -- component.
 use Prim.Native.Nat.{_-_}
 use Rattle.interface.proofs.WriteLaws.{Writing}
@@ -8,7 +8,7 @@ use Rattle.slack.proofs.write_slack.Statement.{statement}
 use Rattle.slack.proofs.write_slack.Tie as tie
 
 abbrev Inv-loop : tie.InvT-loop
-Inv-loop c nodes trees table sums components out₀ next₀ component₀ out next component = Writing (slackRow c nodes trees table sums) 832 components out₀ 0 out next component
+Inv-loop c nodes trees table sums components out₀ next₀ component₀ out next component = Writing (slackRow c nodes trees table sums) 848 components out₀ 0 out next component
 
 abbrev μ-loop : tie.MeasureT-loop
 μ-loop c nodes trees table sums components out₀ next₀ component₀ out next component = components - component

@@ -1,4 +1,4 @@
--- Flags and sums, in the rows that `givers` finds for the path in the table's row.
+-- Flags and sums, in the rows that `givers` finds for the path in the table's row and `granting` leaves for its purpose.
 use Rattle.fit.proofs.CoverSteps.{cover-steps}
 use borrow.Author.Needs.{needs}
 use Rattle.fit.proofs.cover.cover.Statement.{statement}
@@ -10,6 +10,8 @@ cover-spec =
     (tie.spec
     (λ c κs. search needs)
     (λ c. search cover-steps)
+    (λ c κs. search needs)
+    (λ c κs. search needs)
     (λ c κs. search needs)
     (λ c κs. search needs)
     (λ c κs. search needs)

@@ -1,4 +1,4 @@
--- A component: its path is stored, then its process is walked, so the table has its path and then its acts.
+-- A component: its purpose and its path are stored, then its process is walked, so the table has them and then its acts.
 use Rattle.inference.proofs.SystemSteps.{component-found}
 use borrow.Author.Needs.{needs}
 use Rattle.inference.proofs.systems.infer_component.Statement.{statement}
@@ -6,9 +6,10 @@ use Rattle.inference.proofs.systems.infer_component.Tie as tie
 
 returns : tie.Need-returns
 returns c =
-    component-found _ _ _ _ _ _ _ _ _ _ _ _
+    component-found _ _ _ _ _ _ _ _ _ _ _ _ _
     (search needs)
-    (c .before .before .before .before .before .before .before .before .before .before .before .with .ensures)
+    (c .before .before .before .before .before .before .before .before .before .before .before .before .before .before .before .with .ensures)
+    (c .before .before .before .before .before .before .before .before .before .before .before .before .before .store-purpose .ensures)
     (c .before .before .before .before .before .before .before .before .before .store-path .ensures)
     (c .before .before .before .before .infer-process .ensures)
 
@@ -18,6 +19,7 @@ infer-component-spec =
     (tie.spec
     (λ c κs. search needs)
     (λ c. search needs)
+    (λ c κs. search needs)
     (λ c κs. search needs)
     (λ c κs. search needs)
     (λ c. search needs)

@@ -1,4 +1,4 @@
--- `node_at` reads the five cells of a row.
+-- `node_at` reads the six cells of a row.
 use Rattle.policy.proofs.NodeLaws.{node-steps}
 use borrow.Author.Needs.{needs}
 use Rattle.policy.proofs.nodes.node_at.Statement.{statement}
@@ -9,6 +9,8 @@ node-at-spec =
     tie.close
     (tie.spec
     (λ c. search needs)
+    (λ c. search needs)
+    (λ c κs. search needs)
     (λ c. search needs)
     (λ c κs. search needs)
     (λ c. search needs)

@@ -1,5 +1,5 @@
--- `permissions_at`: the map, and a list only if bit 4 stands; what is found fits its cells.
-use Rattle.policy.proofs.ListSteps.{permission-steps}
+-- `permissions_at`: the map, the list and the purposes, one after another; what is found fits its cells.
+use Rattle.policy.proofs.PermissionSteps.{permission-steps}
 use borrow.Author.Needs.{needs}
 use Rattle.policy.proofs.read.permissions_at.Statement.{statement}
 use Rattle.policy.proofs.read.permissions_at.Tie as tie
@@ -13,6 +13,10 @@ permissions-at-spec =
     (λ c. search needs)
     (λ c κs. search needs)
     (λ c. search permission-steps)
+    (λ c κs. search needs)
+    (λ c. search needs)
+    (λ c. search needs)
+    (λ c κs. search needs)
     (λ c. search permission-steps)
     (λ c κs. search needs)
     (λ c. search needs)

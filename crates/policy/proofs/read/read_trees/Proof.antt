@@ -7,7 +7,7 @@ use Rattle.policy.proofs.read.read_trees.Statement.{statement}
 use Rattle.policy.proofs.read.read_trees.Tie as tie
 
 abbrev Inv-loop : tie.InvT-loop
-Inv-loop c at count nodes₀ trees₀ next₀ used₀ nodes trees next used = (length nodes ≡ 320) × TreesRead c at count nodes trees next used
+Inv-loop c at count nodes₀ trees₀ next₀ used₀ nodes trees next used = (length nodes ≡ 384) × TreesRead c at count nodes trees next used
 
 abbrev μ-loop : tie.MeasureT-loop
 μ-loop c at count nodes₀ trees₀ next₀ used₀ nodes trees next used = count - trees .len

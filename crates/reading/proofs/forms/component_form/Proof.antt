@@ -1,4 +1,4 @@
--- `component_form` reads the group of a component, where there is room for one: each answer of its callee decides its own.
+-- `component_form` reads the group of a component and then its purpose, where there is room for one: the first refusal is handed on.
 use Rattle.reading.proofs.Steps.{steps}
 use Rattle.reading.specs.Forms.{componentFormIn}
 use borrow.Author.Needs.{needs}
@@ -10,6 +10,11 @@ unfolding componentFormIn
 component-form-spec =
     tie.close
     (tie.spec
+    (λ c κs. search needs)
+    (λ c. search steps)
+    (λ c κs. search needs)
+    (λ c. search needs)
+    (λ c. search needs)
     (λ c κs. search needs)
     (λ c. search steps)
     (λ c κs. search needs)

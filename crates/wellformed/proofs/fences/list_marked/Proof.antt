@@ -1,5 +1,6 @@
 -- `list_marked`: the items that are left decide (ListLeft).
-use Rattle.wellformed.proofs.FenceSteps.{fence-steps, ListLeft}
+use Rattle.wellformed.proofs.FenceSteps.{list-next, fence-steps, ListLeft}
+use borrow.Author.Needs.{needs}
 use Prim.Native.Nat.{_≤_, _-_}
 use Rattle.wellformed.proofs.fences.list_marked.Statement.{statement}
 use Rattle.wellformed.proofs.fences.list_marked.Tie as tie
@@ -26,5 +27,5 @@ list-marked-spec =
     (λ c. search fence-steps)
     (λ c. search fence-steps)
     (λ c. search fence-steps)
-    (λ c. search fence-steps)
+    (λ c. search (needs, list-next))
     (λ c. search fence-steps))
