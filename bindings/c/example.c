@@ -22,9 +22,11 @@ static bool show_answer(const char *service, uint64_t answer) {
     return false;
 }
 
-static void show_path(const uint8_t *path, int length) {
+/* A path and, after a colon, a purpose. */
+static void show_path(const uint8_t *path, int length, int purpose) {
     for (int i = 0; i < length; i++)
         printf("%c%d", i == 0 ? ' ' : '.', path[i]);
+    printf(":%d", purpose);
 }
 
 static void show_disclosure(const velimhaw_disclosure *d) {
@@ -35,8 +37,8 @@ static void show_disclosure(const velimhaw_disclosure *d) {
 }
 
 static void show_entry(const velimhaw_entry *e) {
-    printf("  kind %d, path", e->kind);
-    show_path(e->path, e->path_length);
+    printf("  kind %d, path and purpose", e->kind);
+    show_path(e->path, e->path_length, e->purpose);
     printf("%s%s%s", e->read ? ", read" : "", e->write ? ", write" : "", e->access ? ", access" : "");
     for (int i = 0; i < e->disclose_length; i++)
         show_disclosure(&e->disclose[i]);
@@ -53,7 +55,7 @@ static void show_sum(uint16_t sum) {
 /* An entry of the slack form as the program list prints it. */
 static void show_slack_entry(const velimhaw_slack_entry *e) {
     printf("  %d", e->kind);
-    show_path(e->path, e->path_length);
+    show_path(e->path, e->path_length, e->purpose);
     printf("%s%s%s", e->read ? " r" : "", e->write ? " w" : "", e->access ? " a" : "");
     for (int i = 0; i < e->disclose_length; i++) {
         printf(" d%d:", e->disclose[i].group);

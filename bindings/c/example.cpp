@@ -59,14 +59,15 @@ std::string explain(velimhaw_bytes charter) {
 }
 
 void show(const velimhaw_entry &entry) {
-    std::cout << "  kind " << int(entry.kind) << ", component's group " << int(entry.path[entry.path_length - 1]) << ", discloses into "
-              << int(entry.disclose_length) << " groups\n";
+    std::cout << "  kind " << int(entry.kind) << ", component's group " << int(entry.path[entry.path_length - 1]) << ", purpose "
+              << int(entry.purpose) << ", discloses into " << int(entry.disclose_length) << " groups\n";
 }
 
 std::string sum(std::uint16_t number) { return number == VELIMHAW_UNLIMITED ? "*" : std::to_string(number); }
 
 void show(const velimhaw_slack_entry &entry) {
-    std::cout << "  kind " << int(entry.kind) << ", component's group " << int(entry.path[entry.path_length - 1]);
+    std::cout << "  kind " << int(entry.kind) << ", component's group " << int(entry.path[entry.path_length - 1]) << ", purpose "
+              << int(entry.purpose);
     for (int i = 0; i < entry.disclose_length; i++)
         std::cout << " d" << int(entry.disclose[i].group) << ':' << sum(entry.disclose[i].needed) << '/' << sum(entry.disclose[i].granted);
     std::cout << '\n';

@@ -1,6 +1,6 @@
 /* Tests velimhaw.h: entries of both forms and records taken off whole, truncated and malformed bytes, the lines of the questions, the
- * memory lent to a refused call, a count that components share, what a charter leaves over, and the sentence. All bytes stand right before
- * a page that may not be touched, so a read past their end is a fault. */
+ * memory lent to a refused call, a count that components share, purposes, what a charter leaves over, and the sentence. All bytes stand
+ * right before a page that may not be touched, so a read past their end is a fault. */
 #define _DEFAULT_SOURCE
 #include "velimhaw.h"
 #include "w.h"
@@ -11,8 +11,9 @@
 #include <sys/mman.h>
 #include <unistd.h>
 
-static const uint8_t w_interface[] = {0x00, 0x02, 0x00, 0x01, 0x10, 0x01, 0x00, 0x01, 0x00, 0x00, 0x02, 0x00, 0x02, 0x05};
-static const uint8_t w_slack[] = {0x00, 0x02, 0x00, 0x01, 0x10, 0x01, 0x00, 0x01, 0x00, 0x01, 0x00, 0x00, 0x02, 0x00, 0x02, 0x05};
+static const uint8_t w_interface[] = {0x00, 0x02, 0x00, 0x01, 0x00, 0x10, 0x01, 0x00, 0x01, 0x00, 0x00, 0x02, 0x00, 0x02, 0x00, 0x05};
+static const uint8_t w_slack[] = {0x00, 0x02, 0x00, 0x01, 0x00, 0x10, 0x01, 0x00, 0x01,
+                                  0x00, 0x01, 0x00, 0x00, 0x02, 0x00, 0x02, 0x00, 0x05};
 static const uint8_t w_log[] = {0x00, 0x01, 0x00, 0x00, 0x01, 0x00, 0x00, 0x01, 0x00, 0x05, 0xff, 0xff,
                                 0x02, 0x00, 0xff, 0xff, 0x00, 0x02, 0x01, 0x00, 0x02, 0x00, 0x01, 0xff};
 
@@ -22,9 +23,11 @@ static const velimhaw_bytes strict_charter = {w_strict_charter, sizeof w_strict_
 static const velimhaw_bytes names_of_w = {(const uint8_t *)w_names, W_NAMES_LENGTH};
 static const char sentence_of_w[] = "Society/Indexers may not disclose to Society: Entries";
 
-/* Two components of one path, each of which discloses a link into group 0. */
-static const uint8_t two_of_one_path[] = {2, 2, 0, 0, 0, 1, 0, 0, 2, 0, 1, 4, 1, 6, 0, 1, 0, 4, 1, 6, 0, 1, 0};
+/* Two components of one path, each of which discloses a link into group 0, with one purpose and with two. */
+static const uint8_t two_of_one_path[] = {2, 2, 0, 0, 0, 1, 0, 0, 2, 0, 1, 4, 1, 0, 6, 0, 1, 0, 4, 1, 0, 6, 0, 1, 0};
+static const uint8_t two_purposes[] = {2, 2, 0, 0, 0, 1, 0, 0, 2, 0, 1, 4, 1, 9, 6, 0, 1, 0, 4, 1, 15, 6, 0, 1, 0};
 static const velimhaw_bytes sheet_of_two = {two_of_one_path, sizeof two_of_one_path};
+static const velimhaw_bytes sheet_of_purposes = {two_purposes, sizeof two_purposes};
 
 static uint8_t *page_end;
 
@@ -73,11 +76,12 @@ static void test_entries_of_w(void) {
     velimhaw_bytes rest = at_end(w_interface, sizeof w_interface);
     velimhaw_entry e;
     assert(velimhaw_next_entry(&rest, &e));
-    assert(e.kind == 0 && e.path_length == 2 && e.path[0] == 0 && e.path[1] == 1 && !e.read && !e.write && !e.access);
+    assert(e.kind == 0 && e.path_length == 2 && e.path[0] == 0 && e.path[1] == 1 && e.purpose == 0);
+    assert(!e.read && !e.write && !e.access);
     assert(e.disclose_length == 1 && e.disclose[0].group == 0 && e.disclose[0].count == 1);
     assert(velimhaw_next_entry(&rest, &e));
-    assert(e.kind == 0 && e.path_length == 2 && e.path[0] == 0 && e.path[1] == 2 && e.read && !e.write && e.access);
-    assert(e.disclose_length == 0);
+    assert(e.kind == 0 && e.path_length == 2 && e.path[0] == 0 && e.path[1] == 2 && e.purpose == 0);
+    assert(e.read && !e.write && e.access && e.disclose_length == 0);
     assert(!velimhaw_next_entry(&rest, &e) && rest.length == 0);
 }
 
@@ -85,11 +89,12 @@ static void test_slack_of_w(void) {
     velimhaw_bytes rest = at_end(w_slack, sizeof w_slack);
     velimhaw_slack_entry e;
     assert(velimhaw_next_slack(&rest, &e));
-    assert(e.kind == 0 && e.path_length == 2 && e.path[0] == 0 && e.path[1] == 1 && !e.read && !e.write && !e.access);
+    assert(e.kind == 0 && e.path_length == 2 && e.path[0] == 0 && e.path[1] == 1 && e.purpose == 0);
+    assert(!e.read && !e.write && !e.access);
     assert(e.disclose_length == 1 && e.disclose[0].group == 0 && e.disclose[0].needed == 1 && e.disclose[0].granted == 1);
     assert(velimhaw_next_slack(&rest, &e));
-    assert(e.kind == 0 && e.path_length == 2 && e.path[0] == 0 && e.path[1] == 2 && e.read && !e.write && e.access);
-    assert(e.disclose_length == 0);
+    assert(e.kind == 0 && e.path_length == 2 && e.path[0] == 0 && e.path[1] == 2 && e.purpose == 0);
+    assert(e.read && !e.write && e.access && e.disclose_length == 0);
     assert(!velimhaw_next_slack(&rest, &e) && rest.length == 0);
 }
 
@@ -110,13 +115,13 @@ static void test_records_of_w(void) {
 static void test_truncated(void) {
     for (size_t length = 0; length <= sizeof w_interface; length++) {
         velimhaw_bytes rest = at_end(w_interface, length);
-        int whole = (length >= 9) + (length >= 14);
-        assert(count_entries(&rest) == whole && rest.length == length - (whole == 2 ? 14 : whole == 1 ? 9 : 0));
+        int whole = (length >= 10) + (length >= 16);
+        assert(count_entries(&rest) == whole && rest.length == length - (whole == 2 ? 16 : whole == 1 ? 10 : 0));
     }
     for (size_t length = 0; length <= sizeof w_slack; length++) {
         velimhaw_bytes rest = at_end(w_slack, length);
-        int whole = (length >= 11) + (length >= 16);
-        assert(count_slack(&rest) == whole && rest.length == length - (whole == 2 ? 16 : whole == 1 ? 11 : 0));
+        int whole = (length >= 12) + (length >= 18);
+        assert(count_slack(&rest) == whole && rest.length == length - (whole == 2 ? 18 : whole == 1 ? 12 : 0));
     }
     for (size_t length = 0; length <= sizeof w_log; length++) {
         velimhaw_bytes rest = at_end(w_log, length);
@@ -127,7 +132,8 @@ static void test_truncated(void) {
 /* One byte of W's first entry changed: at its place, to its value, no entry is taken off and nothing is lost. */
 static void test_malformed_entries(void) {
     static const struct { int at; uint8_t value; } changes[] = {
-        {0, 16}, {1, 0}, {1, 9}, {2, 64}, {3, 255}, {4, 0}, {4, 0x08}, {4, 0x18}, {4, 0x20}, {5, 0}, {5, 65}, {6, 64}, {7, 0}, {8, 0x10}};
+        {0, 16}, {1, 0}, {1, 9}, {2, 64}, {3, 255}, {4, 16}, {4, 255}, {5, 0}, {5, 0x08}, {5, 0x18}, {5, 0x20}, {5, 0x30}, {6, 0}, {6, 65},
+        {7, 64}, {8, 0}, {9, 0x10}};
     for (size_t i = 0; i < sizeof changes / sizeof changes[0]; i++) {
         velimhaw_bytes rest = at_end(w_interface, sizeof w_interface);
         page_end[changes[i].at - (int)sizeof w_interface] = changes[i].value;
@@ -138,8 +144,8 @@ static void test_malformed_entries(void) {
 /* The same of W's slack form, whose granted sum may not be below the needed one. */
 static void test_malformed_slack(void) {
     static const struct { int at; uint8_t value; } changes[] = {
-        {0, 16}, {1, 0}, {1, 9}, {2, 64}, {3, 255}, {4, 0}, {4, 0x08}, {4, 0x18}, {4, 0x20}, {5, 0}, {5, 65}, {6, 64}, {7, 0}, {7, 2},
-        {8, 0x10}, {9, 0}, {10, 0x80}};
+        {0, 16}, {1, 0}, {1, 9}, {2, 64}, {3, 255}, {4, 16}, {4, 255}, {5, 0}, {5, 0x08}, {5, 0x18}, {5, 0x20}, {5, 0x30}, {6, 0}, {6, 65},
+        {7, 64}, {8, 0}, {8, 2}, {9, 0x10}, {10, 0}, {11, 0x80}};
     for (size_t i = 0; i < sizeof changes / sizeof changes[0]; i++) {
         velimhaw_bytes rest = at_end(w_slack, sizeof w_slack);
         page_end[changes[i].at - (int)sizeof w_slack] = changes[i].value;
@@ -149,12 +155,12 @@ static void test_malformed_slack(void) {
 
 /* Groups of a list rise strictly, and 65,535 is unlimited. */
 static void test_lists(void) {
-    static const uint8_t rising[] = {0, 1, 0, 0x10, 2, 3, 0xff, 0x0f, 5, 0xff, 0xff};
-    static const uint8_t falling[] = {0, 1, 0, 0x10, 2, 5, 1, 0, 3, 1, 0};
-    static const uint8_t equal[] = {0, 1, 0, 0x10, 2, 5, 1, 0, 5, 1, 0};
+    static const uint8_t rising[] = {0, 1, 0, 15, 0x10, 2, 3, 0xff, 0x0f, 5, 0xff, 0xff};
+    static const uint8_t falling[] = {0, 1, 0, 15, 0x10, 2, 5, 1, 0, 3, 1, 0};
+    static const uint8_t equal[] = {0, 1, 0, 15, 0x10, 2, 5, 1, 0, 5, 1, 0};
     velimhaw_bytes rest = at_end(rising, sizeof rising);
     velimhaw_entry e;
-    assert(velimhaw_next_entry(&rest, &e) && e.disclose_length == 2);
+    assert(velimhaw_next_entry(&rest, &e) && e.purpose == 15 && e.disclose_length == 2);
     assert(e.disclose[0].count == VELIMHAW_COUNT_MAX && e.disclose[1].count == VELIMHAW_UNLIMITED);
     rest = at_end(falling, sizeof falling);
     assert(count_entries(&rest) == 0);
@@ -164,7 +170,7 @@ static void test_lists(void) {
 
 /* The bytes of an entry whose list has one group with these sums. */
 static velimhaw_bytes with_sums(unsigned needed, unsigned granted) {
-    const uint8_t bytes[] = {0, 1, 0, 0x10, 1, 7, (uint8_t)needed, (uint8_t)(needed >> 8), (uint8_t)granted, (uint8_t)(granted >> 8)};
+    const uint8_t bytes[] = {0, 1, 0, 8, 0x10, 1, 7, (uint8_t)needed, (uint8_t)(needed >> 8), (uint8_t)granted, (uint8_t)(granted >> 8)};
     return at_end(bytes, sizeof bytes);
 }
 
@@ -176,13 +182,13 @@ static void test_sums(void) {
     velimhaw_slack_entry e;
     for (size_t i = 0; i < sizeof fine / sizeof fine[0]; i++) {
         velimhaw_bytes rest = with_sums(fine[i].needed, fine[i].granted);
-        assert(velimhaw_next_slack(&rest, &e) && rest.length == 0 && e.disclose_length == 1 && e.disclose[0].group == 7);
+        assert(velimhaw_next_slack(&rest, &e) && rest.length == 0 && e.purpose == 8 && e.disclose_length == 1 && e.disclose[0].group == 7);
         assert(e.disclose[0].needed == fine[i].needed && e.disclose[0].granted == fine[i].granted);
         assert(velimhaw_left_over(&e.disclose[0]) == fine[i].left_over);
     }
     for (size_t i = 0; i < sizeof malformed / sizeof malformed[0]; i++) {
         velimhaw_bytes rest = with_sums(malformed[i][0], malformed[i][1]);
-        assert(!velimhaw_next_slack(&rest, &e) && rest.length == 10);
+        assert(!velimhaw_next_slack(&rest, &e) && rest.length == 11);
     }
 }
 
@@ -228,7 +234,7 @@ static void test_refused_calls(void) {
     uint8_t kept[23], bytes[23];
     memset(kept, 0xaa, sizeof kept);
     memset(bytes, 0xaa, sizeof bytes);
-    velimhaw_lent output = {bytes, 13}, slack = {bytes, 15}, log = {bytes, 23};
+    velimhaw_lent output = {bytes, 15}, slack = {bytes, 17}, log = {bytes, 23};
     for (size_t length = 0; length < sizeof w_sheet; length++) {
         assert(velimhaw_check(at_end(w_sheet, length), charter, output) == 2);
         assert(velimhaw_slack(at_end(w_sheet, length), charter, slack) == 2);
@@ -266,12 +272,28 @@ static void test_accepted_calls(void) {
 static void test_shared_count(void) {
     static const uint8_t both[] = {1, 0, 0, 8, 1, 1, 0x10, 1, 0, 2, 0, 0};
     static const uint8_t one_less[] = {1, 0, 0, 8, 1, 1, 0x10, 1, 0, 1, 0, 0};
-    static const uint8_t entries[] = {0, 2, 0, 1, 0x10, 1, 0, 1, 0, 0, 2, 0, 1, 0x10, 1, 0, 1, 0};
+    static const uint8_t entries[] = {0, 2, 0, 1, 0, 0x10, 1, 0, 1, 0, 0, 2, 0, 1, 0, 0x10, 1, 0, 1, 0};
     velimhaw_bytes covering = {both, sizeof both}, strict = {one_less, sizeof one_less};
     velimhaw_lent output = {page_end - sizeof entries, sizeof entries};
     assert(velimhaw_check(sheet_of_two, strict, output) == 18);
     assert(velimhaw_check(sheet_of_two, covering, output) == VELIMHAW_ACCEPTED + sizeof entries);
     assert(memcmp(output.bytes, entries, sizeof entries) == 0);
+}
+
+/* The same with two purposes: a count each. A charter that grants it for one of them refuses with 18. */
+static void test_purposes(void) {
+    static const uint8_t one[] = {1, 0, 0, 8, 1, 1, 0x10, 1, 0, 1, 0, 0};
+    static const uint8_t for_9_and_15[] = {1, 0, 0, 8, 1, 1, 0x30, 1, 0, 1, 0, 0x00, 0x82, 0};
+    static const uint8_t for_9[] = {1, 0, 0, 8, 1, 1, 0x30, 1, 0, 1, 0, 0x00, 0x02, 0};
+    static const uint8_t entries[] = {0, 2, 0, 1, 9, 0x10, 1, 0, 1, 0, 0, 2, 0, 1, 15, 0x10, 1, 0, 1, 0};
+    velimhaw_bytes covering[] = {{one, sizeof one}, {for_9_and_15, sizeof for_9_and_15}}, strict = {for_9, sizeof for_9};
+    velimhaw_lent output = {page_end - sizeof entries, sizeof entries};
+    assert(velimhaw_check(sheet_of_purposes, strict, output) == 18);
+    for (int i = 0; i < 2; i++) {
+        memset(output.bytes, 0xaa, output.length);
+        assert(velimhaw_check(sheet_of_purposes, covering[i], output) == VELIMHAW_ACCEPTED + sizeof entries);
+        assert(memcmp(output.bytes, entries, sizeof entries) == 0);
+    }
 }
 
 /* The slack form of W: in an output of its length right before the page that may not be touched, and in a longer output, which keeps the
@@ -293,7 +315,7 @@ static void test_accepted_slack(void) {
 static void test_slack_of_a_class(void) {
     static const uint8_t most[] = {1, 0, 0, 0x10, 1, 0, 0xff, 0x0f, 1, 1, 0x10, 1, 0, 0xff, 0x0f, 0};
     static const uint8_t unlimited[] = {1, 0, 0, 0x10, 1, 0, 0xff, 0xff, 1, 1, 0x10, 1, 0, 0xff, 0x0f, 0};
-    static const uint8_t of_most[] = {0, 2, 0, 1, 0x10, 1, 0, 2, 0, 0xfe, 0x1f, 0, 2, 0, 1, 0x10, 1, 0, 2, 0, 0xfe, 0x1f};
+    static const uint8_t of_most[] = {0, 2, 0, 1, 0, 0x10, 1, 0, 2, 0, 0xfe, 0x1f, 0, 2, 0, 1, 0, 0x10, 1, 0, 2, 0, 0xfe, 0x1f};
     velimhaw_bytes finite = {most, sizeof most}, infinite = {unlimited, sizeof unlimited};
     velimhaw_lent output = {page_end - sizeof of_most, sizeof of_most};
     assert(velimhaw_slack(sheet_of_two, finite, output) == VELIMHAW_ACCEPTED + sizeof of_most);
@@ -366,7 +388,7 @@ static void write_longest_names(uint8_t *names) {
 
 /* A component whose path has eight groups discloses a link, and a charter that gives those groups nothing. */
 static void test_longest_sentence(void) {
-    static const uint8_t deep_sheet[] = {2, 2, 0, 0, 0, 1, 0, 0, 2, 0, 2, 1, 2, 2, 2, 3, 2, 4, 2, 5, 2, 6, 4, 7, 6, 0, 1, 0};
+    static const uint8_t deep_sheet[] = {2, 2, 0, 0, 0, 1, 0, 0, 2, 0, 2, 1, 2, 2, 2, 3, 2, 4, 2, 5, 2, 6, 4, 7, 0, 6, 0, 1, 0};
     static const uint8_t deep_charter[] = {1, 0, 0, 0, 1, 1, 0, 1, 2, 0, 1, 3, 0, 1, 4, 0, 1, 5, 0, 1, 6, 0, 1, 7, 0, 0};
     static uint8_t longest[VELIMHAW_NAMES_FILE_MAX];
     write_longest_names(longest);
@@ -396,6 +418,7 @@ int main(void) {
     test_shared_inputs();
     test_accepted_calls();
     test_shared_count();
+    test_purposes();
     test_accepted_slack();
     test_slack_of_a_class();
     test_sentence_of_w();

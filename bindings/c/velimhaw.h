@@ -30,16 +30,17 @@ extern "C" {
 #define VELIMHAW_CHARTER_MAX 4096u
 #define VELIMHAW_SCRIPT_MAX 7168u     /* 1,024 moves of seven bytes, the longest */
 #define VELIMHAW_NAMES_FILE_MAX 1680u /* 80 names of 20 letters, each with the byte that ends it */
-#define VELIMHAW_INTERFACE_MAX 18432u /* with so much output check never refuses with 19 */
-#define VELIMHAW_SLACK_MAX 26624u     /* with so much output slack never refuses with 19 */
+#define VELIMHAW_INTERFACE_MAX 18944u /* with so much output check never refuses with 19 */
+#define VELIMHAW_SLACK_MAX 27136u     /* with so much output slack never refuses with 19 */
 #define VELIMHAW_SENTENCE_MAX 230u    /* with so long a line explain never refuses with 19 */
 #define VELIMHAW_RECORD_LENGTH 8u
 #define VELIMHAW_LOG_MAX 8192u        /* with so much log play never refuses with 22 */
 
-/* Limits of the formats. Kinds, groups, components and names are numbered from 0. */
+/* Limits of the formats. Kinds, groups, purposes, components and names are numbered from 0. */
 #define VELIMHAW_MOVES_MAX 1024u
 #define VELIMHAW_KINDS 16u
 #define VELIMHAW_GROUPS 64u
+#define VELIMHAW_PURPOSES 16u
 #define VELIMHAW_PATH_MAX 8u
 #define VELIMHAW_COMPONENTS_MAX 32u
 #define VELIMHAW_NAMES_MAX 1024u
@@ -94,8 +95,8 @@ uint64_t velimhaw_play(velimhaw_bytes sheet, velimhaw_bytes charter, velimhaw_by
 
 /* ---- The interface: an entry for each component and kind with a permission, by component, then rising kind. ----
  *
- * Bytes of an entry: kind; length of the path; path; permission map (bit 0 read, 1 write, 2 access, 4 disclose); and only if bit 4
- * stands, how many groups, then for each a group and a count of two bytes, low byte first, groups strictly rising. */
+ * Bytes of an entry: kind; length of the path; path; purpose; permission map (bit 0 read, 1 write, 2 access, 4 disclose); and only if
+ * bit 4 stands, how many groups, then for each a group and a count of two bytes, low byte first, groups strictly rising. */
 
 /* Links that are disclosed into a group: 1 to VELIMHAW_COUNT_MAX of them, or VELIMHAW_UNLIMITED. */
 typedef struct {
@@ -107,6 +108,7 @@ typedef struct {
     uint8_t kind;
     uint8_t path_length; /* 1 to VELIMHAW_PATH_MAX */
     uint8_t path[VELIMHAW_PATH_MAX];
+    uint8_t purpose; /* below VELIMHAW_PURPOSES; 0 is ordinary work */
     bool read;
     bool write;
     bool access;
@@ -174,7 +176,9 @@ static inline bool velimhaw_next_entry(velimhaw_bytes *interface_bytes, velimhaw
     velimhaw_bytes rest = *interface_bytes;
     uint8_t map;
     if (!velimhaw_take_byte(&rest, 0, VELIMHAW_KINDS - 1, &entry->kind) ||
-        !velimhaw_take_path(&rest, entry->path, &entry->path_length) || !velimhaw_take_map(&rest, &map, &entry->disclose_length) ||
+        !velimhaw_take_path(&rest, entry->path, &entry->path_length) ||
+        !velimhaw_take_byte(&rest, 0, VELIMHAW_PURPOSES - 1, &entry->purpose) ||
+        !velimhaw_take_map(&rest, &map, &entry->disclose_length) ||
         !velimhaw_take_disclosures(&rest, entry->disclose, entry->disclose_length))
         return false;
     entry->read = (map & 0x01) != 0;
@@ -192,14 +196,15 @@ static inline bool velimhaw_next_entry(velimhaw_bytes *interface_bytes, velimhaw
 /* Links that are disclosed into a group, and those that may be. VELIMHAW_UNLIMITED may stand for either; granted is at least needed. */
 typedef struct {
     uint8_t group;
-    uint16_t needed;  /* by all components whose paths have the same groups: 1 to VELIMHAW_NEEDED_MAX */
-    uint16_t granted; /* to the groups of that path together: 1 to VELIMHAW_GRANTED_MAX */
+    uint16_t needed;  /* by all components with the same groups and purpose: 1 to VELIMHAW_NEEDED_MAX */
+    uint16_t granted; /* to the groups of that path together for that purpose: 1 to VELIMHAW_GRANTED_MAX */
 } velimhaw_sums;
 
 typedef struct {
     uint8_t kind;
     uint8_t path_length; /* 1 to VELIMHAW_PATH_MAX */
     uint8_t path[VELIMHAW_PATH_MAX];
+    uint8_t purpose; /* below VELIMHAW_PURPOSES; 0 is ordinary work */
     bool read;
     bool write;
     bool access;
@@ -230,7 +235,9 @@ static inline bool velimhaw_next_slack(velimhaw_bytes *slack_bytes, velimhaw_sla
     velimhaw_bytes rest = *slack_bytes;
     uint8_t map;
     if (!velimhaw_take_byte(&rest, 0, VELIMHAW_KINDS - 1, &entry->kind) ||
-        !velimhaw_take_path(&rest, entry->path, &entry->path_length) || !velimhaw_take_map(&rest, &map, &entry->disclose_length) ||
+        !velimhaw_take_path(&rest, entry->path, &entry->path_length) ||
+        !velimhaw_take_byte(&rest, 0, VELIMHAW_PURPOSES - 1, &entry->purpose) ||
+        !velimhaw_take_map(&rest, &map, &entry->disclose_length) ||
         !velimhaw_take_sums(&rest, entry->disclose, entry->disclose_length))
         return false;
     entry->read = (map & 0x01) != 0;
@@ -312,7 +319,7 @@ static inline const char *velimhaw_question(uint64_t number) {
     case 1: return "sheet and charter of at most 4,096 bytes each";
     case 2: return "a byte wherever the sheet needs one";
     case 3: return "no byte left over after the sheet";
-    case 4: return "each code, group, kind and count of the sheet in its range";
+    case 4: return "each code, group, purpose, kind and count of the sheet in its range";
     case 5: return "at most 64 nested forms, 64 names in scope, 8 groups in a path and 32 components";
     case 6: return "each group new to its path";
     case 7: return "each used name in scope";
@@ -322,11 +329,11 @@ static inline const char *velimhaw_question(uint64_t number) {
     case 11: return "a charter that reads, in its ranges, to its end";
     case 12: return "no two trees of the charter for one kind";
     case 13: return "no node of the charter below a node of its group";
-    case 14: return "the same permissions at all nodes of one group in a tree of the charter";
+    case 14: return "the same permissions and purposes at all nodes of one group in a tree of the charter";
     case 15: return "below a node with nondisclose, disclosure only to groups of that node or of nodes below it";
     case 16: return "a tree of the charter for each entry's kind";
     case 17: return "each group of each entry's path at a node that the path reaches";
-    case 18: return "each entry covered by what the charter grants its path, counts added over the components with the same groups";
+    case 18: return "each entry covered by its path's grant for its purpose, counts added over components with the same groups and purpose";
     case 19: return "an output long enough for the interface or the slack, or a line for the sentence";
     case 20: return "a start of at most 64 threads and 1,024 names";
     case 21: return "a script of at most 1,024 whole moves, each field in its range";

@@ -1,8 +1,8 @@
-//! The inputs of the benchmark: sheets of a wanted size, their charters, and scripts.
+//! The inputs of the benchmark: sheets of a wanted size, their charters, and scripts. All components have purpose 0.
 
-/// Document 01's example W.
-pub const W_SHEET: [u8; 29] = [
-    2, 2, 0, 0, 0, 1, 0, 0, 2, 0, 1, 4, 1, 6, 0, 1, 0, 4, 2, 5, 0, 1, 0, 0, 5, 2, 0, 0, 0,
+/// Example W.
+pub const W_SHEET: [u8; 31] = [
+    2, 2, 0, 0, 0, 1, 0, 0, 2, 0, 1, 4, 1, 0, 6, 0, 1, 0, 4, 2, 0, 5, 0, 1, 0, 0, 5, 2, 0, 0, 0,
 ];
 pub const W_CHARTER: [u8; 15] = [1, 0, 0, 8, 2, 1, 0x10, 1, 0, 1, 0, 0, 2, 5, 0];
 
@@ -13,7 +13,7 @@ pub fn sheet(size: usize, components: usize, kinds: usize) -> Vec<u8> {
         out.extend_from_slice(&[2, 0, 0, kind, 1, 0, kind]);
     }
     out.extend_from_slice(&[2, 0]);
-    let frames = (components - 1) + 3 * components;
+    let frames = (components - 1) + 4 * components;
     let bodies = size - out.len() - frames;
     let mut number = 0;
     parallel(&mut out, components, &mut |out| {
@@ -37,7 +37,7 @@ pub fn parallel(out: &mut Vec<u8>, count: usize, part: &mut dyn FnMut(&mut Vec<u
 
 /// A component whose acts take exactly `left` bytes.
 fn component(out: &mut Vec<u8>, number: usize, mut left: usize, kinds: usize) {
-    out.extend_from_slice(&[4, 1 + (number % 3) as u8]);
+    out.extend_from_slice(&[4, 1 + (number % 3) as u8, 0]);
     let mut bound = 2 * kinds as u8;
     let mut kind = number % kinds;
     while left > 0 {
@@ -72,7 +72,7 @@ pub fn charter(kinds: usize) -> Vec<u8> {
 
 /// A sheet with so many idle repeats before a repeated send and a repeated receive.
 pub fn running_sheet(idle: usize) -> Vec<u8> {
-    let mut out = vec![2, 1, 0, 0, 0, 0, 4, 0];
+    let mut out = vec![2, 1, 0, 0, 0, 0, 4, 0, 0];
     if idle > 0 {
         out.push(1);
         parallel(&mut out, idle, &mut |out| out.extend_from_slice(&[7, 0]));
@@ -93,7 +93,7 @@ pub fn running_script(moves: usize, idle: usize) -> Vec<u8> {
 
 /// A sheet of `size` bytes with one repeat: two sends, and after them a text of sends side by side that is never reached.
 pub fn text_sheet(size: usize) -> Vec<u8> {
-    let mut out = vec![2, 1, 0, 0, 0, 0, 4, 0, 7, 6, 0, 1, 6, 0, 1];
+    let mut out = vec![2, 1, 0, 0, 0, 0, 4, 0, 0, 7, 6, 0, 1, 6, 0, 1];
     let sends = (size - out.len() + 1) / 5;
     parallel(&mut out, sends, &mut |out| out.extend_from_slice(&[6, 0, 1, 0]));
     out
@@ -112,7 +112,7 @@ pub fn deep_sheet(components: usize) -> Vec<u8> {
         out.extend_from_slice(&[2, group]);
     }
     parallel(&mut out, components, &mut |out| {
-        out.extend_from_slice(&[4, 7, 5, 0, 1, 0, 0, 6, 0, 2, 5, 2, 0, 0, 6, 2, 3, 0]);
+        out.extend_from_slice(&[4, 7, 0, 5, 0, 1, 0, 0, 6, 0, 2, 5, 2, 0, 0, 6, 2, 3, 0]);
     });
     out
 }

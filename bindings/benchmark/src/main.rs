@@ -54,7 +54,7 @@ fn table() {
     }
 }
 
-/// The shortest times per call of both sides, in microseconds. The sides take turns, so that what else the machine does communicates both.
+/// The shortest times per call of both sides, in microseconds. The sides take turns, so that what else the machine does meets both.
 fn best(workload: &Workload) -> [f64; 2] {
     let mut lent = workloads::lent();
     let calls = [0, 1].map(|side| enough(workload, side, &mut lent));

@@ -71,7 +71,7 @@ impl Plan {
         let has_path = |kind: usize| path.iter().all(|group| self.trees[kind].contains(group));
         let fits = |channel: &&Channel| path.contains(&channel.group) && has_path(channel.kind);
         let usable: Vec<Channel> = channels.iter().filter(fits).copied().collect();
-        let count = (bytes - 2 * path.len() - 3) / 3;
+        let count = (bytes - 2 * path.len() - 4) / 3;
         (0..count).map(|turn| usable[(number * count + turn) % usable.len()]).collect()
     }
 
@@ -123,12 +123,12 @@ impl Plan {
     }
 }
 
-/// A component in its groups, with two chains of sends side by side.
+/// A component in its groups, of purpose 0, with two chains of sends side by side.
 fn component(out: &mut Vec<u8>, path: &[u8], sends: &[Channel]) {
     for (place, group) in path.iter().enumerate() {
         out.extend([if place + 1 < path.len() { 2 } else { 4 }, *group]);
     }
-    out.push(1);
+    out.extend([0, 1]);
     for chain in sends.chunks(sends.len().div_ceil(2)) {
         chain.iter().for_each(|channel| out.extend([6, channel.number, channel.link]));
         out.push(0);

@@ -1,13 +1,22 @@
-//! Generates charters: one that just covers an interface, and perturbations of it that may just fail.
+//! Generates charters: one that just covers an interface, with maps of purposes or without, and perturbations of it that may just fail.
 
 use crate::classes::Class;
+use crate::purposes;
 use crate::random::Random;
 use independent::charter::{Charter, Node, Tree};
 use independent::permissions::{Count, Entry, Need, Permissions};
+use independent::sheet::Sheet;
 use std::collections::{BTreeMap, BTreeSet};
 
-/// The permissions that each group of a tree grants.
-type Grants = BTreeMap<u8, Permissions>;
+/// What a group of a tree grants, and the map of the purposes for which it does.
+#[derive(Clone, Default)]
+struct Given {
+    permissions: Permissions,
+    purposes: Option<u16>,
+}
+
+/// What each group of a tree grants.
+type Grants = BTreeMap<u8, Given>;
 
 /// A charter that covers an interface, given by its classes, wherever those of a kind have a group in common.
 pub fn covering(random: &mut Random, classes: &[Class]) -> Charter {
@@ -22,11 +31,12 @@ pub fn covering(random: &mut Random, classes: &[Class]) -> Charter {
 }
 
 fn covering_tree(random: &mut Random, classes: &[&Class]) -> Node {
-    let paths: Vec<&[u8]> = classes.iter().flat_map(|class| class.paths.iter().copied()).collect();
+    let paths: Vec<&[u8]> = classes.iter().flat_map(|class| class.components.iter().map(|component| &component.path[..])).collect();
     let common: Vec<u8> = paths[0].iter().copied().filter(|g| paths.iter().all(|path| path.contains(g))).collect();
-    let mut grants = Grants::new();
+    let mut grants = if random.chance(50) { Grants::new() } else { with_maps(random, classes) };
     for class in classes {
-        spread(random, &class.needs, class.paths[0], &mut grants);
+        let groups = serving(random, class, &mut grants);
+        spread(random, &class.needs, &groups, &mut grants);
     }
     let root = if common.is_empty() { paths[0][0] } else { random.pick(&common) };
     let mut tree = node(root, &grants);
@@ -41,9 +51,31 @@ fn covering_tree(random: &mut Random, classes: &[&Class]) -> Node {
     tree
 }
 
+/// A map of purposes for each group of the classes' paths, and no permissions yet.
+fn with_maps(random: &mut Random, classes: &[&Class]) -> Grants {
+    let purposes: Vec<u8> = classes.iter().map(|class| class.purpose()).collect();
+    let groups: BTreeSet<u8> = classes.iter().flat_map(|class| class.groups()).collect();
+    let given = |random: &mut Random| Given { permissions: Permissions::default(), purposes: purposes::map(random, &purposes) };
+    groups.into_iter().map(|group| (group, given(random))).collect()
+}
+
+/// The groups of a class's path that grant for its purpose; where none does, one of them is made to.
+fn serving(random: &mut Random, class: &Class, grants: &mut Grants) -> Vec<u8> {
+    let bit = purposes::bit(class.purpose());
+    let serves = |group: &u8| grants.get(group).and_then(|given| given.purposes).is_none_or(|map| map & bit != 0);
+    let groups: Vec<u8> = class.path().iter().copied().filter(serves).collect();
+    if !groups.is_empty() {
+        return groups;
+    }
+    let group = random.pick(class.path());
+    let purposes = &mut grants.entry(group).or_default().purposes;
+    *purposes = purposes.map(|map| map | bit);
+    vec![group]
+}
+
 fn node(group: u8, grants: &Grants) -> Node {
-    let grant = grants.get(&group).cloned().unwrap_or_default();
-    Node { group, grant, nondisclose: false, children: Vec::new() }
+    let Given { permissions, purposes } = grants.get(&group).cloned().unwrap_or_default();
+    Node { group, grant: permissions, nondisclose: false, purposes, children: Vec::new() }
 }
 
 /// A node of any group, without permissions.
@@ -61,11 +93,11 @@ fn insert(below: &mut Node, chain: &[u8], grants: &Grants) {
     insert(&mut below.children[at], rest, grants);
 }
 
-/// Spreads what a class needs over the groups of its path.
+/// Spreads what a class needs over groups of its path.
 fn spread(random: &mut Random, needs: &Permissions, path: &[u8], grants: &mut Grants) {
-    grants.entry(random.pick(path)).or_default().read |= needs.read;
-    grants.entry(random.pick(path)).or_default().write |= needs.write;
-    grants.entry(random.pick(path)).or_default().access |= needs.access;
+    grants.entry(random.pick(path)).or_default().permissions.read |= needs.read;
+    grants.entry(random.pick(path)).or_default().permissions.write |= needs.write;
+    grants.entry(random.pick(path)).or_default().permissions.access |= needs.access;
     for (&group, &count) in &needs.disclose {
         let (first, second) = (random.pick(path), random.pick(path));
         match count {
@@ -81,7 +113,7 @@ fn spread(random: &mut Random, needs: &Permissions, path: &[u8], grants: &mut Gr
 
 fn raise(grants: &mut Grants, at: u8, group: u8, count: Count) {
     if count > Count::Finite(0) {
-        let slot = grants.entry(at).or_default().disclose.entry(group).or_insert(count);
+        let slot = grants.entry(at).or_default().permissions.disclose.entry(group).or_insert(count);
         *slot = count.max(*slot);
     }
 }
@@ -100,19 +132,20 @@ fn groups_of(root: &Node) -> Vec<u8> {
     groups
 }
 
-/// Changes one thing: a flag, a count by one, a node, nondisclose, or a tree.
+/// Changes one thing: a flag, a count by one, a node, nondisclose, a map of purposes, or a tree.
 pub fn perturb(random: &mut Random, charter: &mut Charter) {
     if charter.trees.is_empty() || random.chance(5) {
         return perturb_trees(random, charter);
     }
     let at = random.below(charter.trees.len());
     let root = &mut charter.trees[at].root;
-    match random.below(10) {
+    match random.below(12) {
         0..=3 => change_grant(random, root, change_count),
         4..=5 => change_grant(random, root, change_flag),
         6 => change_grant(random, root, |_, node| node.nondisclose = !node.nondisclose),
         7 => change_grant(random, root, |random, node| node.group = random.below(64) as u8),
         8 => change_grant(random, root, drop_child),
+        9..=10 => change_grant(random, root, purposes::change),
         _ => change_grant(random, root, add_child),
     }
 }
@@ -143,16 +176,20 @@ pub fn loosen(random: &mut Random, charter: &mut Charter) {
     }
 }
 
-/// Takes a permission that some entry needs away from all nodes of its kind's trees.
-pub fn withhold(random: &mut Random, charter: &mut Charter, interface: &[Entry]) {
+/// Takes a permission that some entry needs, or its purpose, away from all nodes of its kind's trees.
+pub fn withhold(random: &mut Random, charter: &mut Charter, sheet: &Sheet, interface: &[Entry]) {
     if interface.is_empty() {
         return;
     }
     let entry = &interface[random.below(interface.len())];
     let needs: Vec<Need> = entry.permissions.each().map(|(need, _)| need).collect();
-    let need = random.pick(&needs);
-    let trees = charter.trees.iter_mut().filter(|tree| tree.kind == entry.kind);
-    trees.for_each(|tree| each_node(&mut tree.root, &mut |node| remove(&mut node.grant, need)));
+    let (need, by_purpose) = (random.pick(&needs), random.chance(25));
+    for tree in charter.trees.iter_mut().filter(|tree| tree.kind == entry.kind) {
+        match by_purpose {
+            true => purposes::withhold(&mut tree.root, sheet.components[entry.component].purpose),
+            false => each_node(&mut tree.root, &mut |node| remove(&mut node.grant, need)),
+        }
+    }
 }
 
 fn remove(grant: &mut Permissions, need: Need) {
@@ -216,5 +253,8 @@ fn add_child(random: &mut Random, parent: &mut Node) {
     let mut child = new_node(random);
     child.nondisclose = random.chance(30);
     change_count(random, &mut child);
+    if random.chance(30) {
+        purposes::change(random, &mut child);
+    }
     parent.children.push(child);
 }

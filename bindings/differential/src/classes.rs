@@ -1,17 +1,18 @@
-//! Components that share a count, found by sorting their paths: what they need together, and charters whose counts lie around that.
+//! Components that share a count, found by their purposes and sorted paths: what they need together, and charters whose counts lie around
+//! that.
 
 use crate::charters::each_node;
 use crate::random::Random;
 use independent::charter::{Charter, Node};
 use independent::permissions::{Count, Entry, Permissions};
-use independent::sheet::Sheet;
+use independent::sheet::{Component, Sheet};
 use std::collections::BTreeMap;
 
-/// The entries of one kind whose paths have the same groups, in any order.
+/// The entries of one kind whose components have one purpose and paths of the same groups, in any order.
 pub struct Class<'a> {
     pub kind: u8,
-    /// The path of each entry.
-    pub paths: Vec<&'a [u8]>,
+    /// The component of each entry.
+    pub components: Vec<&'a Component>,
     pub entries: Vec<&'a Entry>,
     /// What the entries need, joined.
     pub needs: Permissions,
@@ -19,25 +20,39 @@ pub struct Class<'a> {
 
 /// The classes of an interface, by rising kind.
 pub fn classes<'a>(sheet: &'a Sheet, interface: &'a [Entry]) -> Vec<Class<'a>> {
-    let mut classes: BTreeMap<(u8, Vec<u8>), Class> = BTreeMap::new();
+    let mut classes: BTreeMap<(u8, Vec<u8>, u8), Class> = BTreeMap::new();
     for entry in interface {
-        let path = &sheet.paths[entry.component];
-        let new = || Class { kind: entry.kind, paths: Vec::new(), entries: Vec::new(), needs: Permissions::default() };
-        let class = classes.entry((entry.kind, sorted(path))).or_insert_with(new);
-        class.paths.push(path);
+        let component = &sheet.components[entry.component];
+        let new = || Class { kind: entry.kind, components: Vec::new(), entries: Vec::new(), needs: Permissions::default() };
+        let class = classes.entry((entry.kind, sorted(&component.path), component.purpose)).or_insert_with(new);
+        class.components.push(component);
         class.entries.push(entry);
         class.needs.join(&entry.permissions);
     }
     classes.into_values().collect()
 }
 
-pub fn sorted(path: &[u8]) -> Vec<u8> {
+fn sorted(path: &[u8]) -> Vec<u8> {
     let mut groups = path.to_vec();
     groups.sort();
     groups
 }
 
-impl Class<'_> {
+impl<'a> Class<'a> {
+    /// The path of its first entry.
+    pub fn path(&self) -> &'a [u8] {
+        &self.components[0].path
+    }
+
+    /// The groups of its paths, rising.
+    pub fn groups(&self) -> Vec<u8> {
+        sorted(self.path())
+    }
+
+    pub fn purpose(&self) -> u8 {
+        self.components[0].purpose
+    }
+
     /// The groups that several of its entries disclose into.
     pub fn shared(&self) -> Vec<u8> {
         let disclosing = |group: u8| self.entries.iter().filter(|entry| entry.permissions.disclose.contains_key(&group)).count();
@@ -64,11 +79,22 @@ pub fn tip(random: &mut Random, charter: &mut Charter, classes: &[Class]) -> boo
     };
     let count = if random.chance(15) { class.largest(group) } else { count };
     let trees = charter.trees.iter_mut().filter(|tree| tree.kind == class.kind);
-    trees.for_each(|tree| set(random, &mut tree.root, class.paths[0], group, count));
+    for tree in trees {
+        let groups = serving(class, &tree.root);
+        set(random, &mut tree.root, &groups, group, count);
+    }
     true
 }
 
-/// Makes the counts of a path's groups for one group add up to `count`, at one of them or at two.
+/// The groups of a class's path that grant for its purpose; all of them where none does.
+fn serving(class: &Class, root: &Node) -> Vec<u8> {
+    let mut refusing = Vec::new();
+    root.visit(&mut |node| refusing.extend((!node.serves(class.purpose())).then_some(node.group)));
+    let serving: Vec<u8> = class.path().iter().copied().filter(|group| !refusing.contains(group)).collect();
+    if serving.is_empty() { class.path().to_vec() } else { serving }
+}
+
+/// Makes the counts of some groups of a path for one group add up to `count`, at one of them or at two.
 fn set(random: &mut Random, root: &mut Node, path: &[u8], group: u8, count: Count) {
     let (first, second) = (random.pick(path), random.pick(path));
     let (at_first, at_second) = match count {

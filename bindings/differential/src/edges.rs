@@ -1,25 +1,26 @@
-//! Sheets and charters around the limits of document 01: lengths, nesting, names, components, threads, nodes; large shared counts and
-//! large grants.
+//! Sheets and charters around the limits of documents 01 and 02: lengths, nesting, names, components, purposes, threads, nodes; large
+//! shared counts and large grants.
 
 use crate::random::Random;
 
 /// A sheet and a charter near one limit.
 pub fn edge(random: &mut Random) -> (Vec<u8>, Vec<u8>) {
     let step = random.below(4);
-    match random.below(14) {
+    match random.below(15) {
         0 => (nested(&[3, 0, 0], 62 + step), vec![0]),
         1 => (nested(&[1], 62 + step).into_iter().chain(vec![0; 62 + step]).collect(), vec![0]),
-        2 => (components(31 + step, &[4, 0, 0]), vec![0]),
+        2 => (components(31 + step, &[4, 0, last_purposes(random), 0]), vec![0]),
         3 => (threads(62 + step), vec![0]),
         4 => (new_names(random.between(1022, 1025)), vec![0]),
         5 => (groups(6 + step), vec![0]),
-        6 => (vec![0, 0], with_last_node(random, wide_charter(62 + step))),
+        6 => (vec![0, 0], wide_charter(random, 62 + step)),
         7 => (vec![0, 0], with_last_node(random, deep_charter(6 + step))),
         8 => (padded(4094 + step), vec![0]),
         9 => (vec![0, 0], padded(4094 + step)),
         10 => long_path(random, 6 + step),
         11 => shared_count(random),
         12 => large_grants(random),
+        13 => purposes_and_maps(random),
         _ => (bound_names(61 + step), vec![1, 0, 0, 0x17, 1, 0, 255, 255, 0]),
     }
 }
@@ -49,9 +50,14 @@ pub fn parallel(out: &mut Vec<u8>, count: usize, text: &[u8]) {
     parallel(out, count - count / 2, text);
 }
 
+/// The last purposes, and now and then a byte just above them.
+fn last_purposes(random: &mut Random) -> u8 {
+    if random.chance(80) { random.pick(&[0, 14, 15]) } else { 16 }
+}
+
 /// One component with so many repeats.
 fn threads(count: usize) -> Vec<u8> {
-    let mut out = vec![0, 4, 0];
+    let mut out = vec![0, 4, 0, 0];
     parallel(&mut out, count, &[7, 0]);
     out
 }
@@ -89,23 +95,46 @@ fn long_path(random: &mut Random, groups: usize) -> (Vec<u8>, Vec<u8>) {
         charter.extend_from_slice(&[group as u8, 0, !last as u8]);
     }
     let acts: [&[u8]; 4] = [&[5, 1, 0, 15, 0], &[6, 1, 2, 0], &[5, 0, 1, 1, 15, 0], &[6, 0, 1, 0]];
+    sheet.push(random.below(16) as u8);
     sheet.extend_from_slice(random.pick(&acts));
     (sheet, charter)
 }
 
-/// Many components of one path, or of its two orders, that disclose equally often, and a charter whose count is about their sum.
+/// Many components of one path, or of its two orders, that disclose equally often for a few purposes in turn, and a charter whose count is
+/// about the sum of those of one purpose.
 fn shared_count(random: &mut Random) -> (Vec<u8>, Vec<u8>) {
-    let (components, times) = (random.between(2, 32), random.between(1, 38));
+    let (components, times, purposes) = (random.between(2, 32), random.between(1, 38), random.pick(&[1, 1, 2, 3, 16]));
     let paths: [[u8; 4]; 2] = [[2, 0, 4, 1], random.pick(&[[2, 0, 4, 1], [2, 1, 4, 0]])];
     let mut sheet = vec![2, 2, 0, 0, 0, 1, 0, 0];
     for number in 0..components {
         sheet.extend_from_slice(if number + 1 < components { &[1] } else { &[] });
         sheet.extend_from_slice(&paths[number % 2]);
+        sheet.push((number % purposes) as u8);
         (0..times).for_each(|_| sheet.extend_from_slice(&[6, 0, 1]));
         sheet.push(0);
     }
-    let [low, high] = ((components * times + random.below(3)) as u16 - 1).to_le_bytes();
+    let [low, high] = ((components.div_ceil(purposes) * times + random.below(3)) as u16 - 1).to_le_bytes();
     (sheet, vec![1, 0, 0, 0, 1, 1, 0x10, 1, 0, low, high, 0])
+}
+
+/// A component with any purpose and one act, and a charter whose two nodes grant it for all purposes, none, that one or others. Now and
+/// then the component's group is not new, or a map has a bit that none may have.
+fn purposes_and_maps(random: &mut Random) -> (Vec<u8>, Vec<u8>) {
+    let purpose = random.pick(&[0, 1, 7, 8, 9, 14, 15, 15, 16]);
+    let mut sheet = vec![3, 2, 0, 0, 0, 1, 0, 0, 0, 0, 2, 0, 4, random.chance(85) as u8, purpose];
+    let acts: [(u8, &[u8]); 4] = [(1, &[5, 1, 0, 0, 0]), (2, &[6, 1, 2, 0]), (4, &[5, 0, 1, 0, 0, 0]), (16, &[6, 0, 1, 0])];
+    let (flag, act) = random.pick(&acts);
+    sheet.extend_from_slice(act);
+    let mut charter = vec![1, 0];
+    for group in 0..2 {
+        let own = 1u16.checked_shl(purpose.into()).unwrap_or(0);
+        let map = random.pick(&[None, Some(0xffff), Some(0), Some(own), Some(!own), Some(own.rotate_left(1)), Some(own.swap_bytes())]);
+        let list: &[u8] = if flag == 16 { &[1, 0, 1, 0] } else { &[] };
+        let stored = map.map_or(Vec::new(), |map: u16| map.to_le_bytes().to_vec());
+        let beyond = if random.chance(5) { random.pick(&[0x40, 0x80]) } else { 0 };
+        charter.extend([&[group, flag | (map.is_some() as u8) << 5 | beyond], list, &stored, &[1 - group]].concat());
+    }
+    (sheet, charter)
 }
 
 /// A component that discloses once or without limit, and a charter that gives each group of its path a large count, or now and then none.
@@ -119,6 +148,7 @@ fn large_grants(random: &mut Random) -> (Vec<u8>, Vec<u8>) {
         charter.extend([&[group], list, &[!last as u8]].concat());
     }
     let acts: [&[u8]; 3] = [&[6, 0, 1, 0], &[6, 0, 1, 0], &[7, 6, 0, 1, 0]];
+    sheet.push(random.below(16) as u8);
     sheet.extend_from_slice(random.pick(&acts));
     (sheet, charter)
 }
@@ -127,16 +157,20 @@ fn large_grants(random: &mut Random) -> (Vec<u8>, Vec<u8>) {
 fn bound_names(count: usize) -> Vec<u8> {
     let mut out = vec![32, 1, 0, 0];
     out.extend_from_slice(&[0; 62]);
-    out.extend_from_slice(&[4, 0]);
+    out.extend_from_slice(&[4, 0, 0]);
     (32..count).for_each(|_| out.extend_from_slice(&[5, 0, 0, 0]));
     out.push(0);
     out
 }
 
-/// A root and children, so many nodes in all.
-fn wide_charter(nodes: usize) -> Vec<u8> {
+/// A root and children, so many nodes in all, with a map of purposes at each child or at none, and the last more often than not another.
+fn wide_charter(random: &mut Random, nodes: usize) -> Vec<u8> {
+    let maps: [&[u8]; 5] = [&[0], &[0x20, 0xff, 0xff], &[0x20, 1, 0], &[0x20, 1, 0x80], &[0x20, 0, 0x80]];
+    let map = random.pick(&maps);
     let mut out = vec![1, 0, 0, 0, nodes as u8 - 1];
-    (1..nodes).for_each(|_| out.extend_from_slice(&[1, 0, 0]));
+    (2..nodes).for_each(|_| out.extend([&[1], map, &[0]].concat()));
+    let (group, last) = if random.chance(60) { (random.below(2) as u8, random.pick(&maps)) } else { (1, map) };
+    out.extend([&[group], last, &[0]].concat());
     out
 }
 

@@ -1,7 +1,7 @@
 //! Which nodes of a charter fail question 13 or 14, and what comes together there: for the totals, found without the walk of the
 //! independent implementation.
 
-use independent::charter::{Charter, Node};
+use independent::charter::{Charter, Node, Tree};
 use std::collections::BTreeSet;
 
 /// A node that fails: the place of its tree, and which of the two it fails.
@@ -49,13 +49,19 @@ fn faults(charter: &Charter) -> Vec<Fault> {
             let alike = |other: &&&Node| other.group == node.group;
             let mut earlier = nodes[..at].iter().filter(alike);
             let thirteen = earlier.clone().any(|other| below(other).any(|lower| std::ptr::eq(lower, node)));
-            let fourteen = earlier.any(|other| (other.nondisclose, &other.grant) != (node.nondisclose, &node.grant));
+            let fourteen = earlier.any(|other| stored(other) != stored(node));
             if thirteen || fourteen {
                 faults.push(Fault { tree, thirteen, fourteen });
             }
         }
     }
     faults
+}
+
+/// What question 14 compares, as it is stored: the bytes of a node before its count of children.
+fn stored(node: &Node) -> Vec<u8> {
+    let alone = Node { children: Vec::new(), ..node.clone() };
+    Charter { trees: vec![Tree { kind: 0, root: alone }] }.write()
 }
 
 fn broken_fence(node: &Node) -> bool {

@@ -6,7 +6,8 @@ use crate::{charters, classes, damage, edges, names, repeats, scripts, sheets};
 use independent::charter::Charter;
 use independent::permissions::Entry;
 use independent::running::State;
-use independent::{sheet, typing};
+use independent::sheet::{self, Sheet};
+use independent::typing;
 
 /// The next case.
 pub fn case(random: &mut Random) -> Case {
@@ -44,13 +45,13 @@ fn pair(random: &mut Random) -> (Vec<u8>, Vec<u8>) {
     let mut charter = charters::covering(random, &classes);
     let tipped = random.chance(50) && classes::tip(random, &mut charter, &classes);
     if !tipped || random.chance(20) {
-        change(random, &mut charter, &interface);
+        change(random, &mut charter, &read, &interface);
     }
     (bytes, charter.write())
 }
 
 /// Leaves a charter as it is, or changes it here and there.
-fn change(random: &mut Random, charter: &mut Charter, interface: &[Entry]) {
+fn change(random: &mut Random, charter: &mut Charter, sheet: &Sheet, interface: &[Entry]) {
     if random.chance(20) {
         charters::loosen(random, charter);
     }
@@ -58,7 +59,7 @@ fn change(random: &mut Random, charter: &mut Charter, interface: &[Entry]) {
         (0..random.between(1, 2)).for_each(|_| charters::perturb(random, charter));
     }
     if random.chance(25) {
-        (0..random.between(1, 2)).for_each(|_| charters::withhold(random, charter, interface));
+        (0..random.between(1, 2)).for_each(|_| charters::withhold(random, charter, sheet, interface));
     }
     if random.chance(12) {
         repeats::repeat(random, charter);

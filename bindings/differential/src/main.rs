@@ -1,5 +1,5 @@
 //! The differential tester: generates inputs and compares the independent implementation with the proved library. It also looks at demand 3
-//! after every move, and trims a charter by the slack that is told.
+//! after every move, by path and purpose, and trims a charter by the slack that is told.
 //! Usage: differential [--cases N] [--seconds S] [--seed X] [--first K] [--show]
 //! `--first` starts at a later case of the same seed; `--show` prints each case before it is run.
 
@@ -11,9 +11,11 @@ mod edges;
 mod faults;
 mod generate;
 mod names;
+mod purposes;
 mod random;
 mod repeats;
 mod scripts;
+mod served;
 mod shared;
 mod sharers;
 mod sheets;

@@ -2,6 +2,7 @@
 //! trees, and now and then a broken fence (15) or a kind twice (12) besides.
 
 use crate::charters::{change_count, change_flag, new_node};
+use crate::purposes;
 use crate::random::Random;
 use independent::charter::{Charter, Node, Tree};
 
@@ -53,13 +54,14 @@ fn add_below(random: &mut Random, node: &mut Node, above: &mut Vec<Node>, all: &
 
 /// A node without its children.
 fn head(node: &Node) -> Node {
-    Node { group: node.group, grant: node.grant.clone(), nondisclose: node.nondisclose, children: Vec::new() }
+    Node { group: node.group, grant: node.grant.clone(), nondisclose: node.nondisclose, purposes: node.purposes, children: Vec::new() }
 }
 
 fn differ(random: &mut Random, node: &mut Node) {
-    match random.below(4) {
+    match random.below(5) {
         0 => node.nondisclose = !node.nondisclose,
         1 => change_flag(random, node),
+        2 => purposes::change(random, node),
         _ => change_count(random, node),
     }
 }

@@ -1,7 +1,8 @@
-//! Generates sheets, mostly well-typed: repeats, new names, links received and sent on, components in nested groups or on given paths.
+//! Generates sheets, mostly well-typed: repeats, new names, links received and sent on, components in nested groups or on given paths,
+//! with few purposes.
 
 use crate::random::Random;
-use crate::sharers;
+use crate::{purposes, sharers};
 use independent::types::Type;
 
 /// How a sheet is to look.
@@ -31,6 +32,7 @@ struct Maker<'r> {
     out: Vec<u8>,
     groups: Vec<u8>,
     kinds: Vec<u8>,
+    purposes: Vec<u8>,
     scope: Vec<Type>,
     free: usize,
     path: Vec<u8>,
@@ -42,7 +44,8 @@ pub fn sheet(random: &mut Random, plan: Plan) -> Vec<u8> {
     random.shuffle(&mut all);
     let groups = all[..random.between(2, 7)].to_vec();
     let kinds = (0..random.between(1, 3)).map(|_| random.below(16) as u8).collect();
-    let mut maker = Maker { random, plan, out: Vec::new(), groups, kinds, scope: Vec::new(), free: 0, path: Vec::new() };
+    let purposes = purposes::choice(random);
+    let mut maker = Maker { random, plan, out: Vec::new(), groups, kinds, purposes, scope: Vec::new(), free: 0, path: Vec::new() };
     maker.free_names();
     maker.top();
     maker.out
@@ -102,7 +105,8 @@ impl Maker<'_> {
         let unused: Vec<u8> = self.groups.iter().copied().filter(|g| !self.path.contains(g)).collect();
         let others: Vec<u8> = (0..64).filter(|g| !self.path.contains(g)).collect();
         if self.faulty() {
-            return self.random.below(64) as u8;
+            let any = self.random.below(64) as u8;
+            return self.random.pick_late(&self.path).filter(|_| self.random.chance(50)).unwrap_or(any);
         }
         if unused.is_empty() || self.random.chance(5) { self.random.pick(&others) } else { self.random.pick(&unused) }
     }
@@ -128,9 +132,18 @@ impl Maker<'_> {
             self.system(components - left, level + 1);
         } else {
             let group = self.new_group();
-            let acts = self.random.between(0, self.plan.acts);
-            self.in_group(4, group, |maker| maker.process(acts, level + 1));
+            self.component(group, level);
         }
+    }
+
+    /// A component with a purpose of the sheet's, or, where a fault is wanted, with a byte that is none.
+    fn component(&mut self, group: u8, level: usize) {
+        let purpose = if self.faulty() { purposes::beyond(self.random) } else { self.random.pick(&self.purposes) };
+        let acts = self.random.between(0, self.plan.acts);
+        self.in_group(4, group, |maker| {
+            maker.out.push(purpose);
+            maker.process(acts, level + 1)
+        });
     }
 
     /// Components on these paths; groups that all of them begin with are written once or for each.
@@ -148,8 +161,7 @@ impl Maker<'_> {
             self.along(left, level + 1);
             self.along(right, level + 1);
         } else {
-            let acts = self.random.between(0, self.plan.acts);
-            self.in_group(4, group, |maker| maker.process(acts, level + 1));
+            self.component(group, level);
         }
     }
 

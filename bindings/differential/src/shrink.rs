@@ -1,9 +1,12 @@
 //! Makes a failing case smaller while it still fails.
 
 use crate::case::Case;
+use crate::charters::each_node;
+use independent::charter::{self, Charter};
 use independent::script::{self, Move};
 
-/// The smallest case found by dropping moves, bytes and lent memory while `fails` holds.
+/// The smallest case found by dropping moves, bytes, maps of purposes and lent memory while `fails` holds, with 0 for bytes where it still
+/// does then.
 pub fn shrink(case: Case, fails: &dyn Fn(&Case) -> bool) -> Case {
     let mut best = case;
     loop {
@@ -13,9 +16,10 @@ pub fn shrink(case: Case, fails: &dyn Fn(&Case) -> bool) -> Case {
         best = drop_bytes(best, fails, |case| &mut case.names);
         best = drop_bytes(best, fails, |case| &mut case.charter);
         best = drop_bytes(best, fails, |case| &mut case.sheet);
+        best = drop_maps(best, fails);
         best = lend_less(best, fails);
         if weight(&best) == size {
-            return best;
+            return put_zeros(best, fails);
         }
     }
 }
@@ -64,6 +68,49 @@ fn drop_moves(case: Case, fails: &dyn Fn(&Case) -> bool) -> Case {
     };
     let moves = drop_runs(moves, &|moves| fails(&with(moves)));
     with(&moves)
+}
+
+/// Takes maps of purposes away from the charter, a node at a time.
+fn drop_maps(case: Case, fails: &dyn Fn(&Case) -> bool) -> Case {
+    let Ok(mut charter) = charter::read(&case.charter) else { return case };
+    let mut best = case;
+    for number in 0.. {
+        let Some(fewer) = without_map(&charter, number) else { break };
+        let other = Case { charter: fewer.write(), ..best.clone() };
+        if weight(&other) < weight(&best) && fails(&other) {
+            (best, charter) = (other, fewer);
+        }
+    }
+    best
+}
+
+/// The charter without a map at its node of such a number, nothing where it has none of it.
+fn without_map(charter: &Charter, number: usize) -> Option<Charter> {
+    let (mut fewer, mut nodes) = (charter.clone(), 0);
+    for tree in &mut fewer.trees {
+        each_node(&mut tree.root, &mut |node| {
+            if nodes == number {
+                node.purposes = None;
+            }
+            nodes += 1;
+        });
+    }
+    (number < nodes).then_some(fewer)
+}
+
+/// Puts 0 for bytes of the sheet and of the charter.
+fn put_zeros(case: Case, fails: &dyn Fn(&Case) -> bool) -> Case {
+    let mut best = case;
+    for field in [(|case| &mut case.sheet) as fn(&mut Case) -> &mut Vec<u8>, |case| &mut case.charter] {
+        for at in 0..field(&mut best).len() {
+            let mut other = best.clone();
+            field(&mut other)[at] = 0;
+            if fails(&other) {
+                best = other;
+            }
+        }
+    }
+    best
 }
 
 fn lend_less(case: Case, fails: &dyn Fn(&Case) -> bool) -> Case {

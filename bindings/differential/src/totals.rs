@@ -1,10 +1,10 @@
-//! What the cases of a run met: refusals by number, faults of charters that come together, counts that components share, sums told and
-//! counts trimmed, the first uncovered permissions by verb, records by label.
+//! What the cases of a run met: refusals by number, faults of charters that come together, counts that components share, purposes, sums
+//! told and counts trimmed, the first uncovered permissions by verb, records by label.
 
 use crate::case::Case;
 use crate::subject::Independent;
 use crate::trimming::Trimming;
-use crate::{faults, shared};
+use crate::{classes, faults, served, shared};
 use independent::permissions::Need;
 use independent::{charter, sheet, typing};
 use std::collections::BTreeMap;
@@ -24,6 +24,8 @@ pub struct Totals {
     faults: BTreeMap<&'static str, u64>,
     shared: BTreeMap<&'static str, u64>,
     sums: BTreeMap<&'static str, u64>,
+    purposes: BTreeMap<&'static str, u64>,
+    served: BTreeMap<&'static str, u64>,
     told: BTreeMap<&'static str, u64>,
     trimmed: BTreeMap<&'static str, u64>,
     verbs: BTreeMap<&'static str, u64>,
@@ -52,20 +54,20 @@ impl Totals {
         add(&mut self.faults, faults::met(&charter));
     }
 
-    /// Adds what a sheet that was asked 11 meets of shared counts, and, where it was asked 18, what that answers.
+    /// Adds what a sheet that was asked 11 meets of shared counts and of purposes, and, where it was asked 18, what that answers.
     fn count_shared(&mut self, case: &Case) {
-        let refused = independent::accept(&case.sheet, &case.charter).err();
-        if refused.is_some_and(|number| number < 11) {
+        if independent::accept(&case.sheet, &case.charter).is_err_and(|number| number < 11) {
             return;
         }
         let sheet = sheet::read(&case.sheet).expect("a sheet that passes 6");
         let interface = typing::interface(&sheet);
-        add(&mut self.shared, shared::met(&sheet, &interface));
-        if refused.is_some_and(|number| number < 18) {
-            return;
+        let classes = classes::classes(&sheet, &interface);
+        add(&mut self.shared, shared::met(&classes));
+        add(&mut self.purposes, served::met(&sheet, &classes));
+        if let Ok(judged) = independent::judge(&case.sheet, &case.charter) {
+            add(&mut self.sums, shared::answered(&judged.charter, &classes, judged.uncovered().is_none()));
+            add(&mut self.served, served::answered(&judged, &classes));
         }
-        let charter = charter::read(&case.charter).expect("a charter that passes 11");
-        add(&mut self.sums, shared::answered(&sheet, &charter, &interface, refused.is_none()));
     }
 
     /// Adds the sums that an accepted sheet's slack form tells, and how a count of its charter is trimmed.
@@ -100,6 +102,8 @@ impl Totals {
         println!("charters with nodes that fail 13 or 14: {:?}", self.faults);
         println!("sheets with a count that components share: {:?}", self.shared);
         println!("question 18 on those: {:?}", self.sums);
+        println!("sheets with other purposes than 0: {:?}", self.purposes);
+        println!("question 18 by purposes: {:?}", self.served);
         println!("slack, sums told: {:?}", self.told);
         println!("counts trimmed: {:?}", self.trimmed);
         println!("explain, refused by number: {:?}; {} sentences, the longest of {} bytes", self.explain, self.sentences, self.longest);

@@ -4,18 +4,21 @@
 use crate::case::Case;
 use crate::charters::each_node;
 use crate::classes::put;
+use crate::purposes;
 use crate::subject::{Independent, Proved, Subject};
 use independent::charter::{self, Charter};
 use independent::permissions::Count;
 use std::collections::BTreeMap;
-use velimhaw::{SlackEntries, Sums, INTERFACE_MAX, SLACK_MAX};
+use velimhaw::{SlackEntries, SlackEntry, Sums, INTERFACE_MAX, SLACK_MAX};
 
-/// A finite count of a charter, at all nodes of a group in the tree of a kind, for disclosing into a group.
+/// A finite count of a charter, at all nodes of a group in the tree of a kind, for disclosing into a group, and those nodes' map of
+/// purposes.
 struct Place {
     kind: u8,
     group: u8,
     into: u8,
     count: u32,
+    purposes: Option<u16>,
 }
 
 /// A count of an accepted sheet's charter, and the slack that is told for it.
@@ -50,7 +53,7 @@ impl Trimming {
     /// What does not hold on one side.
     fn fault(&self, sheet: &[u8], side: &dyn Subject) -> Option<String> {
         let answer = |less: u32| side.check(sheet, &self.lowered(less).write(), &mut [0; INTERFACE_MAX]);
-        let Place { kind, group, into, count } = self.place;
+        let Place { kind, group, into, count, .. } = self.place;
         let at = format!("kind {kind}, group {group}, count {count} for group {into}");
         if let Err(number) = answer(self.less()) {
             return Some(format!("{at}: lowered by {}, refused {number}", self.less()));
@@ -73,7 +76,7 @@ impl Trimming {
 
     /// The charter with the count lowered.
     fn lowered(&self, less: u32) -> Charter {
-        let Place { kind, group, into, count } = self.place;
+        let Place { kind, group, into, count, .. } = self.place;
         let mut charter = self.charter.clone();
         let trees = charter.trees.iter_mut().filter(|tree| tree.kind == kind);
         trees.for_each(|tree| {
@@ -106,17 +109,20 @@ fn place(charter: &Charter, number: usize) -> Option<Place> {
         tree.root.visit(&mut |node| {
             for (&into, &count) in &node.grant.disclose {
                 if let Count::Finite(count) = count {
-                    counts.insert((tree.kind, node.group, into), count);
+                    counts.insert((tree.kind, node.group, into), (count, node.purposes));
                 }
             }
         });
     }
     let at = number.checked_rem(counts.len())?;
-    counts.into_iter().nth(at).map(|((kind, group, into), count)| Place { kind, group, into, count })
+    counts.into_iter().nth(at).map(|((kind, group, into), (count, purposes))| Place { kind, group, into, count, purposes })
 }
 
-/// What a slack form tells of a count: the sums of the entries of its kind whose paths have its group, for the group disclosed into.
+/// What a slack form tells of a count: the sums, for the group disclosed into, of the entries of its kind whose paths have its group and
+/// for whose purposes its nodes grant.
 fn told(place: &Place, form: &[u8]) -> Vec<Sums> {
-    let entries = SlackEntries::new(form).filter(|entry| entry.kind == place.kind && entry.path.contains(&place.group));
+    let served = |purpose: u8| place.purposes.is_none_or(|map| map & purposes::bit(purpose) != 0);
+    let concerned = |entry: &SlackEntry| entry.kind == place.kind && entry.path.contains(&place.group) && served(entry.purpose);
+    let entries = SlackEntries::new(form).filter(concerned);
     entries.flat_map(|entry| entry.disclose).filter(|sums| sums.group == place.into).collect()
 }

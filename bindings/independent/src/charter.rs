@@ -20,6 +20,8 @@ pub struct Node {
     pub group: u8,
     pub grant: Permissions,
     pub nondisclose: bool,
+    /// The purposes for which the node grants, bit p for purpose p; without a map, all.
+    pub purposes: Option<u16>,
     pub children: Vec<Node>,
 }
 
@@ -46,23 +48,20 @@ fn read_node(reader: &mut Reader, levels: usize, nodes_left: &mut usize) -> Resu
     }
     *nodes_left -= 1;
     let group = reader.below(64, UNREADABLE, UNREADABLE)?;
-    let (grant, nondisclose) = read_permissions(reader)?;
-    let count = reader.byte(UNREADABLE)?;
-    let mut children = Vec::new();
-    for _ in 0..count {
-        children.push(read_node(reader, levels - 1, nodes_left)?);
-    }
-    Ok(Node { group, grant, nondisclose, children })
-}
-
-fn read_permissions(reader: &mut Reader) -> Result<(Permissions, bool), u32> {
-    let map = reader.below(32, UNREADABLE, UNREADABLE)?;
+    let map = reader.below(64, UNREADABLE, UNREADABLE)?;
     let bit = |number: u8| map & (1 << number) != 0;
     let mut grant = Permissions { read: bit(0), write: bit(1), access: bit(2), ..Permissions::default() };
     if bit(4) {
         read_list(reader, &mut grant)?;
     }
-    Ok((grant, bit(3)))
+    let purposes = if bit(5) { Some(reader.two(UNREADABLE)?) } else { None };
+    let children = read_children(reader, levels - 1, nodes_left)?;
+    Ok(Node { group, grant, nondisclose: bit(3), purposes, children })
+}
+
+fn read_children(reader: &mut Reader, levels: usize, nodes_left: &mut usize) -> Result<Vec<Node>, u32> {
+    let count = reader.byte(UNREADABLE)?;
+    (0..count).map(|_| read_node(reader, levels, nodes_left)).collect()
 }
 
 fn read_list(reader: &mut Reader, grant: &mut Permissions) -> Result<(), u32> {
@@ -119,11 +118,18 @@ impl Charter {
 impl Node {
     fn write(&self, out: &mut Vec<u8>) {
         out.push(self.group);
-        self.grant.write_to(self.nondisclose, out);
+        out.push(self.grant.map() | (self.nondisclose as u8) << 3 | (self.purposes.is_some() as u8) << 5);
+        self.grant.write_list(out);
+        self.purposes.iter().for_each(|purposes| out.extend_from_slice(&purposes.to_le_bytes()));
         out.push(self.children.len() as u8);
         for child in &self.children {
             child.write(out);
         }
+    }
+
+    /// Whether the node grants for a purpose.
+    pub fn serves(&self, purpose: u8) -> bool {
+        self.purposes.is_none_or(|purposes| purposes & (1 << purpose) != 0)
     }
 
     /// Visits this node and all below it, in stored order.
@@ -156,10 +162,10 @@ fn new_group(node: &Node, above: &[&Node]) -> bool {
     above.iter().all(|other| other.group != node.group)
 }
 
-/// Question 14 of one node: each earlier node of its group has its map and list.
+/// Question 14 of one node: each earlier node of its group has its map, its list and its map of purposes, as they are stored.
 fn same_permissions(node: &Node, earlier: &[&Node]) -> bool {
     let mut same_group = earlier.iter().filter(|other| other.group == node.group);
-    same_group.all(|other| other.nondisclose == node.nondisclose && other.grant == node.grant)
+    same_group.all(|other| (other.nondisclose, &other.grant, other.purposes) == (node.nondisclose, &node.grant, node.purposes))
 }
 
 /// Question 15 for a node and all below it.

@@ -4,7 +4,7 @@
 use crate::charter::{Charter, Node};
 use crate::permissions::{Count, Entry, Need, Permissions};
 use crate::sharing;
-use crate::sheet::Sheet;
+use crate::sheet::{Component, Sheet};
 use std::collections::BTreeMap;
 
 /// The groups of the nodes that a path reaches in a kind's tree, each with its first such node.
@@ -25,16 +25,16 @@ fn reach<'a>(node: &'a Node, path: &[u8], found: &mut BTreeMap<u8, &'a Node>) {
     }
 }
 
-/// The permissions of reached groups joined, each group taken once.
-fn join(reached: &BTreeMap<u8, &Node>) -> Permissions {
+/// The permissions of reached groups joined, each group taken once, of those nodes that grant for a purpose.
+fn join(reached: &BTreeMap<u8, &Node>, purpose: u8) -> Permissions {
     let mut joined = Permissions::default();
-    reached.values().for_each(|node| joined.join(&node.grant));
+    reached.values().filter(|node| node.serves(purpose)).for_each(|node| joined.join(&node.grant));
     joined
 }
 
-/// The grant of a path for a kind.
-pub fn grant(charter: &Charter, path: &[u8], kind: u8) -> Permissions {
-    join(&reached(charter, path, kind))
+/// The grant of a component, by its path and its purpose, for a kind.
+pub fn grant(charter: &Charter, component: &Component, kind: u8) -> Permissions {
+    join(&reached(charter, &component.path, kind), component.purpose)
 }
 
 /// What the covering test answers for one entry.
@@ -54,7 +54,7 @@ pub struct Sums {
 }
 
 impl Verdict {
-    /// The covering test of an entry: `sum` is what its class needs, `grant` what its path is granted.
+    /// The covering test of an entry: `sum` is what its class needs, `grant` what its path is granted for its purpose.
     fn new(entry: &Entry, sum: &Permissions, grant: &Permissions) -> Verdict {
         let flags = entry.permissions.flags().map(|need| (need, grant.grants(need))).collect();
         let sums = |group: u8| Sums { needed: sum.count(group), granted: grant.count(group) };
@@ -75,16 +75,16 @@ pub fn verdicts(sheet: &Sheet, charter: &Charter, interface: &[Entry]) -> Result
     if !interface.iter().all(|entry| charter.tree(entry.kind).is_some()) {
         return Err(16);
     }
-    let path = |entry: &Entry| &sheet.paths[entry.component];
-    let reached: Vec<_> = interface.iter().map(|entry| reached(charter, path(entry), entry.kind)).collect();
+    let component = |entry: &Entry| &sheet.components[entry.component];
+    let reached: Vec<_> = interface.iter().map(|entry| reached(charter, &component(entry).path, entry.kind)).collect();
     let pairs = interface.iter().zip(&reached);
-    if !pairs.clone().all(|(entry, groups)| groups.len() == path(entry).len()) {
+    if !pairs.clone().all(|(entry, groups)| groups.len() == component(entry).path.len()) {
         return Err(17);
     }
-    let classes = sharing::classes(&sheet.paths);
+    let classes = sharing::classes(&sheet.components);
     let sums = sharing::sums(&classes, interface.iter().map(|entry| (entry.component, entry.kind, &entry.permissions)));
     let sum = |entry: &Entry| &sums[classes[entry.component]][&entry.kind];
-    Ok(pairs.map(|(entry, groups)| Verdict::new(entry, sum(entry), &join(groups))).collect())
+    Ok(pairs.map(|(entry, groups)| Verdict::new(entry, sum(entry), &join(groups, component(entry).purpose))).collect())
 }
 
 /// A permission that some component needs and its charter does not cover.

@@ -1,17 +1,19 @@
 //! Demand 3 looked at in a run: after each move the state is typed, no component infers beyond the start, no next act is an error, and
-//! links disclosed plus those still inferred, of all components that share a count, stay within the charter.
+//! links disclosed plus those still inferred, of all components that share a count, stay within the charter. A component's grant is that of
+//! its path for its purpose.
 
 use crate::cover;
 use crate::permissions::{ByKind, Count, Need, Permissions};
 use crate::running::{Label, State, Taken, Thread};
 use crate::sharing;
+use crate::sheet::Component;
 use crate::types::Type;
 use crate::typing;
 use crate::Judged;
 
 /// What demand 3 has to remember over a run.
 pub struct Watch<'a> {
-    paths: &'a [Vec<u8>],
+    components: &'a [Component],
     classes: Vec<usize>,
     inferred: Vec<ByKind>,
     grants: Vec<Vec<Permissions>>,
@@ -22,14 +24,14 @@ pub struct Watch<'a> {
 impl<'a> Watch<'a> {
     /// A watch over the runs of an accepted sheet.
     pub fn new(accepted: &'a Judged) -> Watch<'a> {
-        let paths = &accepted.sheet.paths;
-        let mut inferred = vec![ByKind::new(); paths.len()];
+        let components = &accepted.sheet.components;
+        let mut inferred = vec![ByKind::new(); components.len()];
         for entry in &accepted.interface {
             inferred[entry.component].insert(entry.kind, entry.permissions.clone());
         }
-        let grant = |path: &Vec<u8>| (0..16).map(|kind| cover::grant(&accepted.charter, path, kind)).collect();
-        let grants = paths.iter().map(grant).collect();
-        Watch { paths, classes: sharing::classes(paths), inferred, grants, disclosed: vec![ByKind::new(); paths.len()] }
+        let grant = |component: &Component| (0..16).map(|kind| cover::grant(&accepted.charter, component, kind)).collect();
+        let (grants, disclosed) = (components.iter().map(grant).collect(), vec![ByKind::new(); components.len()]);
+        Watch { components, classes: sharing::classes(components), inferred, grants, disclosed }
     }
 
     /// Notes the link that a taken move discloses, if it does.
@@ -43,7 +45,7 @@ impl<'a> Watch<'a> {
 
     /// Looks at a state; the error says what does not hold.
     pub fn look(&self, state: &State) -> Result<(), String> {
-        let mut now = vec![ByKind::new(); self.paths.len()];
+        let mut now = vec![ByKind::new(); self.components.len()];
         for (number, thread) in state.threads.iter().enumerate() {
             self.look_at_thread(thread, state, &mut now[thread.component])
                 .map_err(|what| format!("thread {number}: {what}"))?;
@@ -56,7 +58,7 @@ impl<'a> Watch<'a> {
 
     fn look_at_thread(&self, thread: &Thread, state: &State, needs: &mut ByKind) -> Result<(), String> {
         let mut scope: Vec<Type> = thread.names.iter().map(|&name| state.types[name as usize]).collect();
-        typing::check_process(thread.process, &mut scope, &self.paths[thread.component])
+        typing::check_process(thread.process, &mut scope, &self.components[thread.component].path)
             .map_err(|number| format!("its remaining process fails {number}"))?;
         if let Some((kind, need)) = thread.process.act().and_then(|act| typing::act_need(act, &scope)) {
             if !self.grants[thread.component][kind as usize].grants(need) {
@@ -79,7 +81,7 @@ impl<'a> Watch<'a> {
 
     /// Links disclosed plus links still inferred: of each class, and, which follows, of each component by itself.
     fn look_at_limits(&self, now: &[ByKind]) -> Result<(), String> {
-        let by_itself: Vec<usize> = (0..self.paths.len()).collect();
+        let by_itself: Vec<usize> = (0..self.components.len()).collect();
         for (what, classes) in [("component", &by_itself), ("class of component", &self.classes)] {
             let links = each(&self.disclosed).chain(each(now));
             for (number, links) in sharing::sums(classes, links).iter().enumerate() {
@@ -89,7 +91,7 @@ impl<'a> Watch<'a> {
         Ok(())
     }
 
-    /// Links held against the charter's counts for a component's path.
+    /// Links held against the charter's counts for a component's path and purpose.
     fn within_charter(&self, component: usize, links: &ByKind) -> Result<(), String> {
         for (&kind, permissions) in links {
             for (&group, &count) in &permissions.disclose {

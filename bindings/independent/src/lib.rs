@@ -1,7 +1,7 @@
-//! Document 01 (flow sheets, charters and runs), the sentence for a refused sheet, the counts that components share and what a charter
-//! leaves over, in plain Rust, written from the documents and the list of readings that decides their open points. It shares no code with
-//! the proved library, but those readings it shares: an agreement of the two says nothing about an open point that the list itself reads
-//! wrongly.
+//! Document 01 (flow sheets, charters and runs), the sentence for a refused sheet, the counts that components share, what a charter leaves
+//! over and the purposes for which it grants, in plain Rust, written from the documents and the list of readings that decides their open
+//! points. It shares no code with the proved library, but those readings it shares: an agreement of the two says nothing about an open
+//! point that the list itself reads wrongly.
 
 pub mod bytes;
 pub mod charter;
@@ -46,7 +46,7 @@ impl Judged {
     pub fn uncovered(&self) -> Option<Uncovered> {
         self.entries().find_map(|(entry, verdict)| {
             let need = verdict.uncovered()?;
-            Some(Uncovered { path: self.sheet.paths[entry.component].clone(), need, kind: entry.kind })
+            Some(Uncovered { path: self.sheet.components[entry.component].path.clone(), need, kind: entry.kind })
         })
     }
 }

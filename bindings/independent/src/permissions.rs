@@ -1,6 +1,6 @@
 //! Permissions, how they join, and the interface with its stored form.
 
-use crate::sheet::Sheet;
+use crate::sheet::{Component, Sheet};
 use std::collections::BTreeMap;
 use std::fmt;
 
@@ -119,15 +119,14 @@ impl Permissions {
         self.covers(need, Count::Finite(1))
     }
 
-    /// Appends the permission map and, if there is one, the list.
-    pub fn write_to(&self, nondisclose: bool, out: &mut Vec<u8>) {
-        out.push(self.map(nondisclose));
+    /// Appends the list, if there is one.
+    pub fn write_list(&self, out: &mut Vec<u8>) {
         write_list(self.disclose.iter().map(|(&group, &count)| (group, [count])), out);
     }
 
-    /// The permission map.
-    pub fn map(&self, nondisclose: bool) -> u8 {
-        let bits = [self.read, self.write, self.access, nondisclose, !self.disclose.is_empty()];
+    /// The permission map, with bits 0 to 2 and 4.
+    pub fn map(&self) -> u8 {
+        let bits = [self.read, self.write, self.access, false, !self.disclose.is_empty()];
         bits.iter().enumerate().map(|(i, &bit)| (bit as u8) << i).sum()
     }
 }
@@ -154,12 +153,13 @@ pub struct Entry {
 }
 
 impl Entry {
-    /// Appends what a stored entry begins with: kind, length of the path and path.
+    /// Appends what a stored entry begins with: kind, length of the path, path and purpose.
     pub fn write_head(&self, sheet: &Sheet, out: &mut Vec<u8>) {
-        let path = &sheet.paths[self.component];
+        let Component { path, purpose } = &sheet.components[self.component];
         out.push(self.kind);
         out.push(path.len() as u8);
         out.extend_from_slice(path);
+        out.push(*purpose);
     }
 }
 
@@ -168,7 +168,8 @@ pub fn write_interface(sheet: &Sheet, interface: &[Entry]) -> Vec<u8> {
     let mut out = Vec::new();
     for entry in interface {
         entry.write_head(sheet, &mut out);
-        entry.permissions.write_to(false, &mut out);
+        out.push(entry.permissions.map());
+        entry.permissions.write_list(&mut out);
     }
     out
 }

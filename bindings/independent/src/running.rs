@@ -7,7 +7,7 @@ use crate::types::Type;
 pub const MOST_THREADS: usize = 64;
 pub const MOST_NAMES: usize = 1024;
 
-/// A thread: its component, the form it stands at, and the run name of each binder already passed.
+/// A thread: its component, whose path and purpose it keeps, the form it stands at, and the run name of each binder already passed.
 #[derive(Clone)]
 pub struct Thread<'a> {
     pub component: usize,

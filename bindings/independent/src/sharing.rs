@@ -1,12 +1,15 @@
-//! Components that share one count, their paths having the same groups in any order, and what they need together.
+//! Components that share one count, their paths having the same groups in any order and their purposes being one, and what they need
+//! together.
 
 use crate::permissions::{ByKind, Permissions};
+use crate::sheet::Component;
 
-/// For each component its class: the number of the first component whose path has the same groups. Those of one class share a count.
-pub fn classes(paths: &[Vec<u8>]) -> Vec<usize> {
-    let sets: Vec<u64> = paths.iter().map(|path| groups(path)).collect();
-    let first = |set: &u64| sets.iter().position(|other| other == set).expect("a set is equal to itself");
-    sets.iter().map(first).collect()
+/// For each component its class: the number of the first component with its purpose whose path has the same groups. Those of one class
+/// share a count.
+pub fn classes(components: &[Component]) -> Vec<usize> {
+    let keys: Vec<(u64, u8)> = components.iter().map(|component| (groups(&component.path), component.purpose)).collect();
+    let first = |key: &(u64, u8)| keys.iter().position(|other| other == key).expect("a key is equal to itself");
+    keys.iter().map(first).collect()
 }
 
 /// A path's groups as bits, which forget their order.

@@ -3,11 +3,17 @@
 use crate::bytes::Reader;
 use crate::types::{self, Type};
 
-/// A sheet: the types of its free names, its system, and the path of each component in sheet order.
+/// A sheet: the types of its free names, its system, and its components in sheet order.
 pub struct Sheet {
     pub free: Vec<Type>,
     pub system: System,
-    pub paths: Vec<Vec<u8>>,
+    pub components: Vec<Component>,
+}
+
+/// What a component's rights hang on: its path, which is the groups passed on the way to it, its own last, and its purpose.
+pub struct Component {
+    pub path: Vec<u8>,
+    pub purpose: u8,
 }
 
 pub enum System {
@@ -34,6 +40,9 @@ const RANGE: u32 = 4;
 const LIMIT: u32 = 5;
 const NOT_NEW: u32 = 6;
 
+/// How many purposes there are.
+pub const PURPOSES: u8 = 16;
+
 /// Reads a whole sheet; the error is the number of the question that its first failing byte fails.
 pub fn read(bytes: &[u8]) -> Result<Sheet, u32> {
     let mut reader = Reader::new(bytes);
@@ -42,19 +51,19 @@ pub fn read(bytes: &[u8]) -> Result<Sheet, u32> {
     for _ in 0..count {
         free.push(types::read(&mut reader, MISSING, RANGE)?);
     }
-    let mut walk = Walk { reader, path: Vec::new(), paths: Vec::new() };
+    let mut walk = Walk { reader, path: Vec::new(), components: Vec::new() };
     let system = walk.system(1, free.len())?;
     if !walk.reader.at_end() {
         return Err(LEFT_OVER);
     }
-    Ok(Sheet { free, system, paths: walk.paths })
+    Ok(Sheet { free, system, components: walk.components })
 }
 
 /// The reader on its way through the forms: the groups passed so far and the components met so far.
 struct Walk<'a> {
     reader: Reader<'a>,
     path: Vec<u8>,
-    paths: Vec<Vec<u8>>,
+    components: Vec<Component>,
 }
 
 impl Walk<'_> {
@@ -82,9 +91,10 @@ impl Walk<'_> {
     }
 
     fn component(&mut self, level: usize, names: usize) -> Result<System, u32> {
-        let number = self.paths.len();
+        let number = self.components.len();
         self.enter_group()?;
-        self.paths.push(self.path.clone());
+        let purpose = self.reader.below(PURPOSES, MISSING, RANGE)?;
+        self.components.push(Component { path: self.path.clone(), purpose });
         let process = self.process(level + 1, names)?;
         self.path.pop();
         Ok(System::Component(number, process))
@@ -135,7 +145,7 @@ impl Walk<'_> {
         let too_many = level > 64
             || (binds && names >= 64)
             || (groups && self.path.len() >= 8)
-            || (code == 4 && self.paths.len() >= 32);
+            || (code == 4 && self.components.len() >= 32);
         if too_many { Err(LIMIT) } else { Ok(()) }
     }
 

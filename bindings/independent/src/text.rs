@@ -3,6 +3,7 @@
 use crate::cover::Verdict;
 use crate::permissions::Need;
 use crate::sentence;
+use crate::sheet::Component;
 
 /// The list program's text for a sheet, a charter and a names file.
 pub fn list(sheet: &[u8], charter: &[u8], names: &[u8]) -> String {
@@ -10,8 +11,8 @@ pub fn list(sheet: &[u8], charter: &[u8], names: &[u8]) -> String {
         Err(18) => refused(18) + &explanation(sheet, charter, names),
         Err(number) => refused(number),
         Ok(accepted) => {
-            let path = |component: usize| &accepted.sheet.paths[component];
-            let lines = accepted.entries().map(|(entry, verdict)| line(entry.kind, path(entry.component), verdict));
+            let component = |number: usize| &accepted.sheet.components[number];
+            let lines = accepted.entries().map(|(entry, verdict)| line(entry.kind, component(entry.component), verdict));
             std::iter::once("accepted\n".to_string()).chain(lines).collect()
         }
     }
@@ -43,9 +44,9 @@ fn refused(number: u32) -> String {
 }
 
 /// The line of an entry that is covered.
-fn line(kind: u8, path: &[u8], verdict: &Verdict) -> String {
-    let path: Vec<String> = path.iter().map(u8::to_string).collect();
-    format!("{kind} {} {}\n", path.join("."), fields(verdict).join(" "))
+fn line(kind: u8, component: &Component, verdict: &Verdict) -> String {
+    let path: Vec<String> = component.path.iter().map(u8::to_string).collect();
+    format!("{kind} {}:{} {}\n", path.join("."), component.purpose, fields(verdict).join(" "))
 }
 
 /// The flags that an entry needs, and for each group that it discloses into the needed sum beside the granted one.

@@ -63,7 +63,7 @@ pub fn act_need(act: Act, scope: &[Type]) -> Option<(u8, Need)> {
 pub fn check_sheet(sheet: &Sheet) -> Result<(), u32> {
     let mut worst = Ok(());
     each_component(&sheet.system, &mut sheet.free.clone(), &mut |component, process, scope| {
-        worst = earlier(worst, check_process(process, scope, &sheet.paths[component]));
+        worst = earlier(worst, check_process(process, scope, &sheet.components[component].path));
     });
     worst
 }

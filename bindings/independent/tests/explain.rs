@@ -27,7 +27,7 @@ fn says(sheet: &str, charter: &str, sentence: &str) {
 }
 
 /// Free names 0[0[k0]], 0[k0] and k0; one component of group 0 that receives a link, reads, writes and discloses.
-const ALL_FOUR: &str = "03 02 00 00 00 01 00 00 00 00 04 00 05 00 01 00 00 05 01 00 00 06 01 02 06 00 01 00";
+const ALL_FOUR: &str = "03 02 00 00 00 01 00 00 00 00 04 00 00 05 00 01 00 00 05 01 00 00 06 01 02 06 00 01 00";
 
 #[test]
 fn each_permission_is_met_first() {
@@ -43,7 +43,7 @@ fn each_permission_is_met_first() {
 
 #[test]
 fn disclosures_by_rising_group() {
-    let sheet = "04 02 01 02 05 01 02 05 02 00 02 05 02 02 02 05 02 00 02 02 04 01 06 03 01 06 02 01 06 00 01 00";
+    let sheet = "04 02 01 02 05 01 02 05 02 00 02 05 02 02 02 05 02 00 02 02 04 01 00 06 03 01 06 02 01 06 00 01 00";
     says(sheet, "01 05 00 00 01 02 00 01 01 00 00", "Gaa/Gac/Gab may not disclose to Gaa: Kaf");
     says(sheet, "01 05 00 10 01 00 01 00 01 02 00 01 01 00 00", "Gaa/Gac/Gab may not disclose to Gab: Kaf");
     says(sheet, "01 05 00 10 02 00 01 00 01 01 00 01 02 00 01 01 00 00", "Gaa/Gac/Gab may not disclose to Gac: Kaf");
@@ -55,14 +55,14 @@ fn a_count_too_small_is_the_same_sentence() {
     let twice = W.replacen("06 00 01 00", "06 00 01 06 00 01 00", 1);
     says(&twice, CHARTER, "Gaa/Gab may not disclose to Gaa: Kaa");
     says(&twice, &CHARTER.replacen("10 01 00 01 00", "10 01 00 02 00", 1), "");
-    let repeated = W.replacen("01 06 00", "01 07 06 00", 1);
+    let repeated = W.replacen("01 00 06 00", "01 00 07 06 00", 1);
     says(&repeated, &CHARTER.replacen("10 01 00 01 00", "10 01 00 FF 0F", 1), "Gaa/Gab may not disclose to Gaa: Kaa");
     says(&repeated, &CHARTER.replacen("10 01 00 01 00", "10 01 00 FF FF", 1), "");
 }
 
 #[test]
 fn the_first_of_two_entries_speaks() {
-    let sheet = "03 02 00 00 00 01 00 00 00 00 02 00 01 04 01 06 00 01 00 04 02 05 01 00 00 00";
+    let sheet = "03 02 00 00 00 01 00 00 00 00 02 00 01 04 01 00 06 00 01 00 04 02 00 05 01 00 00 00";
     says(sheet, "01 00 00 00 02 01 00 00 02 00 00", "Gaa/Gab may not disclose to Gaa: Kaa");
     says(sheet, "01 00 00 00 02 01 10 01 00 01 00 00 02 00 00", "Gaa/Gac may not read: Kaa");
     says(sheet, "01 00 00 00 02 01 10 01 00 01 00 00 02 01 00", "");
@@ -70,7 +70,7 @@ fn the_first_of_two_entries_speaks() {
 
 #[test]
 fn kinds_of_a_component_rise() {
-    let sheet = "04 01 00 09 00 09 01 00 02 00 02 04 00 05 00 00 09 05 02 00 02 00";
+    let sheet = "04 01 00 09 00 09 01 00 02 00 02 04 00 00 05 00 00 09 05 02 00 02 00";
     says(sheet, "02 09 00 00 00 02 00 00 00", "Gaa may not read: Kac");
     says(sheet, "02 09 00 00 00 02 00 01 00", "Gaa may not read: Kaj");
 }
@@ -79,7 +79,7 @@ fn kinds_of_a_component_rise() {
 fn the_longest_sentence() {
     let long = |name: &String| format!("{name}{}", "x".repeat(17));
     let names = Names { groups: names().groups.iter().map(long).collect(), kinds: names().kinds.iter().map(long).collect() };
-    let sheet = bytes("02 02 00 00 00 01 00 00 02 00 02 01 02 02 02 03 02 04 02 05 02 06 04 07 06 00 01 00");
+    let sheet = bytes("02 02 00 00 00 01 00 00 02 00 02 01 02 02 02 03 02 04 02 05 02 06 04 07 00 06 00 01 00");
     let charter = bytes("01 00 00 00 01 01 00 01 02 00 01 03 00 01 04 00 01 05 00 01 06 00 01 07 00 00");
     let written = explain(&sheet, &charter, &names.write(), 300).unwrap();
     assert_eq!(written.len(), sentence::LONGEST);
@@ -112,7 +112,7 @@ fn list_writes_a_second_line() {
     assert_eq!(list(strict, &right), "refused 18\nGaa/Gab may not disclose to Gaa: Kaa\n");
     assert_eq!(list(strict, &[]), "refused 18\nrefused 40\n");
     assert_eq!(list("00", b"?"), "refused 16\n");
-    assert_eq!(list(CHARTER, b"?"), "accepted\n0 0.1 d0:1/1\n0 0.2 r a\n");
+    assert_eq!(list(CHARTER, b"?"), "accepted\n0 0.1:0 d0:1/1\n0 0.2:0 r a\n");
     assert_eq!(independent::text::run(&bytes(W), &bytes(strict), &[]), b"refused 18\n");
 }
 

@@ -1,4 +1,5 @@
-//! Components whose paths have the same groups share one count: what check, list and play answer, and demand 3 by their class.
+//! Components of one purpose, here 0, whose paths have the same groups share one count: what check, list and play answer, and demand 3 by
+//! their class.
 mod society;
 
 use independent::demand3::Watch;
@@ -35,46 +36,46 @@ fn sentence(sheet: &[u8], charter: &[u8]) -> String {
 /// In group 0 two components of group 1, each of which discloses so often.
 fn one_path(first: usize, second: usize) -> String {
     let times = |count: usize| vec![DISCLOSES; count].join(" ");
-    format!("02 00 01 04 01 {} 00 04 01 {} 00", times(first), times(second))
+    format!("02 00 01 04 01 00 {} 00 04 01 00 {} 00", times(first), times(second))
 }
 
 /// One component with the path 0.1 and one with the path 1.0, each of which discloses once.
-const TWO_ORDERS: &str = "01 02 00 04 01 06 00 01 00 02 01 04 00 06 00 01 00";
+const TWO_ORDERS: &str = "01 02 00 04 01 00 06 00 01 00 02 01 04 00 00 06 00 01 00";
 /// Two components with the path 0.1; the second discloses without limit.
-const ONE_UNLIMITED: &str = "02 00 01 04 01 06 00 01 00 04 01 07 06 00 01 00";
+const ONE_UNLIMITED: &str = "02 00 01 04 01 00 06 00 01 00 04 01 00 07 06 00 01 00";
 const FIRST: &str = "Gaa/Gab may not disclose to Gaa: Kaa\n";
 
 #[test]
 fn a_count_that_just_covers_the_sum_and_one_less() {
     for (first, second) in [(1, 1), (1, 3), (3, 1), (2, 5)] {
         let sum = (first + second) as u16;
-        assert_eq!(answer(&one_path(first, second), sum), Ok(18), "{first} and {second}");
-        assert_eq!(answer(&one_path(first, second), sum + 1), Ok(18), "{first} and {second}");
+        assert_eq!(answer(&one_path(first, second), sum), Ok(20), "{first} and {second}");
+        assert_eq!(answer(&one_path(first, second), sum + 1), Ok(20), "{first} and {second}");
         assert_eq!(answer(&one_path(first, second), sum - 1), Err(18), "{first} and {second}");
     }
 }
 
 #[test]
 fn the_interface_keeps_each_component_s_own_count_and_list_shows_the_sum() {
-    let mut output = [0; 18];
-    assert_eq!(independent::check(&sheet(&one_path(1, 2)), &charter(3, "00"), &mut output), Ok(18));
-    assert_eq!(output.to_vec(), bytes("00 02 00 01 10 01 00 01 00 00 02 00 01 10 01 00 02 00"));
-    assert_eq!(list(&sheet(&one_path(1, 1)), &charter(2, "00"), &[]), "accepted\n0 0.1 d0:2/2\n0 0.1 d0:2/2\n");
+    let mut output = [0; 20];
+    assert_eq!(independent::check(&sheet(&one_path(1, 2)), &charter(3, "00"), &mut output), Ok(20));
+    assert_eq!(output.to_vec(), bytes("00 02 00 01 00 10 01 00 01 00 00 02 00 01 00 10 01 00 02 00"));
+    assert_eq!(list(&sheet(&one_path(1, 1)), &charter(2, "00"), &[]), "accepted\n0 0.1:0 d0:2/2\n0 0.1:0 d0:2/2\n");
 }
 
 #[test]
 fn one_set_in_another_order() {
     assert_eq!(answer(TWO_ORDERS, 1), Err(18));
-    assert_eq!(answer(TWO_ORDERS, 2), Ok(18));
+    assert_eq!(answer(TWO_ORDERS, 2), Ok(20));
 }
 
 #[test]
 fn a_larger_set_has_its_own_count() {
-    let system = "02 00 01 04 01 06 00 01 00 02 01 04 02 06 00 01 00";
-    let mut output = [0; 19];
-    assert_eq!(independent::check(&sheet(system), &charter(1, "01 02 00 00"), &mut output), Ok(19));
-    assert_eq!(output.to_vec(), bytes("00 02 00 01 10 01 00 01 00 00 03 00 01 02 10 01 00 01 00"));
-    let three = "02 00 01 01 04 01 06 00 01 00 02 01 04 02 06 00 01 00 04 01 06 00 01 00";
+    let system = "02 00 01 04 01 00 06 00 01 00 02 01 04 02 00 06 00 01 00";
+    let mut output = [0; 21];
+    assert_eq!(independent::check(&sheet(system), &charter(1, "01 02 00 00"), &mut output), Ok(21));
+    assert_eq!(output.to_vec(), bytes("00 02 00 01 00 10 01 00 01 00 00 03 00 01 02 00 10 01 00 01 00"));
+    let three = "02 00 01 01 04 01 00 06 00 01 00 02 01 04 02 00 06 00 01 00 04 01 00 06 00 01 00";
     assert_eq!(sentence(&sheet(three), &charter(1, "01 02 00 00")), FIRST);
     assert!(independent::accept(&sheet(three), &charter(2, "01 02 00 00")).is_ok());
 }
@@ -82,21 +83,21 @@ fn a_larger_set_has_its_own_count() {
 #[test]
 fn one_unlimited_makes_the_sum_unlimited() {
     assert_eq!(sentence(&sheet(ONE_UNLIMITED), &charter(4095, "00")), FIRST);
-    assert_eq!(answer(ONE_UNLIMITED, 65535), Ok(18));
+    assert_eq!(answer(ONE_UNLIMITED, 65535), Ok(20));
 }
 
 #[test]
 fn the_first_entry_that_has_it_speaks() {
     assert_eq!(sentence(&sheet(TWO_ORDERS), &charter(1, "00")), FIRST);
-    let other_way = "01 02 01 04 00 06 00 01 00 02 00 04 01 06 00 01 00";
+    let other_way = "01 02 01 04 00 00 06 00 01 00 02 00 04 01 00 06 00 01 00";
     assert_eq!(sentence(&sheet(other_way), &charter(1, "00")), "Gab/Gaa may not disclose to Gaa: Kaa\n");
     assert_eq!(sentence(&sheet(&one_path(1, 3)), &charter(3, "00")), FIRST);
-    assert_eq!(sentence(&sheet("02 01 04 00 06 00 01 00"), &bytes("01 00 00 08 01 01 00 00")), "Gab/Gaa may not disclose to Gaa: Kaa\n");
+    assert_eq!(sentence(&sheet("02 01 04 00 00 06 00 01 00"), &bytes("01 00 00 08 01 01 00 00")), "Gab/Gaa may not disclose to Gaa: Kaa\n");
 }
 
 #[test]
 fn an_entry_without_the_disclosure_is_passed_over() {
-    let system = "01 02 00 04 01 05 00 01 00 00 00 02 00 01 04 01 06 00 01 00 04 01 06 00 01 00";
+    let system = "01 02 00 04 01 00 05 00 01 00 00 00 02 00 01 04 01 00 06 00 01 00 04 01 00 06 00 01 00";
     let granted = |flags: &str, count: &str| bytes(&format!("01 00 00 08 01 01 {flags} 01 00 {count} 00 00"));
     assert_eq!(sentence(&sheet(system), &granted("10", "01")), "Gaa/Gab may not access: Kaa\n");
     assert_eq!(sentence(&sheet(system), &granted("14", "01")), FIRST);
@@ -105,17 +106,17 @@ fn an_entry_without_the_disclosure_is_passed_over() {
 
 #[test]
 fn flags_are_not_shared() {
-    let reads_and_discloses = bytes("03 02 00 00 00 01 00 00 00 00 02 00 01 04 01 05 01 00 00 00 04 01 06 00 01 00");
+    let reads_and_discloses = bytes("03 02 00 00 00 01 00 00 00 00 02 00 01 04 01 00 05 01 00 00 00 04 01 00 06 00 01 00");
     assert_eq!(sentence(&reads_and_discloses, &bytes("01 00 00 00 01 01 10 01 00 01 00 00")), "Gaa/Gab may not read: Kaa\n");
     assert!(independent::accept(&reads_and_discloses, &bytes("01 00 00 00 01 01 11 01 00 01 00 00")).is_ok());
 }
 
 #[test]
 fn kinds_and_groups_are_counted_by_themselves() {
-    let two_kinds = bytes("04 02 00 00 00 01 00 00 02 00 00 01 01 00 01 02 00 01 04 01 06 00 01 00 04 01 06 02 03 00");
+    let two_kinds = bytes("04 02 00 00 00 01 00 00 02 00 00 01 01 00 01 02 00 01 04 01 00 06 00 01 00 04 01 00 06 02 03 00");
     let one_each = bytes("02 00 00 10 01 00 01 00 01 01 00 00 01 00 10 01 00 01 00 01 01 00 00");
     assert!(independent::accept(&two_kinds, &one_each).is_ok());
-    let two_groups = bytes("03 02 00 00 00 01 00 00 02 01 00 00 02 00 01 04 01 06 00 01 00 04 01 06 02 01 00");
+    let two_groups = bytes("03 02 00 00 00 01 00 00 02 01 00 00 02 00 01 04 01 00 06 00 01 00 04 01 00 06 02 01 00");
     assert!(independent::accept(&two_groups, &bytes("01 00 00 10 02 00 01 00 01 01 00 01 01 00 00")).is_ok());
 }
 

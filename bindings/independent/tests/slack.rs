@@ -8,11 +8,11 @@ use independent::text::list;
 use society::{bytes, names, CHARTER, W};
 
 /// One component with the path 0.1 that discloses one link of kind 0 into group 0; the same without limit.
-const ONCE: &str = "02 02 00 00 00 01 00 00 02 00 04 01 06 00 01 00";
-const UNLIMITED: &str = "02 02 00 00 00 01 00 00 02 00 04 01 07 06 00 01 00";
+const ONCE: &str = "02 02 00 00 00 01 00 00 02 00 04 01 00 06 00 01 00";
+const UNLIMITED: &str = "02 02 00 00 00 01 00 00 02 00 04 01 00 07 06 00 01 00";
 /// Two such components, with one path and with both orders of its groups.
-const TWICE: &str = "02 02 00 00 00 01 00 00 02 00 01 04 01 06 00 01 00 04 01 06 00 01 00";
-const TWO_ORDERS: &str = "02 02 00 00 00 01 00 00 01 02 00 04 01 06 00 01 00 02 01 04 00 06 00 01 00";
+const TWICE: &str = "02 02 00 00 00 01 00 00 02 00 01 04 01 00 06 00 01 00 04 01 00 06 00 01 00";
+const TWO_ORDERS: &str = "02 02 00 00 00 01 00 00 01 02 00 04 01 00 06 00 01 00 02 01 04 00 00 06 00 01 00";
 
 /// The bytes of the slack form, or the number; memory it may not write has to keep its bytes.
 fn slack(sheet: &str, charter: &str, room: usize) -> Result<Vec<u8>, u32> {
@@ -35,10 +35,10 @@ fn sums(sheet: &str, charter: &str) -> Sums {
 
 #[test]
 fn w() {
-    let form = "00 02 00 01 10 01 00 01 00 01 00 00 02 00 02 05";
-    tells(W, CHARTER, form, "0 0.1 d0:1/1\n0 0.2 r a\n");
-    assert_eq!(slack(W, CHARTER, 16), Ok(bytes(form)));
-    assert_eq!(slack(W, CHARTER, 15), Err(19));
+    let form = "00 02 00 01 00 10 01 00 01 00 01 00 00 02 00 02 00 05";
+    tells(W, CHARTER, form, "0 0.1:0 d0:1/1\n0 0.2:0 r a\n");
+    assert_eq!(slack(W, CHARTER, 18), Ok(bytes(form)));
+    assert_eq!(slack(W, CHARTER, 17), Err(19));
     assert_eq!(slack(W, CHARTER, 0), Err(19));
 }
 
@@ -54,38 +54,38 @@ fn questions_1_to_18_are_check_s() {
 #[test]
 fn needed_is_the_sum_of_a_class_at_each_entry() {
     let charter = "01 00 00 08 01 01 10 01 00 03 00 00";
-    let form = "00 02 00 01 10 01 00 02 00 03 00 00 02 00 01 10 01 00 02 00 03 00";
-    tells(TWICE, charter, form, "0 0.1 d0:2/3\n0 0.1 d0:2/3\n");
-    let form = "00 02 00 01 10 01 00 02 00 03 00 00 02 01 00 10 01 00 02 00 03 00";
-    tells(TWO_ORDERS, charter, form, "0 0.1 d0:2/3\n0 1.0 d0:2/3\n");
+    let form = "00 02 00 01 00 10 01 00 02 00 03 00 00 02 00 01 00 10 01 00 02 00 03 00";
+    tells(TWICE, charter, form, "0 0.1:0 d0:2/3\n0 0.1:0 d0:2/3\n");
+    let form = "00 02 00 01 00 10 01 00 02 00 03 00 00 02 01 00 00 10 01 00 02 00 03 00";
+    tells(TWO_ORDERS, charter, form, "0 0.1:0 d0:2/3\n0 1.0:0 d0:2/3\n");
 }
 
 #[test]
 fn granted_may_pass_4095() {
-    let form = "00 02 00 01 10 01 00 01 00 FE 1F";
-    tells(ONCE, "01 00 00 10 01 00 FF 0F 01 01 10 01 00 FF 0F 00", form, "0 0.1 d0:1/8190\n");
-    let sheet = "02 02 00 00 00 01 00 00 02 00 02 01 02 02 02 03 02 04 02 05 02 06 04 07 06 00 01 00";
+    let form = "00 02 00 01 00 10 01 00 01 00 FE 1F";
+    tells(ONCE, "01 00 00 10 01 00 FF 0F 01 01 10 01 00 FF 0F 00", form, "0 0.1:0 d0:1/8190\n");
+    let sheet = "02 02 00 00 00 01 00 00 02 00 02 01 02 02 02 03 02 04 02 05 02 06 04 07 00 06 00 01 00";
     let below: String = (1..8).map(|group| format!("01 {group:02X} 10 01 00 FF 0F ")).collect();
-    let form = "00 08 00 01 02 03 04 05 06 07 10 01 00 01 00 F8 7F";
-    tells(sheet, &format!("01 00 00 10 01 00 FF 0F {below}00"), form, "0 0.1.2.3.4.5.6.7 d0:1/32760\n");
+    let form = "00 08 00 01 02 03 04 05 06 07 00 10 01 00 01 00 F8 7F";
+    tells(sheet, &format!("01 00 00 10 01 00 FF 0F {below}00"), form, "0 0.1.2.3.4.5.6.7:0 d0:1/32760\n");
 }
 
 #[test]
 fn unlimited_on_each_side_by_itself() {
     let charter = "01 00 00 10 01 00 FF FF 01 01 00 00";
-    tells(ONCE, charter, "00 02 00 01 10 01 00 01 00 FF FF", "0 0.1 d0:1/*\n");
-    tells(UNLIMITED, charter, "00 02 00 01 10 01 00 FF FF FF FF", "0 0.1 d0:*/*\n");
-    tells(ONCE, "01 00 00 10 01 00 FF FF 01 01 10 01 00 05 00 00", "00 02 00 01 10 01 00 01 00 FF FF", "0 0.1 d0:1/*\n");
+    tells(ONCE, charter, "00 02 00 01 00 10 01 00 01 00 FF FF", "0 0.1:0 d0:1/*\n");
+    tells(UNLIMITED, charter, "00 02 00 01 00 10 01 00 FF FF FF FF", "0 0.1:0 d0:*/*\n");
+    tells(ONCE, "01 00 00 10 01 00 FF FF 01 01 10 01 00 05 00 00", "00 02 00 01 00 10 01 00 01 00 FF FF", "0 0.1:0 d0:1/*\n");
 }
 
 #[test]
 fn groups_that_an_entry_does_not_disclose_into_are_not_told() {
     let charter = "01 00 00 10 02 00 01 00 05 03 00 01 01 00 00";
-    tells(ONCE, charter, "00 02 00 01 10 01 00 01 00 01 00", "0 0.1 d0:1/1\n");
-    let into_two = "04 02 00 00 00 01 00 00 02 01 00 00 01 00 00 02 00 01 04 01 06 00 01 00 04 01 06 02 03 00";
+    tells(ONCE, charter, "00 02 00 01 00 10 01 00 01 00 01 00", "0 0.1:0 d0:1/1\n");
+    let into_two = "04 02 00 00 00 01 00 00 02 01 00 00 01 00 00 02 00 01 04 01 00 06 00 01 00 04 01 00 06 02 03 00";
     let charter = "01 00 00 10 02 00 02 00 01 03 00 01 01 00 00";
-    let form = "00 02 00 01 10 01 00 01 00 02 00 00 02 00 01 10 01 01 01 00 03 00";
-    tells(into_two, charter, form, "0 0.1 d0:1/2\n0 0.1 d1:1/3\n");
+    let form = "00 02 00 01 00 10 01 00 01 00 02 00 00 02 00 01 00 10 01 01 01 00 03 00";
+    tells(into_two, charter, form, "0 0.1:0 d0:1/2\n0 0.1:0 d1:1/3\n");
 }
 
 #[test]

@@ -1,10 +1,10 @@
 //! What the interface and the slack form have in common: an entry for each component and kind with a permission, by component, then rising
 //! kind. The two differ in what the list of an entry tells of a group.
 //!
-//! Bytes of an entry: kind; length of the path; path; permission map (bit 0 read, 1 write, 2 access, 4 disclose); and only if bit 4
-//! stands, how many groups, then for each the group and what the form tells of it, groups strictly rising.
+//! Bytes of an entry: kind; length of the path; path; purpose; permission map (bit 0 read, 1 write, 2 access, 4 disclose); and only if
+//! bit 4 stands, how many groups, then for each the group and what the form tells of it, groups strictly rising.
 
-use crate::{GROUPS, KINDS, PATH_MAX, UNLIMITED};
+use crate::{GROUPS, KINDS, PATH_MAX, PURPOSES, UNLIMITED};
 use std::fmt;
 use std::iter::FusedIterator;
 use std::marker::PhantomData;
@@ -16,6 +16,8 @@ pub struct EntryOf<D> {
     pub kind: u8,
     /// The groups passed on the way to the component, its own last.
     pub path: Vec<u8>,
+    /// What the component works for; 0 is ordinary work.
+    pub purpose: u8,
     pub read: bool,
     pub write: bool,
     pub access: bool,
@@ -69,9 +71,10 @@ const DISCLOSE: u8 = 16;
 fn take_entry<D: Listed>(rest: &mut &[u8]) -> Option<EntryOf<D>> {
     let kind = take_byte(rest, 0..KINDS)?;
     let path = take_path(rest)?;
+    let purpose = take_byte(rest, 0..PURPOSES)?;
     let map = take_map(rest)?;
     let disclose = if map & DISCLOSE != 0 { take_list(rest)? } else { Vec::new() };
-    Some(EntryOf { kind, path, read: map & READ != 0, write: map & WRITE != 0, access: map & ACCESS != 0, disclose })
+    Some(EntryOf { kind, path, purpose, read: map & READ != 0, write: map & WRITE != 0, access: map & ACCESS != 0, disclose })
 }
 
 /// Takes the first byte off, if there is one and it is in its range.
@@ -115,7 +118,7 @@ pub fn take_count(rest: &mut &[u8], range: RangeInclusive<u16>) -> Option<u16> {
 impl<D: fmt::Display> fmt::Display for EntryOf<D> {
     fn fmt(&self, f: &mut fmt::Formatter) -> fmt::Result {
         let path: Vec<String> = self.path.iter().map(u8::to_string).collect();
-        write!(f, "{} {}", self.kind, path.join("."))?;
+        write!(f, "{} {}:{}", self.kind, path.join("."), self.purpose)?;
         for (held, letter) in [(self.read, 'r'), (self.write, 'w'), (self.access, 'a')] {
             if held {
                 write!(f, " {letter}")?;

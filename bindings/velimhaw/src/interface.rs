@@ -4,7 +4,7 @@ use crate::entries::{shown, take_count, EntriesOf, EntryOf, Listed};
 use crate::COUNT_MAX;
 use std::fmt;
 
-/// An entry of the interface. It shows as `0 0.1 d0:1`, with `*` for unlimited.
+/// An entry of the interface. It shows as `0 0.1:0 d0:1`, with `*` for unlimited.
 pub type Entry = EntryOf<Disclosure>;
 
 /// The entries in the bytes of an interface.

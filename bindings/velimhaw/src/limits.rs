@@ -9,9 +9,9 @@ pub const SCRIPT_MAX: usize = 7168;
 /// The bytes of a names file, 80 names of 20 letters, each with the byte that ends it; a longer one breaks its rules.
 pub const NAMES_FILE_MAX: usize = 1680;
 /// The length of an output for which `check` never refuses with 19.
-pub const INTERFACE_MAX: usize = 18_432;
+pub const INTERFACE_MAX: usize = 18_944;
 /// The length of an output for which `slack` never refuses with 19.
-pub const SLACK_MAX: usize = 26_624;
+pub const SLACK_MAX: usize = 27_136;
 /// The length of a line for which `explain` never refuses with 19: the bytes of the longest sentence.
 pub const SENTENCE_MAX: usize = 230;
 /// The length of a log for which `play` never refuses with 22.
@@ -25,6 +25,8 @@ pub const MOVES_MAX: usize = 1024;
 pub const KINDS: u8 = 16;
 /// Groups are 0 to 63.
 pub const GROUPS: u8 = 64;
+/// Purposes are 0 to 15; 0 is ordinary work.
+pub const PURPOSES: u8 = 16;
 /// The groups of a path.
 pub const PATH_MAX: u8 = 8;
 /// Components are 0 to 31.

@@ -5,7 +5,7 @@ use crate::entries::{shown, take_count, EntriesOf, EntryOf, Listed};
 use crate::{GRANTED_MAX, NEEDED_MAX, UNLIMITED};
 use std::fmt;
 
-/// An entry of the slack form. It shows as the program `list` prints it, as `0 0.1 d0:1/1`, with `*` for unlimited.
+/// An entry of the slack form. It shows as the program `list` prints it, as `0 0.1:0 d0:1/1`, with `*` for unlimited.
 pub type SlackEntry = EntryOf<Sums>;
 
 /// The entries in the bytes of a slack form.
@@ -15,9 +15,9 @@ pub type SlackEntries<'a> = EntriesOf<'a, Sums>;
 #[derive(Clone, Copy, Debug, PartialEq, Eq)]
 pub struct Sums {
     pub group: u8,
-    /// What all components whose paths have the same groups need together, 1 to 4,096.
+    /// What all components with the entry's purpose whose paths have the same groups need together, 1 to 4,096.
     pub needed: u16,
-    /// What the charter grants the groups of that path together, 1 to 32,760.
+    /// What the charter grants the groups of that path together for that purpose, 1 to 32,760.
     pub granted: u16,
 }
 

@@ -22,7 +22,8 @@ fn a_refusal_shows_its_line() {
         assert_eq!(shown, format!("refused {number}, not met: {}", question(number).unwrap()));
     }
     let refusal: Box<dyn std::error::Error> = Box::new(Refusal::new(18));
-    assert_eq!(refusal.to_string(), "refused 18, not met: each entry covered by what the charter grants its path, counts added over the components with the same groups");
+    let line = "each entry covered by its path's grant for its purpose, counts added over components with the same groups and purpose";
+    assert_eq!(refusal.to_string(), format!("refused 18, not met: {line}"));
 }
 
 #[test]

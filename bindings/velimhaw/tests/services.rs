@@ -7,10 +7,10 @@ const KEPT: u8 = 0xaa;
 
 #[test]
 fn check_w() {
-    let mut output = [KEPT; 16];
-    assert_eq!(check(&w::SHEET, &w::CHARTER, &mut output), Answer::Accepted(14));
-    assert_eq!(output[..14], w::INTERFACE);
-    assert_eq!(output[14..], [KEPT; 2]);
+    let mut output = [KEPT; 18];
+    assert_eq!(check(&w::SHEET, &w::CHARTER, &mut output), Answer::Accepted(16));
+    assert_eq!(output[..16], w::INTERFACE);
+    assert_eq!(output[16..], [KEPT; 2]);
 }
 
 #[test]
@@ -27,7 +27,7 @@ fn try_check_answers_the_entries() {
     let entries = try_check(&w::SHEET, &w::CHARTER, &mut output).unwrap();
     assert_eq!(entries.rest(), w::INTERFACE);
     let lines: Vec<String> = entries.map(|entry| entry.to_string()).collect();
-    assert_eq!(lines, ["0 0.1 d0:1", "0 0.2 r a"]);
+    assert_eq!(lines, ["0 0.1:0 d0:1", "0 0.2:0 r a"]);
 }
 
 #[test]
@@ -49,7 +49,7 @@ fn empty_slices() {
 fn a_refused_check_leaves_the_output() {
     let long = [0; SHEET_MAX + 1];
     let cases: [(u8, &[u8], &[u8]); 4] =
-        [(1, &long, &w::CHARTER), (2, &w::SHEET[..28], &w::CHARTER), (11, &w::SHEET, &[]), (16, &w::SHEET, &[0])];
+        [(1, &long, &w::CHARTER), (2, &w::SHEET[..30], &w::CHARTER), (11, &w::SHEET, &[]), (16, &w::SHEET, &[0])];
     for (number, sheet, charter) in cases {
         let mut output = [KEPT; 32];
         assert_eq!(try_check(sheet, charter, &mut output).unwrap_err().number(), number.into());
@@ -59,9 +59,9 @@ fn a_refused_check_leaves_the_output() {
 
 #[test]
 fn a_short_output_or_log_is_left() {
-    let mut output = [KEPT; 13];
+    let mut output = [KEPT; 15];
     assert_eq!(try_check(&w::SHEET, &w::CHARTER, &mut output).unwrap_err().number(), 19);
-    assert_eq!(output, [KEPT; 13]);
+    assert_eq!(output, [KEPT; 15]);
     let mut log = [KEPT; 23];
     assert_eq!(try_play(&w::SHEET, &w::CHARTER, &w::SCRIPT, &mut log).unwrap_err().number(), 22);
     assert_eq!(log, [KEPT; 23]);
@@ -133,8 +133,8 @@ fn try_explain_answers_the_sentence() {
 
 /// Two components whose paths have the groups 0 and 1, in one order and in both; each discloses one link into group 0.
 const SHARING_SHEETS: [&[u8]; 2] = [
-    &[2, 2, 0, 0, 0, 1, 0, 0, 2, 0, 1, 4, 1, 6, 0, 1, 0, 4, 1, 6, 0, 1, 0],
-    &[2, 2, 0, 0, 0, 1, 0, 0, 1, 2, 0, 4, 1, 6, 0, 1, 0, 2, 1, 4, 0, 6, 0, 1, 0],
+    &[2, 2, 0, 0, 0, 1, 0, 0, 2, 0, 1, 4, 1, 0, 6, 0, 1, 0, 4, 1, 0, 6, 0, 1, 0],
+    &[2, 2, 0, 0, 0, 1, 0, 0, 1, 2, 0, 4, 1, 0, 6, 0, 1, 0, 2, 1, 4, 0, 0, 6, 0, 1, 0],
 ];
 
 /// A charter that lets such components disclose so many links into group 0.
@@ -144,15 +144,48 @@ fn sharing_charter(count: u8) -> [u8; 12] {
 
 #[test]
 fn components_with_the_same_groups_share_a_count() {
-    for (sheet, second) in SHARING_SHEETS.into_iter().zip(["0 0.1 d0:1", "0 1.0 d0:1"]) {
-        let mut output = [KEPT; 18];
+    for (sheet, second) in SHARING_SHEETS.into_iter().zip(["0 0.1:0 d0:1", "0 1.0:0 d0:1"]) {
+        let mut output = [KEPT; 20];
         assert_eq!(check(sheet, &sharing_charter(1), &mut output), Answer::Refused(18));
-        assert_eq!(output, [KEPT; 18]);
+        assert_eq!(output, [KEPT; 20]);
         let lines: Vec<String> = try_check(sheet, &sharing_charter(2), &mut output).unwrap().map(|entry| entry.to_string()).collect();
-        assert_eq!(lines, ["0 0.1 d0:1", second]);
+        assert_eq!(lines, ["0 0.1:0 d0:1", second]);
         let mut line = [KEPT; SENTENCE_MAX];
         assert_eq!(try_explain(sheet, &sharing_charter(1), &w::names(), &mut line), Ok(Some(w::SENTENCE)));
     }
+}
+
+/// Two components of one path with two purposes, and a charter that lets them disclose one link each for these purposes.
+const PURPOSES_SHEET: [u8; 25] = [2, 2, 0, 0, 0, 1, 0, 0, 2, 0, 1, 4, 1, 9, 6, 0, 1, 0, 4, 1, 15, 6, 0, 1, 0];
+
+fn purposes_charter(purposes: u16) -> [u8; 14] {
+    let [low, high] = purposes.to_le_bytes();
+    [1, 0, 0, 8, 1, 1, 48, 1, 0, 1, 0, low, high, 0]
+}
+
+#[test]
+fn components_with_two_purposes_have_a_count_each() {
+    let mut output = [KEPT; 20];
+    for purposes in [1 << 9, 1 << 15, !(1 << 9), !(1 << 15), 0] {
+        assert_eq!(check(&PURPOSES_SHEET, &purposes_charter(purposes), &mut output), Answer::Refused(18));
+        assert_eq!(output, [KEPT; 20]);
+    }
+    let charters: [&[u8]; 3] = [&sharing_charter(1), &purposes_charter(1 << 9 | 1 << 15), &purposes_charter(0xffff)];
+    for charter in charters {
+        let lines: Vec<String> = try_check(&PURPOSES_SHEET, charter, &mut output).unwrap().map(|entry| entry.to_string()).collect();
+        assert_eq!(lines, ["0 0.1:9 d0:1", "0 0.1:15 d0:1"]);
+    }
+    let mut log = [KEPT; 16];
+    let sent = |component: u8| Record::Output { channel: 0, name: 1, component };
+    let records: Vec<Record> = try_play(&PURPOSES_SHEET, &sharing_charter(1), &[2, 1, 2, 0], &mut log).unwrap().collect();
+    assert_eq!(records, [sent(1), sent(0)]);
+}
+
+#[test]
+fn purpose_16_is_refused() {
+    let sheet = |purpose: u8| [0, 4, 0, purpose, 0];
+    assert_eq!(check(&sheet(PURPOSES - 1), &[0], &mut []), Answer::Accepted(0));
+    assert_eq!(check(&sheet(PURPOSES), &[0], &mut []), Answer::Refused(4));
 }
 
 /// A component whose path has eight groups discloses a link, under a charter that gives those groups nothing.
@@ -163,7 +196,7 @@ fn longest_path() -> (Vec<u8>, Vec<u8>) {
         sheet.extend([2, group]);
         charter.extend([group, 0, 1]);
     }
-    sheet.extend([4, 7, 6, 0, 1, 0]);
+    sheet.extend([4, 7, 0, 6, 0, 1, 0]);
     charter.extend([7, 0, 0]);
     (sheet, charter)
 }
@@ -195,8 +228,9 @@ fn the_constants_of_the_header_are_these() {
     let sizes = [("SHEET_MAX", SHEET_MAX), ("CHARTER_MAX", CHARTER_MAX), ("SCRIPT_MAX", SCRIPT_MAX), ("INTERFACE_MAX", INTERFACE_MAX)];
     let sums = [("SLACK_MAX", SLACK_MAX), ("NEEDED_MAX", NEEDED_MAX.into()), ("GRANTED_MAX", GRANTED_MAX.into())];
     let texts = [("NAMES_FILE_MAX", NAMES_FILE_MAX), ("SENTENCE_MAX", SENTENCE_MAX)];
+    let fields = [("KINDS", KINDS.into()), ("GROUPS", GROUPS.into()), ("PURPOSES", PURPOSES.into()), ("PATH_MAX", PATH_MAX.into())];
     let more = [("RECORD_LENGTH", RECORD_LENGTH), ("LOG_MAX", LOG_MAX), ("MOVES_MAX", MOVES_MAX), ("UNLIMITED", UNLIMITED.into())];
-    for (name, value) in sizes.into_iter().chain(sums).chain(texts).chain(more) {
+    for (name, value) in sizes.into_iter().chain(sums).chain(texts).chain(fields).chain(more) {
         assert!(header.contains(&format!("#define VELIMHAW_{name} {value}u")), "{name}");
     }
 }

@@ -5,11 +5,11 @@ use velimhaw::{SlackEntries, SlackEntry, Sums, GRANTED_MAX, NEEDED_MAX, UNLIMITE
 
 fn sender() -> SlackEntry {
     let disclose = vec![Sums { group: 0, needed: 1, granted: 1 }];
-    SlackEntry { kind: 0, path: vec![0, 1], read: false, write: false, access: false, disclose }
+    SlackEntry { kind: 0, path: vec![0, 1], purpose: 0, read: false, write: false, access: false, disclose }
 }
 
 fn receiver() -> SlackEntry {
-    SlackEntry { kind: 0, path: vec![0, 2], read: true, write: false, access: true, disclose: vec![] }
+    SlackEntry { kind: 0, path: vec![0, 2], purpose: 0, read: true, write: false, access: true, disclose: vec![] }
 }
 
 /// How many entries are taken off, and how many bytes are left then.
@@ -21,7 +21,7 @@ fn taken(bytes: &[u8]) -> (usize, usize) {
 /// The sums taken off an entry for one group, if they are.
 fn only(needed: u16, granted: u16) -> Option<Sums> {
     let ([n0, n1], [g0, g1]) = (needed.to_le_bytes(), granted.to_le_bytes());
-    SlackEntries::new(&[0, 1, 0, 16, 1, 7, n0, n1, g0, g1]).next().map(|entry| entry.disclose[0])
+    SlackEntries::new(&[0, 1, 0, 0, 16, 1, 7, n0, n1, g0, g1]).next().map(|entry| entry.disclose[0])
 }
 
 #[test]
@@ -32,17 +32,17 @@ fn entries_of_w() {
 
 #[test]
 fn shown_as_list_prints_them() {
-    assert_eq!(sender().to_string(), "0 0.1 d0:1/1");
-    assert_eq!(receiver().to_string(), "0 0.2 r a");
+    assert_eq!(sender().to_string(), "0 0.1:0 d0:1/1");
+    assert_eq!(receiver().to_string(), "0 0.2:0 r a");
     let disclose = vec![Sums { group: 5, needed: 2, granted: UNLIMITED }, Sums { group: 63, needed: UNLIMITED, granted: UNLIMITED }];
-    let entry = SlackEntry { kind: 15, path: vec![63], read: false, write: true, access: false, disclose };
-    assert_eq!(entry.to_string(), "15 63 w d5:2/* d63:*/*");
+    let entry = SlackEntry { kind: 15, path: vec![63], purpose: 15, read: false, write: true, access: false, disclose };
+    assert_eq!(entry.to_string(), "15 63:15 w d5:2/* d63:*/*");
 }
 
 #[test]
 fn truncated_anywhere() {
     for length in 0..=w::SLACK.len() {
-        let (whole, bytes) = if length < 11 { (0, 0) } else if length < 16 { (1, 11) } else { (2, 16) };
+        let (whole, bytes) = if length < 12 { (0, 0) } else if length < 18 { (1, 12) } else { (2, 18) };
         assert_eq!(taken(&w::SLACK[..length]), (whole, length - bytes));
     }
 }
@@ -50,25 +50,25 @@ fn truncated_anywhere() {
 #[test]
 fn malformed_in_the_first_entry() {
     let changes = [
-        (0, 16), (1, 0), (1, 9), (2, 64), (3, 255), (4, 0), (4, 0x08), (4, 0x18), (4, 0x20), (5, 0), (5, 65), (6, 64), (7, 0), (7, 2),
-        (8, 0x10), (9, 0), (10, 0x80),
+        (0, 16), (1, 0), (1, 9), (2, 64), (3, 255), (4, 16), (4, 255), (5, 0), (5, 0x08), (5, 0x18), (5, 0x20), (5, 0x30), (6, 0), (6, 65),
+        (7, 64), (8, 0), (8, 2), (9, 0x10), (10, 0), (11, 0x80),
     ];
     for (at, value) in changes {
         let mut bytes = w::SLACK;
         bytes[at] = value;
-        assert_eq!(taken(&bytes), (0, 16), "{value} at {at}");
+        assert_eq!(taken(&bytes), (0, 18), "{value} at {at}");
     }
 }
 
 #[test]
 fn malformed_in_the_second_entry() {
     let mut bytes = w::SLACK;
-    bytes[15] = 8;
+    bytes[17] = 8;
     let mut entries = SlackEntries::new(&bytes);
     assert_eq!(entries.next(), Some(sender()));
     assert_eq!(entries.next(), None);
     assert_eq!(entries.next(), None);
-    assert_eq!(entries.rest(), [0, 2, 0, 2, 8]);
+    assert_eq!(entries.rest(), [0, 2, 0, 2, 0, 8]);
 }
 
 #[test]
@@ -94,14 +94,14 @@ fn slack_is_granted_less_needed() {
 
 #[test]
 fn groups_of_a_list_rise() {
-    assert_eq!(taken(&[0, 1, 0, 16, 2, 3, 1, 0, 1, 0, 5, 1, 0, 1, 0]), (1, 0));
-    assert_eq!(taken(&[0, 1, 0, 16, 2, 5, 1, 0, 1, 0, 3, 1, 0, 1, 0]).0, 0);
-    assert_eq!(taken(&[0, 1, 0, 16, 2, 5, 1, 0, 1, 0, 5, 1, 0, 1, 0]).0, 0);
+    assert_eq!(taken(&[0, 1, 0, 0, 16, 2, 3, 1, 0, 1, 0, 5, 1, 0, 1, 0]), (1, 0));
+    assert_eq!(taken(&[0, 1, 0, 0, 16, 2, 5, 1, 0, 1, 0, 3, 1, 0, 1, 0]).0, 0);
+    assert_eq!(taken(&[0, 1, 0, 0, 16, 2, 5, 1, 0, 1, 0, 5, 1, 0, 1, 0]).0, 0);
 }
 
 #[test]
 fn longest_entry() {
-    let mut bytes = vec![15, 8, 0, 1, 2, 3, 4, 5, 6, 63, 0x17, 64];
+    let mut bytes = vec![15, 8, 0, 1, 2, 3, 4, 5, 6, 63, 15, 0x17, 64];
     bytes.extend((0..64).flat_map(|group| [group, 1, 0, 1, 0]));
     assert_eq!(taken(&bytes), (1, 0));
     assert_eq!(taken(&bytes[..bytes.len() - 1]).0, 0);

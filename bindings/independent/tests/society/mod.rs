@@ -3,7 +3,7 @@
 
 use independent::names::Names;
 
-pub const W: &str = "02 02 00 00 00 01 00 00 02 00 01 04 01 06 00 01 00 04 02 05 00 01 00 00 05 02 00 00 00";
+pub const W: &str = "02 02 00 00 00 01 00 00 02 00 01 04 01 00 06 00 01 00 04 02 00 05 00 01 00 00 05 02 00 00 00";
 pub const CHARTER: &str = "01 00 00 08 02 01 10 01 00 01 00 00 02 05 00";
 
 pub fn bytes(hex: &str) -> Vec<u8> {
