@@ -1,4 +1,4 @@
-// What the programs `list` and `run` do, each on the files of the folder it is run in (an absent file as empty).
+// What the programs `list`, `run`, `upgrade` and `downgrade` do, each on the files of the folder it is run in (an absent file as empty).
 use execution::play;
 use explaining::examine;
 use files::first;
@@ -116,4 +116,33 @@ pub fn run() {
         }
         Answer::Refused(n) => print_refused(n),
     }
+}
+
+// Writes a moved sheet's bytes alone, or `refused N`.
+pub fn write_moved(answer: Answer, output: &[u8]) {
+    match answer {
+        Answer::Accepted(n) => {
+            io::write_all(STDOUT_FILENO, first(output, n));
+        }
+        Answer::Refused(n) => print_refused(n),
+    }
+}
+
+// The program `upgrade`: reads `sheet.bin`, an old sheet, and writes its new form, or `refused N`. No moved sheet is longer than the
+// output that is lent (`upgrade-always-room` and `downgrade-always-room` in the crate moving's proofs/MoveLaws.antt).
+pub fn upgrade() {
+    let mut sheet = [0u8; 4097];
+    let mut output = [0u8; 4096];
+    let s = load(b"sheet.bin", &mut sheet);
+    let answer = moving::upgrade(first(&sheet, s), &mut output);
+    write_moved(answer, &output);
+}
+
+// The program `downgrade`: the same from the new form to the old.
+pub fn downgrade() {
+    let mut sheet = [0u8; 4097];
+    let mut output = [0u8; 4096];
+    let s = load(b"sheet.bin", &mut sheet);
+    let answer = moving::downgrade(first(&sheet, s), &mut output);
+    write_moved(answer, &output);
 }

@@ -18,6 +18,7 @@ use Rattle.reading.proofs.FormLaws.{both-true}
 use Rattle.reading.proofs.QuestionLaws.{sheet-question}
 use Rattle.reading.proofs.TreeLaws.{sheet-parts}
 use Rattle.inference.specs.Lists.{every, only, gather, rising}
+use Rattle.inference.proofs.EveryLaws.{every-both}
 use Rattle.inference.specs.Acts.{Act, Component, Located, actsOf, located}
 use Rattle.inference.specs.Walks.{worstAll}
 use Rattle.inference.specs.Counts.{isZero}
@@ -53,7 +54,7 @@ use Rattle.fit.proofs.SearchLaws.{uncovered-none}
 use Rattle.naming.specs.Names.{Names, readNames}
 use Rattle.naming.specs.Sentence.{sentence, groupInRange, Numbered}
 use Rattle.naming.proofs.NameLaws.{names-forty}
-use Rattle.naming.proofs.SentenceLaws.{every-both, sentence-tells, sentence-length, sentence-some}
+use Rattle.naming.proofs.SentenceLaws.{sentence-tells, sentence-length, sentence-some}
 use Rattle.service.specs.Questions.{Asked, passed, failed, ask, Accepted, judged}
 use Rattle.service.specs.Check.{Outcome, fitting, written}
 use Rattle.service.specs.Later.{orPassed, policyThenEntries, afterPolicy, laterFault}

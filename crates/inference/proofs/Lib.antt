@@ -14,3 +14,5 @@ pub mod ClassLaws
 pub mod KindLaws
 pub mod ActLaws
 pub mod FaultLaws
+pub mod EveryLaws
+pub mod GatherLaws

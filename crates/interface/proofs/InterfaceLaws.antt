@@ -13,20 +13,16 @@ use Rattle.inference.specs.Lists.{only, gather, rising}
 use Rattle.inference.specs.Counts.{fin, unlimited, isZero, countNumber}
 use Rattle.inference.specs.Interface.{Disclosure, Entry, isEmpty, holdsAny, bit, mapOf, disclosureBytes, headThen, listBytes, entryBytes, interfaceBytes}
 use Rattle.inference.specs.Rows.{pathAt, cell, countOf, isSet, groupCount, groupAt, disclosuresAt, entryAt, usedKinds, rowEntries, tableEntries}
+use Rattle.inference.proofs.GatherLaws.{gather-append}
 use Rattle.interface.specs.Writes.{groupBytes, entryBytesAt}
 use Rattle.interface.proofs.WriteLaws.{partsFrom}
 
 -- Parts gathered of parts.
 module _ {A B : Type 0} (h : A → List B) where
-  pub gather-append : (xs ys : List A) → gather h (xs ++ ys) ≡ gather h xs ++ gather h ys
-  unfolding gather
-  gather-append [] ys = refl
-  gather-append (x ∷ xs) ys = rw (append-assoc, gather-append xs ys)
-
   pub gather-gather : {K : Type 0} (f : K → List A) (ks : List K) → gather h (gather f ks) ≡ gather (λ k. gather h (f k)) ks
   unfolding gather
   gather-gather f [] = refl
-  gather-gather f (k ∷ ks) = gather-append (f k) (gather f ks) ∙ ap (λ (l : List B). gather h (f k) ++ l) (gather-gather f ks)
+  gather-gather f (k ∷ ks) = gather-append h (f k) (gather f ks) ∙ ap (λ (l : List B). gather h (f k) ++ l) (gather-gather f ks)
 
   pub gather-few : (b : ℕ) → ((x : A) → length (h x) ≤ b) → (xs : List A) → length (gather h xs) ≤ b * length xs
   unfolding gather

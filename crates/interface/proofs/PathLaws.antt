@@ -21,6 +21,7 @@ use Rattle.inference.specs.Typing.{inScope, onChannel, carriesObject, inPath}
 use Rattle.inference.specs.Walks.{worst}
 use Rattle.inference.proofs.ActLaws.{total-append}
 use Rattle.inference.proofs.CountLaws.{nothing-join}
+use Rattle.inference.proofs.EveryLaws.{every-parts}
 use Rattle.inference.proofs.FaultLaws.{firstNo, worst-tests}
 use Rattle.inference.proofs.NeedLaws.{disclosed-in-path}
 
@@ -49,13 +50,6 @@ act-inside a k g e m = go (needOf a) refl
     go (Access t) f = refl
     go (Disclose t h) f = other t h (disclosed-in-path a t h f e) (ℕ-discrete h g)
 
-every-append : (p : Act → Bool) (xs ys : List Act) → every p (xs ++ ys) ≡ true → (every p xs ≡ true) × (every p ys ≡ true)
-unfolding every
-every-append p [] ys e = (refl, e)
-every-append p (x ∷ xs) ys e =
-    let rest = every-append p xs ys (both-right (p x) (every p (xs ++ ys)) e) in
-    (rw (both-left (p x) (every p (xs ++ ys)) e) (rest .0), rest .1)
-
 pub weighs-nothing : (b : Bool) → weigh b 0 ≡ fin 0
 unfolding weigh repeatedly
 weighs-nothing true = refl
@@ -81,7 +75,7 @@ module _ (c : Component) (k g : ℕ) (m : member g (c .path) ≡ false) where
   unfolding acts
   process-inside r scope nil e = unfold disclosed total in refl
   process-inside r scope (par p q) e =
-      let both = every-append inPath (acts c r scope p) (acts c r scope q) e in
+      let both = every-parts inPath (acts c r scope p) (acts c r scope q) e in
       let left = process-inside r scope p (both .0) in
       let right = process-inside r scope q (both .1) in
       joined (acts c r scope p) (acts c r scope q) left right

@@ -5,24 +5,22 @@ use Prim.Native.Nat.{ℕ, zero, suc, _+_, _-_, _*_, _<_, _≤_}
 use mathlib.Core.Option.{Option, some}
 use mathlib.Core.Path.{_≡_, refl, sym, ap, ap₂, _∙_}
 use mathlib.Core.List.{List, [], _∷_, _++_, map}
-use mathlib.Core.Bool.{Bool, true, false, cond, _||_}
+use mathlib.Core.Bool.{Bool, true, false, _||_}
 use native.Mathlib.Omega.{arith}
 use lib.ListN.{length, getD, replicate, length-append, length-replicate, getD-replicate, List·getD-append, List·getD-eq-default}
 use lib.Seq.{getD-append-seam}
 use lib.Dec.{eqb}
-use Rattle.reading.specs.Dialects.{groupsIn}
 use Rattle.reading.specs.declared.Dialect.the-variants.{Current as current}
 use borrow.Author.Tests.{eqb-false, ne-eqb}
-use Rattle.reading.specs.Read.{Read, got, refused, andThen, byteAt, below}
-use Rattle.reading.specs.Types.{typeAt}
+use Rattle.reading.specs.Read.{Read, got, refused, andThen}
 use Rattle.reading.specs.Syntax.{Process, nil, par, new, input, output, repl, System, nilₛ, parₛ, groupₛ, newₛ, compₛ, Sheet, components}
 use native.Mathlib.Decide.{ℕ-discrete, decLt}
-use Rattle.reading.specs.Forms.{member, freshGroupIn, groupFormIn, purposeIn, componentFormIn, newFormIn, systemFormIn, systemAtIn, systemAt, processAt}
+use Rattle.reading.specs.Forms.{member, systemAt, processAt}
 use Rattle.reading.specs.System.{processFrom, readProcessIn, readProcess, component, systemFrom, readSystemIn, readSystem}
 use Rattle.reading.specs.declared.Form.{Form}
 use Rattle.reading.specs.declared.Form.the-variants.{Nil, Par, Group, New, Component, Input, Output, Replicate}
-use Rattle.reading.proofs.Parts.{never, parts, below-found, Every, of-found, every-then, every-cond, every-limited}
-use Rattle.reading.proofs.FormLaws.{FitsSystem, system-room, purpose-small}
+use Rattle.reading.proofs.Parts.{never, parts}
+use Rattle.reading.proofs.FormLaws.{FitsSystem, NewTo, GroupNew, system-room, system-group}
 use Rattle.reading.proofs.ReadLaws.{process-local, read-system-local}
 use Rattle.reading.proofs.Local.{place-after}
 use Rattle.reading.proofs.TreeLaws.{components-few, SheetParts}
@@ -112,42 +110,6 @@ own-acts c r scope (new t p) = own-acts c r (scope ++ (some t ∷ [])) p
 own-acts c r scope (input x t p) = of-more refl (own-acts c r (scope ++ (some t ∷ [])) p)
 own-acts c r scope (output x y p) = of-more refl (own-acts c r scope p)
 own-acts c r scope (repl p) = own-acts c true scope p
-
--- A form's group is below 64 and new to its path (question 6), and its purpose below 16.
-record NewTo (path : List ℕ) (g : ℕ) : Type 0 where
-  small : g < 64
-  fresh : member g path ≡ false
-
-unfoldable GroupNew : List ℕ → Form → Type 0
-GroupNew path Nil = Unit {0}
-GroupNew path Par = Unit {0}
-GroupNew path (Group g) = NewTo path g
-GroupNew path (New t) = Unit {0}
-GroupNew path (Component own) = NewTo path (own .group) × (own .purpose < 16)
-GroupNew path (Input a) = Unit {0}
-GroupNew path (Output a) = Unit {0}
-GroupNew path Replicate = Unit {0}
-
-fresh-new : (s : List ℕ) (at : ℕ) (path : List ℕ) → Every (NewTo path) (freshGroupIn current s at path)
-unfolding Every freshGroupIn groupsIn
-fresh-new s at path = every-then (NewTo path) (below 64 s at) _ (λ g next e. go g next (below-found 64 s at e) (member g path) refl)
-  where
-    go : (g next : ℕ) → g < 64 → (b : Bool) → member g path ≡ b → Every (NewTo path) (cond b (refused 6 at) (got g next))
-    go g next l true e = tt
-    go g next l false e = record { small = l; fresh = e }
-
-form-group : (s : List ℕ) (at nest names : ℕ) (path : List ℕ) (preceding : ℕ) → Every (GroupNew path) (systemAt s at nest names path preceding)
-unfolding Every GroupNew systemAtIn systemFormIn groupFormIn componentFormIn newFormIn
-form-group s at nest names path preceding = every-then P (byteAt s at) _ (λ code next _.
-    every-cond P (eqb code 0) _ _ (every-limited P _ at _ (λ e. tt))
-    (every-cond P (eqb code 1) _ _ (every-limited P _ at _ (λ e. tt))
-    (every-cond P (eqb code 2) _ _ (every-limited P _ at _ (λ e. every-then P (freshGroupIn current s next path) _ (λ g m h. of-found _ (freshGroupIn current s next path) (fresh-new s next path) h)))
-    (every-cond P (eqb code 3) _ _ (every-limited P _ at _ (λ e. every-then P (typeAt s next) _ (λ t m h. tt)))
-    (every-cond P (eqb code 4) _ _ (every-limited P _ at _ (λ e. every-then P (freshGroupIn current s next path) _ (λ g m h.
-    every-then P (purposeIn current s m) _ (λ p k i. (of-found _ (freshGroupIn current s next path) (fresh-new s next path) h, purpose-small current s m i))))) tt)))))
-  where
-    P : Form → Type 0
-    P = GroupNew path
 
 -- A group that is new to a path, put after it, stands in it once.
 member-append : (x g : ℕ) (path : List ℕ) → member x (path ++ (g ∷ [])) ≡ (member x path || eqb g x)
@@ -278,7 +240,7 @@ store-read (suc n) s names path preceding at scope p k e fits few =
     (λ ns q i m sc r j f fi fe. store-read n s ns q i m sc r j f fi fe)
     (λ m r j f. acts-read n s names m f) at names path preceding scope fits (a .value) (a .place)
     (fits-any (suc n) names (length path) preceding (a .value) (system-room current s at (suc n) names path preceding (a .first)))
-    (of-found _ (systemAt s at (suc n) names path preceding) (form-group s at (suc n) names path preceding) (a .first)) (a .rest) few
+    (system-group current s at (suc n) names path preceding (a .first)) (a .rest) few
 
 -- The components of a sheet that was read can be stored, and there are at most 32.
 pub sheet-storable : (s charter : List ℕ) (sheet : Sheet) (k : ℕ) → SheetParts s charter sheet k → AllStorable 0 (located sheet)

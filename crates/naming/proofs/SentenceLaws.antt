@@ -11,6 +11,7 @@ use lib.ListN.{length, getD, drop, length-append}
 use Rattle.reading.specs.Read.{got}
 use Rattle.reading.proofs.FormLaws.{both-true}
 use Rattle.inference.specs.Lists.{every, gather}
+use Rattle.inference.proofs.EveryLaws.{every-both}
 use Rattle.inference.specs.Interface.{Permission, reading, writing, accessing, disclosing}
 use Rattle.fit.specs.Uncovered.{Uncovered}
 use Rattle.naming.specs.Names.{isLetter, Names, readNames}
@@ -195,11 +196,6 @@ every-more : {A : Type 0} (p q : A → Bool) → ((x : A) → p x ≡ true → q
 unfolding every
 every-more p q f [] h = refl
 every-more p q f (x ∷ xs) h = let o = both-true (p x) (every p xs) h in rw (f x (o .0)) (every-more p q f xs (o .1))
-
-pub every-both : {A : Type 0} (p : A → Bool) (xs ys : List A) → every p xs ≡ true → every p ys ≡ true → every p (xs ++ ys) ≡ true
-unfolding every
-every-both p [] ys h k = k
-every-both p (x ∷ xs) ys h k = let o = both-true (p x) (every p xs) h in rw (o .0) (every-both p xs ys (o .1) k)
 
 isByte : ℕ → Bool
 isByte b = ltb b 256

@@ -10,7 +10,7 @@ use Rattle.reading.proofs.Parts.{Every, of-found, every-then, every-cond}
 use Rattle.reading.specs.Read.{Read, got, refused, byteAt, below}
 use Rattle.reading.specs.System.{toItsEnd}
 use Rattle.policy.specs.Syntax.{Granted, Permissions, Node, Nodes, none, more, Tree, alone, hasBit, heads}
-use Rattle.policy.specs.Reading.{asEleven, must, twoBytes, isCount, itemAt, readList, countedList, readPurposes, readPermissions, children, readNode, readTrees, readPolicy}
+use Rattle.policy.specs.Reading.{asEleven, must, twoBytes, isCount, itemAt, readList, countedList, readPurposes, mapsIn, readPermissionsIn, readPermissions, children, readNodeIn, readNode, readTreesIn, readTrees, readPolicyIn, readPolicy}
 
 -- A list of such counts, nodes whose lists are such, and trees of such nodes.
 unfoldable pub inCounts : List Granted → Bool
@@ -58,7 +58,7 @@ list-counted (suc n) s lowest at =
     both d rest g h = rw (g, h)
 
 permissions-counted : (s : List ℕ) (at : ℕ) → Every (λ p. inCounts (p .list) ≡ true) (readPermissions s at)
-unfolding Every readPermissions countedList
+unfolding Every mapsIn readPermissionsIn countedList
 permissions-counted s at =
     every-then P (below 64 s at) _ (λ map m _. every-then P _ _ (λ list k e. every-then P (readPurposes map s k) _ (λ purposes i _.
     of-found Q _ (every-cond Q (hasBit 16 map) _ _ (counted m) none-listed) e)))
@@ -89,7 +89,7 @@ children-counted read h (suc n) used at =
     beside first rest (of-found _ (read used at) (h used at) e) (of-found Counted _ (children-counted read h n (used + length (heads first)) m) f)))
 
 node-counted : (depth : ℕ) (s : List ℕ) (used at : ℕ) → Every (λ n. Counted (alone n)) (readNode depth s used at)
-unfolding Every readNode alone
+unfolding Every readNodeIn alone
 node-counted zero s used at = tt
 node-counted (suc depth) s used at =
     every-must P _ at _ (λ _. every-then P (below 64 s at) _ (λ g m _. every-then P (readPermissions s m) _ (λ p k e.
@@ -101,7 +101,7 @@ node-counted (suc depth) s used at =
     P n = Counted (alone n)
 
 trees-counted : (n : ℕ) (s : List ℕ) (used at : ℕ) → Every AllCounted (readTrees n s used at)
-unfolding Every readTrees
+unfolding Every readTreesIn
 trees-counted zero s used at = all-none
 trees-counted (suc n) s used at =
     every-then AllCounted (below 16 s at) _ (λ kind m _. every-then AllCounted (readNode 8 s used m) _ (λ root k e.
@@ -110,7 +110,7 @@ trees-counted (suc n) s used at =
 
 -- A policy that was read.
 pub policy-counted : (s : List ℕ) → Every AllCounted (readPolicy s)
-unfolding Every readPolicy toItsEnd
+unfolding Every readPolicyIn toItsEnd
 policy-counted s =
     every-eleven AllCounted _ (every-then AllCounted (below 17 s 0) _ (λ n m _. every-then AllCounted (readTrees n s 0 m) _ (λ trees k e.
     every-cond AllCounted (eqb k (length s)) (got trees k) (refused 3 k) (of-found AllCounted _ (trees-counted n s 0 m) e) tt)))

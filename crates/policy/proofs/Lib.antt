@@ -1,6 +1,7 @@
 -- Laws of the policy's definitions, and the lemmas that its functions' proofs share.
 pub mod Cases
 pub mod PurposeCases
+pub mod DialectLaws
 pub mod NodeLaws
 pub mod RowLaws
 pub mod SpanSteps

@@ -19,7 +19,7 @@ use Rattle.reading.specs.declared.NumberRead.{NumberRead}
 use Rattle.reading.specs.declared.NumberRead.the-variants as number-read
 use Rattle.policy.proofs.StoreLaws.{stored-rows}
 use Rattle.policy.specs.Syntax.{Permissions, Node, Nodes, none, more, alone, heads, headsOf}
-use Rattle.policy.specs.Reading.{must, children, readPermissions, readNode}
+use Rattle.policy.specs.Reading.{must, children, readPermissions, readNodeIn, readNode}
 use Rattle.policy.specs.Rows.{withNode, flatOf, flats, flatten}
 use Rattle.policy.specs.Loads.{Opened, readOpening, openingRead, openingFits, OpeningFits, whyNot, nodeRead, childrenRead, rowsOnly, Loaded}
 use Rattle.policy.specs.declared.Opening.{Opening}
@@ -176,7 +176,7 @@ opening-first c at f = group-of (below 64 c at)
 pub node-suc : (level : ℕ) (c : List ℕ) (used at : ℕ) → readNode (suc level) c used at
     ≡ must (ltb used 64) at (andThen (readOpening c at) (λ o e.
     andThen (childrenRead level c (o .children) (used + 1) e) (λ ns end. got (record { group = o .head .group; permissions = o .head .permissions; below = ns }) end)))
-unfolding readNode childrenRead
+unfolding readNodeIn childrenRead
 node-suc level c used at = ap (λ (x : Read Node). must (ltb used 64) at x) (opening-first c at (λ g p n e.
     andThen (children (λ u i. readNode level c u i) n (used + 1) e) (λ ns end. got (record { group = g; permissions = p; below = ns }) end)))
 
@@ -227,7 +227,7 @@ module _ (c : List ℕ) (d used : ℕ) (nodes nodes₁ nodes₂ : List ℕ) (r :
 module _ (level : ℕ) (c : List ℕ) (used at : ℕ) (nodes : List ℕ) where
   pub too-deep : (d : ℕ) (w : NumberRead) → level ≡ 0 → w ≡ number-read.Refused (record { question = 11; at = at })
       → Loaded c (nodeRead (readNode level c used at)) d used nodes nodes w
-  unfolding readNode nodeRead
+  unfolding readNodeIn nodeRead
   too-deep d w e h = not-loaded d used w 11 at (rw e) (rw h)
 
   module _ (h : level ≡ 0 → ⊥) where

@@ -18,7 +18,7 @@ use Rattle.reading.specs.declared.NumberRead.{NumberRead}
 use Rattle.reading.specs.declared.NumberRead.the-variants as number-read
 use Rattle.policy.proofs.ListLaws.{ByteIs, below-is, word-is, list-is, held}
 use Rattle.policy.specs.Syntax.{Granted, hasBit}
-use Rattle.policy.specs.Reading.{must, twoBytes, readList, countedList, readPurposes, readPermissions}
+use Rattle.policy.specs.Reading.{must, twoBytes, readList, countedList, readPurposes, mapsIn, readPermissionsIn, readPermissions}
 use Rattle.policy.specs.Rows.{wordIn, itemsAt, permissionsOf}
 use Rattle.policy.specs.Loads.{countOnly, permissionsRead, permissionsFit, PermissionsFit}
 use Rattle.policy.specs.declared.Permissions.{Permissions as Stored}
@@ -104,7 +104,7 @@ no-permissions-fit w q e = rw e tt
 -- Permissions: the map, the list and the purposes.
 module _ (s : List ℕ) (at : ℕ) (r : NumberRead) (e : number r ≡ below 64 s at) where
   pub map-refused : (q : Refusal) (w : PermissionsRead) → r ≡ number-read.Refused q → w ≡ permissions-read.Refused (refusalOf r) → permissionsRead s w ≡ readPermissions s at
-  unfolding readPermissions andThen
+  unfolding mapsIn readPermissionsIn andThen
   map-refused q w f k = let z = sym (rw f at e) in rw (z, k, f)
 
   module _ (m : Number) (f : r ≡ number-read.Found m) where
@@ -116,7 +116,7 @@ module _ (s : List ℕ) (at : ℕ) (r : NumberRead) (e : number r ≡ below 64 s
 
     map-read : readPermissions s at ≡ andThen (listFor (m .value) s (m .next)) (λ list k.
         andThen (readPurposes (m .value) s k) (λ purposes e. got (record { map = m .value; list = list; purposes = purposes }) e))
-    unfolding readPermissions andThen
+    unfolding mapsIn readPermissionsIn andThen
     map-read = let z = sym (rw f at e) in rw z
 
     pub list-place : length s ≤ 4096 → Fits w64 (m .next + 1)

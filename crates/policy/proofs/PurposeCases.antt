@@ -8,9 +8,10 @@ use lib.Dec.{eqb}
 use Rattle.reading.specs.Forms.{member}
 use Rattle.reading.specs.Read.{Read, got, refused, andThen, byteAt, below}
 use Rattle.reading.specs.System.{toItsEnd}
+use Rattle.reading.specs.declared.Dialect.the-variants.{Old as old}
 use Rattle.inference.specs.Lists.{every, gather}
 use Rattle.policy.specs.Syntax.{Permissions, Tree, alone, headsOf, heads, hasBit, bitAt}
-use Rattle.policy.specs.Reading.{asEleven, must, twoBytes, isCount, itemAt, readList, countedList, readPurposes, readPermissions, children, readNode, readTrees, readPolicy}
+use Rattle.policy.specs.Reading.{asEleven, must, twoBytes, isCount, itemAt, readList, countedList, readPurposes, mapsIn, readPermissionsIn, readPermissions, children, readNodeIn, readTreesIn, readPolicyIn, readPolicy}
 use Rattle.policy.specs.WellFormed.{sameList, samePermissions, agree, metFrom, metIn, isNew, isSame, faultOf, nodeFault, firstFault, nodesFault, disclosedTo, groupsAt, keepsWithin, allKeep, fenced}
 
 -- 16 where no question fails.
@@ -44,8 +45,22 @@ policies =
     []
 
 pub cases-hold : map (λ c. answer (readPolicy c)) policies ≡ 16 ∷ 16 ∷ 16 ∷ 11 ∷ 11 ∷ 11 ∷ 11 ∷ 11 ∷ 11 ∷ 14 ∷ 14 ∷ 16 ∷ 15 ∷ 15 ∷ []
-unfolding asEleven must twoBytes isCount itemAt readList countedList readPurposes readPermissions children readNode readTrees readPolicy andThen byteAt below toItsEnd alone headsOf heads hasBit member every gather sameList samePermissions agree metFrom metIn isNew isSame faultOf nodeFault firstFault nodesFault disclosedTo groupsAt keepsWithin allKeep fenced
+unfolding asEleven must twoBytes isCount itemAt readList countedList readPurposes mapsIn readPermissionsIn children readNodeIn readTreesIn readPolicyIn andThen byteAt below toItsEnd alone headsOf heads hasBit member every gather sameList samePermissions agree metFrom metIn isNew isSame faultOf nodeFault firstFault nodesFault disclosedTo groupsAt keepsWithin allKeep fenced
 cases-hold = refl
+
+-- Maps around the bounds of the two dialects: what is answered now, and what was just before Q-6.
+abbrev bounds : List (List ℕ)
+bounds =
+    (1 ∷ 0 ∷ 0 ∷ 0 ∷ 0 ∷ []) ∷
+    (1 ∷ 0 ∷ 0 ∷ 0x1F ∷ 1 ∷ 5 ∷ 1 ∷ 0 ∷ 0 ∷ []) ∷
+    (1 ∷ 0 ∷ 0 ∷ 0x20 ∷ 0xFF ∷ 0xFF ∷ 0 ∷ []) ∷
+    (1 ∷ 0 ∷ 0 ∷ 0x40 ∷ 0 ∷ []) ∷
+    []
+
+pub dialects-hold : map (λ c. answer (readPolicy c) ∷ answer (readPolicyIn old c) ∷ []) bounds
+    ≡ (16 ∷ 16 ∷ []) ∷ (16 ∷ 16 ∷ []) ∷ (16 ∷ 11 ∷ []) ∷ (11 ∷ 11 ∷ []) ∷ []
+unfolding asEleven must twoBytes isCount itemAt readList countedList readPurposes mapsIn readPermissionsIn children readNodeIn readTreesIn readPolicyIn andThen byteAt below toItsEnd alone headsOf heads hasBit member every gather sameList samePermissions agree metFrom metIn isNew isSame faultOf nodeFault firstFault nodesFault disclosedTo groupsAt keepsWithin allKeep fenced
+dialects-hold = refl
 
 -- Permissions that are read, and for which of purposes 0, 7, 8 and 15 they grant: the low byte stands first.
 abbrev grantsFor : Read Permissions → List Bool
@@ -71,5 +86,5 @@ pub purposes-read : map (λ c. grantsFor (readPermissions c 0)) maps
     ∷ (false ∷ false ∷ false ∷ false ∷ [])
     ∷ (true ∷ true ∷ true ∷ true ∷ [])
     ∷ []
-unfolding twoBytes readPurposes readPermissions andThen byteAt below hasBit bitAt
+unfolding twoBytes readPurposes mapsIn readPermissionsIn andThen byteAt below hasBit bitAt
 purposes-read = refl

@@ -18,7 +18,7 @@ use Rattle.policy.proofs.ListLaws.{held}
 use Rattle.policy.proofs.NodeSteps.{node-suc, children-suc, more-heads}
 use Rattle.policy.proofs.StoreLaws.{flats-append}
 use Rattle.policy.specs.Syntax.{Permissions, Node, Nodes, none, more, Tree, alone, heads, headsOf}
-use Rattle.policy.specs.Reading.{children, readNode}
+use Rattle.policy.specs.Reading.{children, readNodeIn, readNode}
 use Rattle.policy.specs.Rows.{Flat, flats, flatten}
 use Rattle.policy.specs.Loads.{readOpening, childrenRead, startOf, Holds, AllHeld, held-none, held-more}
 use Rattle.policy.specs.declared.Trees.{Trees}
@@ -54,7 +54,7 @@ unfolding alone headsOf
 one-above g p ns = let z : length (headsOf ns ++ []) ≡ length (headsOf ns) = ap length (append-nil (headsOf ns)) in omega arith
 
 never-deep : (c : List ℕ) (used at : ℕ) {root : Node} {k : ℕ} {P : Type 0} → readNode 0 c used at ≡ got root k → P
-unfolding readNode
+unfolding readNodeIn
 never-deep c used at e = never e
 
 pub node-room : (level : ℕ) (c : List ℕ) → Roomy level c

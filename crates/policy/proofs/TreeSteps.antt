@@ -22,7 +22,7 @@ use Rattle.reading.specs.declared.NumberRead.the-variants as number-read
 use Rattle.policy.proofs.NodeSteps.{root-got, root-not, first-rows}
 use Rattle.policy.proofs.TreeLaws.{node-room, size, rowsOf, kindsOf, endsOf, allRows, rows-of-end, kinds-of-end, ends-of-end, all-rows-end, all-held, still-high}
 use Rattle.policy.specs.Syntax.{Tree, alone, heads, headsOf}
-use Rattle.policy.specs.Reading.{asEleven, readNode, readTrees, readPolicy}
+use Rattle.policy.specs.Reading.{asEleven, readNode, readTreesIn, readTrees, readPolicyIn, readPolicy}
 use Rattle.policy.specs.Rows.{flats, flatten}
 use Rattle.policy.specs.Loads.{nodeRead, Loaded, noTrees, withTree, treesToEnd, startOf, LoadedPolicy, unread, loaded}
 use Rattle.policy.specs.declared.PolicyRead.{PolicyRead}
@@ -33,7 +33,7 @@ trees-step : (n : ℕ) (c : List ℕ) (used at : ℕ) → 0 < n → readTrees n 
     ≡ andThen (below 16 c at) (λ kind m.
     andThen (readNode 8 c used m) (λ root k.
     andThen (readTrees (n - 1) c (used + length (heads root)) k) (λ rest e. got (record { kind = kind; root = root } ∷ rest) e)))
-unfolding readTrees
+unfolding readTreesIn
 trees-step zero c used at h = absurd (omega arith)
 trees-step (suc n) c used at h = rw (sub-one (suc n))
 
@@ -118,7 +118,7 @@ module _ (c : List ℕ) (at count : ℕ) (nodes : List ℕ) (trees : Trees) (nex
   -- All trees are read.
   module _ (h : count ≤ trees .len) where
     policy-is : readTrees count c 0 at ≡ got (s .policy) next
-    unfolding readTrees after andThen
+    unfolding readTreesIn after andThen
     policy-is = let z : count - trees .len ≡ 0 = omega arith in s .whole ∙ rw (z, append-nil (s .policy))
 
     pub all-read : count ≤ 16 → next ≡ length c → LoadedPolicy c (treesToEnd count c at) nodes (record { end = end-case.At next; trees = trees })
@@ -209,7 +209,7 @@ pub ruleset tree-steps = (needs, fewer-left, none-read, all-read, left-over, kin
 module _ (c : List ℕ) (r : NumberRead) (e : number r ≡ below 17 c 0) where
   pub policy-refused : (nodes : List ℕ) (q : Refusal) (w : PolicyRead) → r ≡ number-read.Refused q
       → w .end ≡ end-case.Refused (record { question = 11; at = refusalOf r .at }) → LoadedPolicy c (readPolicy c) nodes w
-  unfolding readPolicy asEleven andThen
+  unfolding readPolicyIn asEleven andThen
   policy-refused nodes q w f g = unread {why = record { question = 11; at = q .at }} refused-first (rw (same-place r q f) at g)
     where
       refused-first : readPolicy c ≡ refused 11 (q .at)
@@ -217,7 +217,7 @@ module _ (c : List ℕ) (r : NumberRead) (e : number r ≡ below 17 c 0) where
 
   module _ (n : Number) (f : r ≡ number-read.Found n) where
     pub policy-read : (nodes : List ℕ) (w : PolicyRead) → LoadedPolicy c (treesToEnd (n .value) c (n .next)) nodes w → LoadedPolicy c (readPolicy c) nodes w
-    unfolding readPolicy treesToEnd andThen
+    unfolding readPolicyIn treesToEnd andThen
     policy-read nodes w l = rw trees-follow l
       where
         trees-follow : readPolicy c ≡ treesToEnd (n .value) c (n .next)

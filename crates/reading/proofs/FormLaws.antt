@@ -1,18 +1,19 @@
--- What a form that was read tells of the limits: there was room for it, a purpose is in its range, and a process has only the forms of
--- processes.
+-- What a form that was read tells of the limits: there was room for it, its group is new to the path, a purpose is in its range, and a
+-- process has only the forms of processes.
 use Prim.Native.Nat.{ℕ, _<_}
-use mathlib.Core.Bool.{Bool, true, false, _&&_}
+use mathlib.Core.Bool.{Bool, true, false, cond, _&&_}
 use mathlib.Core.List.{List}
 use mathlib.Core.Path.{_≡_, refl}
 use native.Mathlib.Omega.{arith}
 use borrow.Author.Tests.{ltb-true}
 use lib.Dec.{ltb, eqb}
 use lib.ListN.{length}
+use Rattle.reading.proofs.TypeLaws.{groups-64}
 use Rattle.reading.proofs.Parts.{Every, of-found, every-then, every-cond, every-limited, below-found}
-use Rattle.reading.specs.Dialects.{old, current, purposesIn}
-use Rattle.reading.specs.Read.{got, byteAt}
+use Rattle.reading.specs.Dialects.{old, current, groupsIn, purposesIn}
+use Rattle.reading.specs.Read.{got, refused, byteAt, below}
 use Rattle.reading.specs.Types.{typeAtIn}
-use Rattle.reading.specs.Forms.{newFormIn, inputFormIn, outputForm, freshGroupIn, groupFormIn, purposeIn, componentFormIn, processFormIn, processAtIn, systemFormIn, systemAtIn}
+use Rattle.reading.specs.Forms.{member, newFormIn, inputFormIn, outputForm, freshGroupIn, groupFormIn, purposeIn, componentFormIn, processFormIn, processAtIn, systemFormIn, systemAtIn}
 use Rattle.reading.specs.declared.Dialect.{Dialect}
 use Rattle.reading.specs.declared.Form.{Form}
 use Rattle.reading.specs.declared.Form.the-variants.{Nil, Par, Group, New, Component, Input, Output, Replicate}
@@ -105,6 +106,47 @@ module _ (d : Dialect) (s : List ℕ) (at nest names : ℕ) (path : List ℕ) (p
       → FitsSystem nest names (length path) preceding f
   unfolding fits
   system-room e = of-found fits (systemAtIn d s at nest names path preceding) system-every e
+
+-- A group that a form names is below 64 and new to the path (question 6), and a component's purpose is below 16.
+pub record NewTo (path : List ℕ) (g : ℕ) : Type 0 where
+  pub small : g < 64
+  pub fresh : member g path ≡ false
+
+unfoldable pub GroupNew : List ℕ → Form → Type 0
+GroupNew path Nil = Unit {0}
+GroupNew path Par = Unit {0}
+GroupNew path (Group g) = NewTo path g
+GroupNew path (New t) = Unit {0}
+GroupNew path (Component own) = NewTo path (own .group) × (own .purpose < 16)
+GroupNew path (Input a) = Unit {0}
+GroupNew path (Output a) = Unit {0}
+GroupNew path Replicate = Unit {0}
+
+fresh-new : (d : Dialect) (s : List ℕ) (at : ℕ) (path : List ℕ) → Every (NewTo path) (freshGroupIn d s at path)
+unfolding Every freshGroupIn
+fresh-new d s at path = every-then (NewTo path) (below (groupsIn d) s at) _ (λ g next e.
+    go g next (omega (arith, groups-64 d, below-found (groupsIn d) s at e)) (member g path) refl)
+  where
+    go : (g next : ℕ) → g < 64 → (b : Bool) → member g path ≡ b → Every (NewTo path) (cond b (refused 6 at) (got g next))
+    go g next l true e = tt
+    go g next l false e = record { small = l; fresh = e }
+
+module _ (d : Dialect) (s : List ℕ) (at nest names : ℕ) (path : List ℕ) (preceding : ℕ) where
+  group-new-every : Every (GroupNew path) (systemAtIn d s at nest names path preceding)
+  unfolding Every GroupNew systemAtIn systemFormIn groupFormIn componentFormIn newFormIn
+  group-new-every = every-then P (byteAt s at) _ (λ code next _.
+      every-cond P (eqb code 0) _ _ (every-limited P _ at _ (λ e. tt))
+      (every-cond P (eqb code 1) _ _ (every-limited P _ at _ (λ e. tt))
+      (every-cond P (eqb code 2) _ _ (every-limited P _ at _ (λ e. every-then P (freshGroupIn d s next path) _ (λ g m h. of-found _ (freshGroupIn d s next path) (fresh-new d s next path) h)))
+      (every-cond P (eqb code 3) _ _ (every-limited P _ at _ (λ e. every-then P (typeAtIn d s next) _ (λ t m h. tt)))
+      (every-cond P (eqb code 4) _ _ (every-limited P _ at _ (λ e. every-then P (freshGroupIn d s next path) _ (λ g m h.
+      every-then P (purposeIn d s m) _ (λ p k i. (of-found _ (freshGroupIn d s next path) (fresh-new d s next path) h, purpose-small d s m i))))) tt)))))
+    where
+      P : Form → Type 0
+      P = GroupNew path
+
+  pub system-group : {f : Form} {next : ℕ} → systemAtIn d s at nest names path preceding ≡ got f next → GroupNew path f
+  system-group e = of-found (GroupNew path) (systemAtIn d s at nest names path preceding) group-new-every e
 
 pub process-level : (nest names : ℕ) (f : Form) → FitsProcess nest names f → 0 < nest
 unfolding FitsProcess

@@ -1,14 +1,15 @@
 -- Lists all of whose members have a property, and the laws of appending, gathering and replacing that runs need.
 use Prim.Native.Nat.{ℕ, zero, suc}
 use mathlib.Core.Bool.{Bool, true, false, _&&_}
-use mathlib.Core.List.{List, [], _∷_, _++_, append-assoc, List·Memᴰ, List·Memᴰ·head, List·Memᴰ·tail}
+use mathlib.Core.List.{List, [], _∷_, _++_, List·Memᴰ, List·Memᴰ·head, List·Memᴰ·tail}
 use mathlib.Core.Option.{some}
-use mathlib.Core.Path.{_≡_, refl, sym}
+use mathlib.Core.Path.{_≡_, refl}
 use lib.ListN.{getElem?, set}
 use native.Mathlib.Omega.{arith}
 use Rattle.reading.proofs.TotalLaws.{both-left, both-right}
 use Rattle.inference.specs.Lists.{gather, every, any}
 use Rattle.inference.proofs.ClassLaws.{or-first, or-second}
+pub use Rattle.inference.proofs.GatherLaws.{gather-append}
 pub use Rattle.interface.proofs.Alls.{All, done, also, all-map, all-append}
 
 pub all-both : {A : Type 0} {P Q R : A → Type 0} {xs : List A} → ((x : A) → P x → Q x → R x) → All P xs → All Q xs → All R xs
@@ -28,11 +29,6 @@ all-head (also p ps) = p
 
 pub all-tail : {A : Type 0} {P : A → Type 0} {x : A} {xs : List A} → All P (x ∷ xs) → All P xs
 all-tail (also p ps) = ps
-
-pub gather-append : {A B : Type 0} (f : A → List B) (xs ys : List A) → gather f (xs ++ ys) ≡ gather f xs ++ gather f ys
-unfolding gather
-gather-append f [] ys = refl
-gather-append f (x ∷ xs) ys = rw (gather-append f xs ys) (sym (append-assoc (f x) (gather f xs) (gather f ys)))
 
 pub all-gather : {A B : Type 0} {P : B → Type 0} (f : A → List B) {xs : List A} → All (λ x. All P (f x)) xs → All P (gather f xs)
 unfolding gather

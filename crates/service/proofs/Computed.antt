@@ -18,7 +18,7 @@ use Rattle.inference.specs.Typing.{isKnown, ofShape, ofChannel, isType, inScope
 use Rattle.inference.specs.Needs.{needOn, needOf, isRead, isWrite, isAccess, disclosures, weigh, total, disclosed}
 use Rattle.inference.specs.Interface.{disclosuresOf, entryOf, isEmpty, holdsAny, entriesOf, interface, flagged, permissions, requiredOf, countIn, neededBy, needed, bit, mapOf, disclosureBytes, listBytes, entryBytes, interfaceBytes}
 use Rattle.policy.specs.Syntax.{hasBit, bitAt, alone, headsOf, heads}
-use Rattle.policy.specs.Reading.{asEleven, must, twoBytes, isCount, itemAt, readList, countedList, readPurposes, readPermissions, children, readNode, readTrees, readPolicy}
+use Rattle.policy.specs.Reading.{asEleven, must, twoBytes, isCount, itemAt, readList, countedList, readPurposes, mapsIn, readPermissionsIn, children, readNodeIn, readTreesIn, readPolicyIn}
 use Rattle.policy.specs.WellFormed.{distinct, kindsDistinct, sameList, samePermissions, agree, metFrom, metIn, isNew, isSame, faultOf, nodeFault, firstFault, nodesFault, disclosedTo, groupsAt, keepsWithin, allKeep, fenced}
 use Rattle.fit.specs.Grants.{reachedAmong, reached, treeFor, reachedIn, reachedFor, onlyFor, forPurpose, grantingTo, givenBy, flagGranted, storedCount, listed, joined, countGranted}
 use Rattle.fit.specs.Satisfies.{isTree, hasTree, pathReached, verdictOf, covering, holds, covered}
@@ -26,7 +26,7 @@ use Rattle.service.specs.Questions.{passed, failed, ask, afterReading, t
 use Rattle.service.specs.Check.{Outcome, fitting, interfaceFor, written, checked}
 
 unfoldable pub computed : Unit {0}
-unfolding groupsIn kindsIn purposesIn andThen byteAt below channel shape groupsThenKindIn typeAtIn components member limited newFormIn inputFormIn outputForm freshGroupIn groupFormIn purposeIn componentFormIn processFormIn processAtIn systemFormIn systemAtIn processFrom readProcessIn component systemFrom readSystemIn freeTypesIn headerIn toItsEnd readSheetIn sheetOfIn every any only gather rising _⊕_ atMost isZero repeatedly countNumber componentAt typeOf locate located acts actsOf sheetActs isKnown ofShape ofChannel isType inScope onChannel carriesObject inPath need-computed needOn needOf isRead isWrite isAccess disclosures weigh total disclosed disclosuresOf entryOf isEmpty holdsAny entriesOf interface flagged permissions requiredOf countIn allIn sameSet shares neededBy needed bit mapOf disclosureBytes listBytes entryBytes interfaceBytes hasBit bitAt alone headsOf heads asEleven must twoBytes isCount itemAt readList countedList readPurposes readPermissions children readNode readTrees readPolicy distinct kindsDistinct sameList samePermissions agree metFrom metIn isNew isSame faultOf nodeFault firstFault nodesFault disclosedTo groupsAt keepsWithin allKeep fenced reachedAmong reached treeFor reachedIn reachedFor onlyFor forPurpose grantingTo givenBy flagGranted storedCount listed joined countGranted isTree hasTree pathReached verdictOf covering holds covered ask afterReading typed wellFormed satisfied judgedFrom judged fitting interfaceFor written checked
+unfolding groupsIn kindsIn purposesIn andThen byteAt below channel shape groupsThenKindIn typeAtIn components member limited newFormIn inputFormIn outputForm freshGroupIn groupFormIn purposeIn componentFormIn processFormIn processAtIn systemFormIn systemAtIn processFrom readProcessIn component systemFrom readSystemIn freeTypesIn headerIn toItsEnd readSheetIn sheetOfIn every any only gather rising _⊕_ atMost isZero repeatedly countNumber componentAt typeOf locate located acts actsOf sheetActs isKnown ofShape ofChannel isType inScope onChannel carriesObject inPath need-computed needOn needOf isRead isWrite isAccess disclosures weigh total disclosed disclosuresOf entryOf isEmpty holdsAny entriesOf interface flagged permissions requiredOf countIn allIn sameSet shares neededBy needed bit mapOf disclosureBytes listBytes entryBytes interfaceBytes hasBit bitAt alone headsOf heads asEleven must twoBytes isCount itemAt readList countedList readPurposes mapsIn readPermissionsIn children readNodeIn readTreesIn readPolicyIn distinct kindsDistinct sameList samePermissions agree metFrom metIn isNew isSame faultOf nodeFault firstFault nodesFault disclosedTo groupsAt keepsWithin allKeep fenced reachedAmong reached treeFor reachedIn reachedFor onlyFor forPurpose grantingTo givenBy flagGranted storedCount listed joined countGranted isTree hasTree pathReached verdictOf covering holds covered ask afterReading typed wellFormed satisfied judgedFrom judged fitting interfaceFor written checked
 computed = tt
 
 -- What a row wants: the bytes written, or the number of the question that fails.

@@ -16,7 +16,7 @@ use Rattle.inference.specs.Interface.{Entry, entryOf, interface, entriesOf, hol
 use Rattle.inference.specs.Walks.{worstAll}
 use Rattle.inference.proofs.FaultLaws.{firstNo, sheet-fault}
 use Rattle.policy.specs.Syntax.{Tree}
-use Rattle.policy.specs.Reading.{readPolicy, asEleven}
+use Rattle.policy.specs.Reading.{readPolicyIn, readPolicy, asEleven}
 use Rattle.policy.specs.WellFormed.{kindsDistinct, nodesFault, fenced}
 use Rattle.fit.specs.Satisfies.{hasTree, pathReached, covered}
 use Rattle.wellformed.specs.Faults.{policyFault}
@@ -151,7 +151,7 @@ eleven (got a next) q at e = let z : _≡_ {A = ℕ} 0 1 = cc in absurd (omega a
 eleven (refused p m) q at e = cc
 
 pub policy-eleven : (c : List ℕ) (q at : ℕ) → readPolicy c ≡ refused q at → q ≡ 11
-unfolding readPolicy
+unfolding readPolicyIn
 policy-eleven c q at e = eleven _ q at e
 
 ends-now : {A : Type 0} (bound number : ℕ) (rest : Asked A) → number < bound → endsBelow bound number rest ≡ failed number

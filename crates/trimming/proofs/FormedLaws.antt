@@ -12,7 +12,7 @@ use Rattle.inference.specs.Lists.{every, gather}
 use Rattle.policy.specs.Syntax.{Granted, Permissions, Nodes, none, more, Node, Tree, Head, headsOf, heads, alone, hasBit}
 use Rattle.policy.specs.WellFormed.{distinct, kindsDistinct, newBelow, noneAbove, sameList, samePermissions, agree, allAgree, sameHeads, disclosedTo, groupsAt, keepsWithin, allKeep, fenced}
 use Rattle.wellformed.proofs.AgreeSteps.{permissions-equal}
-use Rattle.wellformed.proofs.EveryLaws.{every-append}
+use Rattle.inference.proofs.EveryLaws.{every-append}
 use Rattle.service.proofs.PassedLaws.{Formed}
 use Rattle.trimming.specs.Trim.{lowerAt, lowerNodes, lowerNode, lowerTree, lower}
 use Rattle.trimming.proofs.TestLaws.{cond-ind, and-both}

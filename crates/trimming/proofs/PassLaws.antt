@@ -9,7 +9,7 @@ use Rattle.inference.specs.Counts.{fin, atMost}
 use Rattle.inference.specs.Interface.{requiredOf, interface}
 use Rattle.interface.proofs.StoreLaws.{sheet-storable}
 use Rattle.fit.specs.Satisfies.{hasTree, pathReached}
-use Rattle.wellformed.proofs.EveryLaws.{every-same}
+use Rattle.inference.proofs.EveryLaws.{every-same}
 use Rattle.service.specs.Questions.{Accepted}
 use Rattle.service.proofs.PassedLaws.{Passed}
 use Rattle.trimming.specs.Trim.{lower, leastSlack}

@@ -8,7 +8,7 @@ use Rattle.inference.specs.Interface.{holdsAny, entryOf, entriesOf}
 use Rattle.inference.specs.Lists.{every, only, gather, rising}
 use Rattle.interface.proofs.TableLaws.{NoneTwice, twice-none, twice-more, AllStorable, store-none, store-more}
 use Rattle.policy.specs.WellFormed.{distinct}
-use Rattle.wellformed.proofs.EveryLaws.{every-append}
+use Rattle.inference.proofs.EveryLaws.{every-append}
 use Rattle.trimming.proofs.TestLaws.{cond-ind, and-both}
 
 distinct-once : {path : List ℕ} → NoneTwice path → distinct path ≡ true

@@ -1,7 +1,8 @@
-// Puts stored cases through the services, and prints for each, by its number, what `list` and `run` write: the listing's lines
-// parted by semicolons, the log's bytes in hexadecimal. What is printed is compared with the file stdout, which the script `make`
-// writes from the cases, as it does data/cases.bin: for each case four two-byte lengths, low byte first, then the bytes of the
-// sheet, the charter, the script and the names file.
+// Puts stored cases through the services, and prints for each, by its number, what the programs write: `list` and `run`, the listing's
+// lines parted by semicolons and the log's bytes in hexadecimal; or `upgrade` or `downgrade`, the moved sheet's bytes in hexadecimal.
+// What is printed is compared with the file stdout, which the script `make` writes from the cases, as it does data/cases.bin. There a
+// case begins with a byte: 0, of `list` and `run`, four two-byte lengths, low byte first, and the bytes of the sheet, the charter, the
+// script and the names file; 1, of `upgrade`, and 2, of `downgrade`, one such length and the bytes of the sheet.
 use commands::print_listing;
 use execution::play;
 use files::first;
@@ -9,6 +10,8 @@ use files::print_refused;
 use fixtures::put;
 use fixtures::say;
 use libc::STDOUT_FILENO;
+use moving::downgrade;
+use moving::upgrade;
 use service::Answer;
 ghost use Prim.Native.Nat.{_<_};
 
@@ -54,12 +57,17 @@ fn put_pairs(text: &mut [u8], bytes: &[u8]) -> usize {
     next
 }
 
-// Prints a log of at most 1,024 records in hexadecimal.
-fn say_log(log: &[u8]) {
+// Prints at most 8,192 bytes in hexadecimal, and a newline.
+fn say_bytes(bytes: &[u8]) {
     let mut text = [0u8; 24576];
-    let n = put_pairs(&mut text, log);
+    let n = put_pairs(&mut text, bytes);
     say(first(&text, n));
     say(b"\n");
+}
+
+fn say_refused(number: usize) {
+    say(b" ");
+    print_refused(number);
 }
 
 fn show_listing(number: u64, sheet: &[u8], charter: &[u8], names: &[u8]) {
@@ -76,18 +84,39 @@ fn show_run(number: u64, sheet: &[u8], charter: &[u8], script: &[u8]) {
     match answer {
         Answer::Accepted(n) => {
             if n <= 1024 {
-                say_log(first(&log, n * 8));
+                say_bytes(first(&log, n * 8));
             }
         }
-        Answer::Refused(n) => {
-            say(b" ");
-            print_refused(n);
-        }
+        Answer::Refused(n) => say_refused(n),
     }
 }
 
-// Reads a case whose parts have these lengths, and shows it.
-fn show_case(
+// Prints the bytes of a moved sheet, or its refusal.
+fn say_moved(answer: Answer, output: &[u8]) {
+    match answer {
+        Answer::Accepted(n) => say_bytes(first(output, n)),
+        Answer::Refused(n) => say_refused(n),
+    }
+}
+
+fn show_upgrade(number: u64, sheet: &[u8]) {
+    let mut output = [0u8; 4096];
+    io::print_decimal(STDOUT_FILENO, number);
+    say(b" upgrade:");
+    let answer = upgrade(sheet, &mut output);
+    say_moved(answer, &output);
+}
+
+fn show_downgrade(number: u64, sheet: &[u8]) {
+    let mut output = [0u8; 4096];
+    io::print_decimal(STDOUT_FILENO, number);
+    say(b" downgrade:");
+    let answer = downgrade(sheet, &mut output);
+    say_moved(answer, &output);
+}
+
+// Reads a case of `list` and `run` whose parts have these lengths, and shows it.
+fn show_parts(
     fd: i32,
     number: u64,
     sheet_len: usize,
@@ -117,8 +146,8 @@ fn show_case(
     );
 }
 
-// Shows the next case of the file; whether there was one.
-fn show_next(fd: i32, number: u64) -> bool {
+// Shows a case of `list` and `run`; whether its lengths stood in the file.
+fn show_checked(fd: i32, number: u64) -> bool {
     let mut h = [0u8; 8];
     if io::read_full(fd, &mut h) < 8 {
         return false;
@@ -127,8 +156,36 @@ fn show_next(fd: i32, number: u64) -> bool {
     let charter_len = two_bytes(h[2], h[3]);
     let script_len = two_bytes(h[4], h[5]);
     let names_len = two_bytes(h[6], h[7]);
-    show_case(fd, number, sheet_len, charter_len, script_len, names_len);
+    show_parts(fd, number, sheet_len, charter_len, script_len, names_len);
     true
+}
+
+// Shows a case of `upgrade`, kind 1, or of `downgrade`; whether its length stood in the file.
+fn show_moved(fd: i32, number: u64, kind: u8) -> bool {
+    let mut h = [0u8; 2];
+    if io::read_full(fd, &mut h) < 2 {
+        return false;
+    }
+    let mut sheet = [0u8; 4097];
+    let n = next_bytes(fd, &mut sheet, two_bytes(h[0], h[1]));
+    if kind == 1 {
+        show_upgrade(number, first(&sheet, n));
+    } else {
+        show_downgrade(number, first(&sheet, n));
+    }
+    true
+}
+
+// Shows the next case of the file; whether there was one.
+fn show_next(fd: i32, number: u64) -> bool {
+    let mut kind = [0u8; 1];
+    if io::read_full(fd, &mut kind) < 1 {
+        return false;
+    }
+    if kind[0] == 0 {
+        return show_checked(fd, number);
+    }
+    show_moved(fd, number, kind[0])
 }
 
 // Shows the cases of the file, at most 65,535.

@@ -17,13 +17,15 @@ use Rattle.explaining.specs.Explain.{explained}
 use Rattle.explaining.proofs.ExplainLaws.{SaidInRange, explain-in-range}
 use Rattle.slack.specs.Slack.{slackTold}
 use Rattle.slack.proofs.SlackSizes.{SlackInRange, slack-in-range}
+use Rattle.moving.specs.Moving.{upgraded, downgraded}
+use Rattle.moving.proofs.MoveLaws.{MovedInRange, upgrade-in-range, downgrade-in-range}
 use Rattle.running.specs.State.{State}
 use Rattle.running.specs.Products.{start}
 use Rattle.running.specs.Moves.{Move, hasRoom}
 use Rattle.running.specs.Script.{movesFrom, asTwentyOne, readScript}
 use Rattle.running.specs.Play.{openedFrom, opened, logged, outcomeOf, played}
 use Rattle.script.proofs.ScriptLaws.{script-moves, script-few}
-use Rattle.velimhaw.specs.Codes.{codeOf, CheckedAs, PlayedAs, ExplainedAs, ToldAs}
+use Rattle.velimhaw.specs.Codes.{codeOf, CheckedAs, PlayedAs, ExplainedAs, ToldAs, UpgradedAs, DowngradedAs}
 
 -- A number that tells an answer.
 pub data Tells : Asked ℕ → ℕ → Type 0 where
@@ -72,6 +74,19 @@ pub slack-tells : (sheet charter output output′ : List ℕ) (r : ℕ) → Told
 slack-tells sheet charter output output′ r x =
     rw (x .answer) (code-tells (slackTold sheet charter output .answer)
     (small-told (slackTold sheet charter output .answer) (slack-in-range sheet charter output)))
+
+small-moved : (x : Asked ℕ) → MovedInRange x → Small x
+unfolding Small MovedInRange
+small-moved (passed n) h = omega arith
+small-moved (failed q) h = omega arith
+
+pub upgrade-tells : (sheet output output′ : List ℕ) (r : ℕ) → UpgradedAs sheet output output′ r → Tells (upgraded sheet output .answer) r
+upgrade-tells sheet output output′ r x =
+    rw (x .answer) (code-tells (upgraded sheet output .answer) (small-moved (upgraded sheet output .answer) (upgrade-in-range sheet output)))
+
+pub downgrade-tells : (sheet output output′ : List ℕ) (r : ℕ) → DowngradedAs sheet output output′ r → Tells (downgraded sheet output .answer) r
+downgrade-tells sheet output output′ r x =
+    rw (x .answer) (code-tells (downgraded sheet output .answer) (small-moved (downgraded sheet output .answer) (downgrade-in-range sheet output)))
 
 -- the only number that a script is refused with
 twenty-one : (x : Read (List Move)) {q at : ℕ} → asTwentyOne x ≡ refused q at → q ≡ 21

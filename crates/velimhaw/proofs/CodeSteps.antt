@@ -14,7 +14,8 @@ use Rattle.execution.specs.Told.{Played}
 use Rattle.explaining.specs.Explain.{explained}
 use Rattle.explaining.specs.Told.{Explained}
 use Rattle.slack.specs.Told.{Tells}
-use Rattle.velimhaw.specs.Codes.{codeOf, CheckedAs, PlayedAs, ExplainedAs, ToldAs}
+use Rattle.moving.specs.Told.{Upgraded, Downgraded}
+use Rattle.velimhaw.specs.Codes.{codeOf, CheckedAs, PlayedAs, ExplainedAs, ToldAs, UpgradedAs, DowngradedAs}
 
 module _ (a : Answer) (n : ℕ) where
   pub accepted-short : a ≡ answer-case.Accepted n → n < 4294967296 → n + 64 ≡ codeOf (told a)
@@ -45,4 +46,10 @@ explained-as sheet charter names line line′ a r x e = record { answer = e ∙ 
 pub told-as : (sheet charter output output′ : List ℕ) (a : Answer) (r : ℕ) → Tells sheet charter output output′ a → r ≡ codeOf (told a) → ToldAs sheet charter output output′ r
 told-as sheet charter output output′ a r t e = record { answer = e ∙ ap codeOf (t .answer); lent = t .lent }
 
-pub ruleset code-steps = (needs, accepted-short, accepted-long, refused-small, refused-large, checked-as, played-as, explained-as, told-as)
+pub upgraded-as : (sheet output output′ : List ℕ) (a : Answer) (r : ℕ) → Upgraded sheet output output′ a → r ≡ codeOf (told a) → UpgradedAs sheet output output′ r
+upgraded-as sheet output output′ a r u e = record { answer = e ∙ ap codeOf (u .answer); lent = u .lent }
+
+pub downgraded-as : (sheet output output′ : List ℕ) (a : Answer) (r : ℕ) → Downgraded sheet output output′ a → r ≡ codeOf (told a) → DowngradedAs sheet output output′ r
+downgraded-as sheet output output′ a r d e = record { answer = e ∙ ap codeOf (d .answer); lent = d .lent }
+
+pub ruleset code-steps = (needs, accepted-short, accepted-long, refused-small, refused-large, checked-as, played-as, explained-as, told-as, upgraded-as, downgraded-as)

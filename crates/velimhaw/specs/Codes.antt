@@ -9,6 +9,7 @@ use Rattle.service.specs.Check.{checked}
 use Rattle.running.specs.Play.{played}
 use Rattle.explaining.specs.Explain.{explained}
 use Rattle.slack.specs.Slack.{slackTold}
+use Rattle.moving.specs.Moving.{upgraded, downgraded}
 
 unfoldable pub codeOf : Asked ℕ → ℕ
 codeOf (passed n) = cond (ltb n 4294967296) (n + 64) 63
@@ -29,3 +30,11 @@ pub record ExplainedAs (sheet charter names line line′ : List ℕ) (r : ℕ) :
 pub record ToldAs (sheet charter output output′ : List ℕ) (r : ℕ) : Type 0 where
   pub answer : r ≡ codeOf (slackTold sheet charter output .answer)
   pub lent : output′ ≡ slackTold sheet charter output .lent
+
+pub record UpgradedAs (sheet output output′ : List ℕ) (r : ℕ) : Type 0 where
+  pub answer : r ≡ codeOf (upgraded sheet output .answer)
+  pub lent : output′ ≡ upgraded sheet output .lent
+
+pub record DowngradedAs (sheet output output′ : List ℕ) (r : ℕ) : Type 0 where
+  pub answer : r ≡ codeOf (downgraded sheet output .answer)
+  pub lent : output′ ≡ downgraded sheet output .lent

@@ -3,9 +3,11 @@
 // less.
 ghost use mathlib.Core.Path.{_≡_};
 ghost use Rattle.service.specs.Told.{told};
-ghost use Rattle.velimhaw.specs.Codes.{codeOf, CheckedAs, PlayedAs, ExplainedAs, ToldAs};
+ghost use Rattle.velimhaw.specs.Codes.{codeOf, CheckedAs, PlayedAs, ExplainedAs, ToldAs, UpgradedAs, DowngradedAs};
 use execution::play;
 use explaining::explain;
+use moving::downgrade;
+use moving::upgrade;
 use service::Answer;
 use service::checking::check;
 use slack::slack;
@@ -57,4 +59,20 @@ pub extern "C" fn velimhaw_slack(sheet: &[u8], charter: &[u8], output: &mut [u8]
     ensures { λ r. ⌜ ToldAs (now (sheet .entry)) (now (charter .entry)) (now (output .entry)) (now (output .exit)) r ⌝ }
 {
     code(slack(sheet, charter, output))
+}
+
+// Writes the new form of an old sheet, purpose 0 at each component, into the output.
+#[no_mangle]
+pub extern "C" fn velimhaw_upgrade(sheet: &[u8], output: &mut [u8]) -> u64
+    ensures { λ r. ⌜ UpgradedAs (now (sheet .entry)) (now (output .entry)) (now (output .exit)) r ⌝ }
+{
+    code(upgrade(sheet, output))
+}
+
+// Writes the old form of a sheet whose components all have purpose 0 into the output.
+#[no_mangle]
+pub extern "C" fn velimhaw_downgrade(sheet: &[u8], output: &mut [u8]) -> u64
+    ensures { λ r. ⌜ DowngradedAs (now (sheet .entry)) (now (output .entry)) (now (output .exit)) r ⌝ }
+{
+    code(downgrade(sheet, output))
 }

@@ -13,7 +13,7 @@ use Rattle.inference.specs.Lists.{every, gather, rising}
 use Rattle.reading.specs.Forms.{member}
 use Rattle.policy.proofs.NodeLaws.{node-steps, group-small}
 use Rattle.policy.proofs.RowLaws.{flats-more, flats-none, items-more, items-none, items-all}
-use Rattle.wellformed.proofs.EveryLaws.{every-append, every-same}
+use Rattle.inference.proofs.EveryLaws.{every-append, every-same}
 use Rattle.policy.specs.Syntax.{hasBit}
 use Rattle.policy.specs.WellFormed.{disclosedTo, groupsAt}
 use Rattle.policy.specs.Rows.{nodeAt, itemsAt, permissionsOf, flatOf, flats}

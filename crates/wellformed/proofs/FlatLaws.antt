@@ -13,7 +13,7 @@ use lib.Seq.{take-take, take-suc-set, take-set-le}
 use Rattle.inference.specs.Lists.{every, rising}
 use Rattle.policy.proofs.NodeLaws.{depth-small}
 use Rattle.reading.proofs.FormLaws.{both-true}
-use Rattle.wellformed.proofs.EveryLaws.{every-append}
+use Rattle.inference.proofs.EveryLaws.{every-append}
 use Rattle.policy.specs.Syntax.{Permissions, Nodes, none, more, Head, headsOf}
 use Rattle.policy.specs.WellFormed.{metFrom, allKeep, keepsWithin}
 use Rattle.policy.specs.Rows.{nodeAt, Flat, flatOf, flats, flatten}

@@ -20,7 +20,7 @@ use Rattle.policy.specs.Rows.{nodeAt, permissionsOf, flatOf, flats}
 use Rattle.policy.specs.declared.Node.{Node}
 use Rattle.wellformed.specs.Rows.{metRows, headsFault, sameAsLast}
 use Rattle.wellformed.proofs.AgreeSteps.{permissions-equal}
-use Rattle.wellformed.proofs.EveryLaws.{every-append}
+use Rattle.inference.proofs.EveryLaws.{every-append}
 
 -- 14 against the last node.
 pub none-before : (c nodes : List ℕ) (next : ℕ) (p : Permissions) → next ≡ 0 → true ≡ sameAsLast c nodes next p

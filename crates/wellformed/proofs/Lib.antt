@@ -1,5 +1,4 @@
 -- The lemmas that the proofs of questions 12 to 15 share.
-pub mod EveryLaws
 pub mod KindSteps
 pub mod AgreeSteps
 pub mod HeadSteps

@@ -9,7 +9,7 @@ use native.Mathlib.Omega.{arith}
 use lib.Dec.{eqb}
 use Rattle.reading.specs.Forms.{member}
 use Rattle.inference.specs.Lists.{every, gather}
-use Rattle.wellformed.proofs.EveryLaws.{every-append, every-pair, every-none}
+use Rattle.inference.proofs.EveryLaws.{every-append, every-pair, every-none}
 use Rattle.policy.specs.Syntax.{Nodes, none, more, Head, headsOf, heads, Tree, alone}
 use Rattle.policy.specs.WellFormed.{newBelow, noneAbove, agree, allAgree, sameHeads, Met, metFrom, metIn, isNew, isSame, faultOf, nodeFault, firstFault, nodesFault}
 
