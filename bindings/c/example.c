@@ -1,5 +1,5 @@
 /* Checks and plays example W through the static library, and prints the entries of its interface, what its charter leaves over and the
- * records of its log; then explains why another charter refuses it. */
+ * records of its log; then explains why another charter refuses it, and moves it back to the old form and over again. */
 #include "velimhaw.h"
 #include "w.h"
 #include <inttypes.h>
@@ -134,11 +134,22 @@ static void play_and_show(const char *service, velimhaw_lent log) {
         show_record(&record);
 }
 
+/* W's sheet to the form without purposes, and from there to the form with them. */
+static void move_and_show(velimhaw_lent old_output, velimhaw_lent output) {
+    uint64_t answer = velimhaw_downgrade(sheet, old_output);
+    if (!show_answer("downgrade", answer))
+        return;
+    velimhaw_bytes old_sheet = {old_output.bytes, (size_t)(answer - VELIMHAW_ACCEPTED)};
+    show_answer("upgrade", velimhaw_upgrade(old_sheet, output));
+}
+
 int main(void) {
     static uint8_t output[VELIMHAW_SLACK_MAX];
     static uint8_t log[VELIMHAW_LOG_MAX];
+    static uint8_t moved[VELIMHAW_MOVED_MAX];
     velimhaw_lent whole_output = {output, sizeof output};
     velimhaw_lent whole_log = {log, sizeof log};
+    velimhaw_lent whole_moved = {moved, sizeof moved};
     velimhaw_lent three_bytes = {output, 3};
     check_and_show("check", charter, whole_output);
     slack_and_show("slack", whole_output);
@@ -146,5 +157,6 @@ int main(void) {
     check_and_show("check with 3 bytes of output", charter, three_bytes);
     check_and_show("check against a stricter charter", strict_charter, whole_output);
     explain_and_show("explain", strict_charter);
+    move_and_show(whole_moved, whole_output);
     return 0;
 }

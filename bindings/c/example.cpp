@@ -1,5 +1,5 @@
 // Checks and plays example W from C++ over the C header: entries of its interface and of what its charter leaves over, and records, as
-// vectors, a refusal as an exception; then explains why another charter refuses it.
+// vectors, a refusal as an exception; then explains why another charter refuses it, and moves it back to the old form and over again.
 #include "velimhaw.h"
 #include "w.h"
 #include <array>
@@ -58,6 +58,13 @@ std::string explain(velimhaw_bytes charter) {
     return line;
 }
 
+// A sheet moved by one of the two services that do.
+std::vector<std::uint8_t> moved(std::uint64_t (*service)(velimhaw_bytes, velimhaw_lent), velimhaw_bytes sheet) {
+    std::vector<std::uint8_t> output(VELIMHAW_MOVED_MAX);
+    output.resize(accepted(service(sheet, {output.data(), output.size()})));
+    return output;
+}
+
 void show(const velimhaw_entry &entry) {
     std::cout << "  kind " << int(entry.kind) << ", component's group " << int(entry.path[entry.path_length - 1]) << ", purpose "
               << int(entry.purpose) << ", discloses into " << int(entry.disclose_length) << " groups\n";
@@ -102,4 +109,7 @@ int main() {
         std::cout << "C++, check against a stricter charter: " << refusal.what() << '\n';
         std::cout << "C++, explain: " << explain(bytes(w_strict_charter)) << '\n';
     }
+    std::vector<std::uint8_t> old_sheet = moved(velimhaw_downgrade, bytes(w_sheet));
+    std::vector<std::uint8_t> sheet = moved(velimhaw_upgrade, {old_sheet.data(), old_sheet.size()});
+    std::cout << "C++, downgrade: " << old_sheet.size() << " bytes, upgrade: " << sheet.size() << " bytes\n";
 }

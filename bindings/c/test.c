@@ -1,6 +1,7 @@
 /* Tests velimhaw.h: entries of both forms and records taken off whole, truncated and malformed bytes, the lines of the questions, the
- * memory lent to a refused call, a count that components share, purposes, what a charter leaves over, and the sentence. All bytes stand
- * right before a page that may not be touched, so a read past their end is a fault. */
+ * memory lent to a refused call, a count that components share, purposes, what a charter leaves over, the sentence, and sheets moved
+ * between the old form and the new one. All bytes stand right before a page that may not be touched, so a read past their end is a
+ * fault. */
 #define _DEFAULT_SOURCE
 #include "velimhaw.h"
 #include "w.h"
@@ -18,6 +19,7 @@ static const uint8_t w_log[] = {0x00, 0x01, 0x00, 0x00, 0x01, 0x00, 0x00, 0x01, 
                                 0x02, 0x00, 0xff, 0xff, 0x00, 0x02, 0x01, 0x00, 0x02, 0x00, 0x01, 0xff};
 
 static const velimhaw_bytes sheet_of_w = {w_sheet, sizeof w_sheet};
+static const velimhaw_bytes old_sheet_of_w = {w_old_sheet, sizeof w_old_sheet};
 static const velimhaw_bytes charter_of_w = {w_charter, sizeof w_charter};
 static const velimhaw_bytes strict_charter = {w_strict_charter, sizeof w_strict_charter};
 static const velimhaw_bytes names_of_w = {(const uint8_t *)w_names, W_NAMES_LENGTH};
@@ -222,7 +224,7 @@ static void test_refused_record(void) {
 
 static void test_questions(void) {
     for (uint64_t n = 0; n < 100; n++)
-        assert((velimhaw_question(n) != NULL) == ((n >= 1 && n <= 22) || (n >= 30 && n <= 35) || n == 40));
+        assert((velimhaw_question(n) != NULL) == ((n >= 1 && n <= 22) || (n >= 30 && n <= 35) || n == 40 || n == 41));
     assert(velimhaw_question(UINT64_MAX) == NULL);
 }
 
@@ -401,6 +403,103 @@ static void test_longest_sentence(void) {
     assert(memcmp(line.bytes, "aaXX", 4) == 0 && page_end[-20] == 'i' && page_end[-19] == 'a' && page_end[-1] == 'X');
 }
 
+/* One of the two services that move a sheet. */
+typedef uint64_t (*mover)(velimhaw_bytes sheet, velimhaw_lent output);
+
+/* A sheet moved: into an output of the result's length right before the page that may not be touched, into a longer one, which keeps the
+ * bytes past the result, and into one a byte short, which keeps all of its own. */
+static void moves(mover move, velimhaw_bytes sheet, velimhaw_bytes result) {
+    static uint8_t bytes[VELIMHAW_MOVED_MAX + 2];
+    velimhaw_lent exact = {page_end - result.length, result.length}, longer = {bytes, sizeof bytes}, less = {bytes, result.length - 1};
+    assert(move(sheet, exact) == VELIMHAW_ACCEPTED + result.length);
+    assert(memcmp(exact.bytes, result.bytes, result.length) == 0);
+    memset(bytes, 0xaa, sizeof bytes);
+    assert(move(sheet, less) == 19 && bytes[0] == 0xaa && memcmp(bytes, bytes + 1, sizeof bytes - 1) == 0);
+    assert(move(sheet, longer) == VELIMHAW_ACCEPTED + result.length);
+    assert(memcmp(bytes, result.bytes, result.length) == 0);
+    assert(bytes[result.length] == 0xaa && memcmp(bytes + result.length, bytes + result.length + 1, sizeof bytes - result.length - 1) == 0);
+}
+
+/* A sheet is refused with a number before the output is looked at, and the output keeps its bytes. */
+static void refuses(mover move, velimhaw_bytes sheet, uint64_t number) {
+    static uint8_t bytes[VELIMHAW_MOVED_MAX], kept[VELIMHAW_MOVED_MAX];
+    memset(kept, 0xaa, sizeof kept);
+    memset(bytes, 0xaa, sizeof bytes);
+    velimhaw_lent output = {bytes, sizeof bytes}, none = {bytes, 0};
+    assert(move(sheet, none) == number && move(sheet, output) == number && memcmp(bytes, kept, sizeof kept) == 0);
+}
+
+/* W, a sheet without components and one that no charter accepts, moved both ways; W's sheets cut short anywhere. */
+static void test_moved_sheets(void) {
+    static const uint8_t idle[] = {0, 0}, old_untypable[] = {0, 4, 0, 6, 9, 9, 0}, untypable[] = {0, 4, 0, 0, 6, 9, 9, 0};
+    const velimhaw_bytes forms[][2] = {
+        {old_sheet_of_w, sheet_of_w},
+        {{idle, sizeof idle}, {idle, sizeof idle}},
+        {{old_untypable, sizeof old_untypable}, {untypable, sizeof untypable}},
+    };
+    for (size_t i = 0; i < sizeof forms / sizeof forms[0]; i++) {
+        moves(velimhaw_upgrade, forms[i][0], forms[i][1]);
+        moves(velimhaw_downgrade, forms[i][1], forms[i][0]);
+    }
+    for (size_t length = 0; length < sizeof w_old_sheet; length++)
+        refuses(velimhaw_upgrade, at_end(w_old_sheet, length), 2);
+    for (size_t length = 0; length < sizeof w_sheet; length++)
+        refuses(velimhaw_downgrade, at_end(w_sheet, length), 2);
+}
+
+/* A purpose of 16 at its byte, another than 0 after the whole sheet, and a group that is not new. */
+static void test_sheets_that_are_not_moved(void) {
+    static const struct { uint64_t number; uint8_t bytes[8]; size_t length; } cases[] = {
+        {4, {0, 4, 0, 16, 0}, 5}, {3, {0, 4, 0, 1, 0, 0}, 6}, {41, {0, 4, 0, 1, 0}, 5}, {41, {0, 4, 0, 15, 0}, 5},
+        {6, {0, 2, 0, 4, 0, 0, 0}, 7}};
+    for (size_t i = 0; i < sizeof cases / sizeof cases[0]; i++)
+        refuses(velimhaw_downgrade, at_end(cases[i].bytes, cases[i].length), cases[i].number);
+    static const uint8_t not_new[] = {0, 2, 0, 4, 0, 0};
+    refuses(velimhaw_upgrade, at_end(not_new, sizeof not_new), 6);
+    refuses(velimhaw_downgrade, sheet_of_purposes, 41);
+}
+
+/* Writes a sheet of so many bytes with 32 components, in the old form or with purpose 0 at each. Free names, whose types have two to six
+ * bytes, make up the length. */
+static velimhaw_bytes write_long(uint8_t *sheet, size_t length, bool old) {
+    static const uint8_t new_name[] = {3, 4, 0, 0, 0, 0, 0};
+    size_t type, left = length - 32 * (17 * sizeof new_name + (old ? 4 : 5));
+    velimhaw_bytes written = {sheet, length};
+    memset(sheet, 0, length);
+    uint8_t *at = sheet + 1;
+    for (; left > 0; left -= type, at += type, sheet[0]++) {
+        type = left > 7 ? 6 : left == 7 ? 5 : left;
+        *at = (uint8_t)(type - 2);
+    }
+    for (int component = 0; component < 32; component++) {
+        if (component < 31)
+            *at++ = 1;
+        *at = 4;
+        at += old ? 2 : 3;
+        for (int name = 0; name < 17; name++, at += sizeof new_name)
+            memcpy(at, new_name, sizeof new_name);
+        at++;
+    }
+    assert(at == sheet + length);
+    return written;
+}
+
+/* The longest new form is moved both ways; an old sheet whose new form would be longer is refused with 1, but after 2 to 6. */
+static void test_longest_moved_sheets(void) {
+    static uint8_t old_bytes[VELIMHAW_SHEET_MAX + 1], bytes[VELIMHAW_SHEET_MAX + 1];
+    velimhaw_bytes old = write_long(old_bytes, VELIMHAW_SHEET_MAX - 32, true), sheet = write_long(bytes, VELIMHAW_SHEET_MAX, false);
+    moves(velimhaw_upgrade, old, sheet);
+    moves(velimhaw_downgrade, sheet, old);
+    refuses(velimhaw_upgrade, write_long(old_bytes, VELIMHAW_SHEET_MAX - 31, true), 1);
+    old = write_long(old_bytes, VELIMHAW_SHEET_MAX, true);
+    refuses(velimhaw_upgrade, old, 1);
+    old.length--;
+    refuses(velimhaw_upgrade, old, 2);
+    sheet.length++;
+    refuses(velimhaw_upgrade, sheet, 1);
+    refuses(velimhaw_downgrade, sheet, 1);
+}
+
 int main(void) {
     map_pages();
     test_entries_of_w();
@@ -425,6 +524,9 @@ int main(void) {
     test_no_sentence();
     test_broken_names();
     test_longest_sentence();
+    test_moved_sheets();
+    test_sheets_that_are_not_moved();
+    test_longest_moved_sheets();
     printf("test: all passed\n");
     return 0;
 }

@@ -1,11 +1,11 @@
-/* Velimhaw's four services for C and C++: check a sheet against a charter, tell how much the charter leaves over, explain a refusal with
- * 18, play a script on an accepted sheet; and what takes the bytes they write apart. Link target/staticlib/libvelimhaw.a, which
- * `rt staticlib velimhaw` writes (x86-64 Linux).
+/* Velimhaw's six services for C and C++: check a sheet against a charter, tell how much the charter leaves over, explain a refusal with
+ * 18, play a script on an accepted sheet, move an old sheet over to the form with purposes, and a sheet back to the old form; and what
+ * takes the bytes they write apart. Link target/staticlib/libvelimhaw.a, which `rt staticlib velimhaw` writes (x86-64 Linux).
  *
  * An answer is one number. Below VELIMHAW_ACCEPTED it is the number of the first question that fails (docs/REFERENCE.md, question N;
  * velimhaw_question gives its line), and the output, line or log keeps its bytes. From VELIMHAW_ACCEPTED on the call was accepted: the
- * answer less VELIMHAW_ACCEPTED is the length written (check, slack, explain) or the number of moves (play), and the bytes past what was
- * written keep theirs.
+ * answer less VELIMHAW_ACCEPTED is the number of moves (play) or the length written (all others), and the bytes past what was written keep
+ * theirs.
  *
  * Memory lent to a call:
  * - Any bytes may be lent, of any length that memory can have; every call ends without a fault.
@@ -33,6 +33,7 @@ extern "C" {
 #define VELIMHAW_INTERFACE_MAX 18944u /* with so much output check never refuses with 19 */
 #define VELIMHAW_SLACK_MAX 27136u     /* with so much output slack never refuses with 19 */
 #define VELIMHAW_SENTENCE_MAX 230u    /* with so long a line explain never refuses with 19 */
+#define VELIMHAW_MOVED_MAX 4096u      /* with so much output neither upgrade nor downgrade refuses with 19 */
 #define VELIMHAW_RECORD_LENGTH 8u
 #define VELIMHAW_LOG_MAX 8192u        /* with so much log play never refuses with 22 */
 
@@ -92,6 +93,29 @@ uint64_t velimhaw_explain(velimhaw_bytes sheet, velimhaw_bytes charter, velimhaw
 
 /* Plays a script on a sheet that its charter accepts, and writes a record of eight bytes for each move into the log. */
 uint64_t velimhaw_play(velimhaw_bytes sheet, velimhaw_bytes charter, velimhaw_bytes script, velimhaw_lent log);
+
+/* Moves an old sheet, which has no purposes, over to the form that all other services read: writes it with purpose 0 at each component
+ * into the output. Nothing in a sheet says of which form it is: lend this call old sheets only.
+ *
+ * The answer is
+ * - 1 to 6, asked of the old form, where a component's process follows its group;
+ * - 1 too where the old form passes those and the new one, a byte longer for each component, would have more than VELIMHAW_SHEET_MAX bytes;
+ * - 19 where the output is shorter than the new form;
+ * - VELIMHAW_ACCEPTED + n where the new form was written; it has n bytes.
+ * Names and types are not asked (7 to 10), and there is no charter. Under a charter without purposes check accepts the new form, or
+ * refuses it by the number, as it did the old one before there were purposes, the output being long enough. velimhaw_downgrade gives the
+ * old form back, byte for byte. */
+uint64_t velimhaw_upgrade(velimhaw_bytes sheet, velimhaw_lent output);
+
+/* Moves a sheet back to the old form: writes it without its purposes, which must all be 0, into the output.
+ *
+ * The answer is
+ * - 1 to 6, as check's, but that 1 is asked of the sheet alone;
+ * - 41 where the sheet passes those and some component has another purpose than 0;
+ * - 19 where the output is shorter than the old form;
+ * - VELIMHAW_ACCEPTED + n where the old form was written; it has n bytes.
+ * velimhaw_upgrade gives the sheet back, byte for byte. */
+uint64_t velimhaw_downgrade(velimhaw_bytes sheet, velimhaw_lent output);
 
 /* ---- The interface: an entry for each component and kind with a permission, by component, then rising kind. ----
  *
@@ -312,11 +336,11 @@ static inline bool velimhaw_next_record(velimhaw_bytes *log_bytes, velimhaw_reco
 
 /* ---- The questions ---- */
 
-/* What a question asks for, in one line: 1 to 22 and 40 of a call, 30 to 35 of a move (docs/REFERENCE.md, question N). NULL for every
- * other number. */
+/* What a question asks for, in one line: 1 to 22, 40 and 41 of a call, 30 to 35 of a move (docs/REFERENCE.md, question N). NULL for
+ * every other number. */
 static inline const char *velimhaw_question(uint64_t number) {
     switch (number) {
-    case 1: return "sheet and charter of at most 4,096 bytes each";
+    case 1: return "sheet, charter and moved sheet of at most 4,096 bytes each";
     case 2: return "a byte wherever the sheet needs one";
     case 3: return "no byte left over after the sheet";
     case 4: return "each code, group, purpose, kind and count of the sheet in its range";
@@ -334,7 +358,7 @@ static inline const char *velimhaw_question(uint64_t number) {
     case 16: return "a tree of the charter for each entry's kind";
     case 17: return "each group of each entry's path at a node that the path reaches";
     case 18: return "each entry covered by its path's grant for its purpose, counts added over components with the same groups and purpose";
-    case 19: return "an output long enough for the interface or the slack, or a line for the sentence";
+    case 19: return "an output long enough for the interface, the slack or the moved sheet, or a line for the sentence";
     case 20: return "a start of at most 64 threads and 1,024 names";
     case 21: return "a script of at most 1,024 whole moves, each field in its range";
     case 22: return "a log of at least 8 bytes a move";
@@ -345,6 +369,7 @@ static inline const char *velimhaw_question(uint64_t number) {
     case 34: return "sender and receiver on the same channel";
     case 35: return "at most 64 threads and 1,024 names after the move";
     case 40: return "a name of 1 to 20 letters, ended by 0A, for each of 64 groups and 16 kinds, no two alike in a list, and nothing after";
+    case 41: return "purpose 0 at each component of a sheet that goes back to the old form";
     default: return NULL;
     }
 }

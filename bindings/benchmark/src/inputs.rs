@@ -1,5 +1,8 @@
 //! The inputs of the benchmark: sheets of a wanted size, their charters, and scripts. All components have purpose 0.
 
+use independent::dialect::Dialect;
+use independent::sheet;
+
 /// Example W.
 pub const W_SHEET: [u8; 31] = [
     2, 2, 0, 0, 0, 1, 0, 0, 2, 0, 1, 4, 1, 0, 6, 0, 1, 0, 4, 2, 0, 5, 0, 1, 0, 0, 5, 2, 0, 0, 0,
@@ -25,6 +28,11 @@ pub fn sheet(size: usize, components: usize, kinds: usize) -> Vec<u8> {
     out
 }
 
+/// A sheet without its purposes.
+pub fn old_form(sheet: &[u8]) -> Vec<u8> {
+    sheet::read(sheet).expect("a sheet that reads").write(Dialect::Old)
+}
+
 /// So many parts in parallel, as evenly nested as can be.
 pub fn parallel(out: &mut Vec<u8>, count: usize, part: &mut dyn FnMut(&mut Vec<u8>)) {
     if count <= 1 {
@@ -46,7 +54,7 @@ fn component(out: &mut Vec<u8>, number: usize, mut left: usize, kinds: usize) {
         if left > 24 {
             out.extend_from_slice(&[6, link, data, 5, link, 1, 0, kind as u8, 6, link, bound]);
             bound += 1;
-        } else if left % 3 == 0 {
+        } else if left.is_multiple_of(3) {
             out.extend_from_slice(&[6, link, data]);
         } else {
             out.extend_from_slice(&[5, data, 0, kind as u8]);

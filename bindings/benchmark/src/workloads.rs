@@ -1,4 +1,4 @@
-//! The workloads of the benchmark: a call of `check`, `slack` or `play` on given inputs, of either side.
+//! The workloads of the benchmark: a call of `check`, `slack`, `play`, `upgrade` or `downgrade` on given inputs, of either side.
 
 use crate::{inputs, shared};
 use std::hint::black_box;
@@ -15,9 +15,11 @@ enum Service {
     Check,
     Slack,
     Play(Vec<u8>),
+    Upgrade,
+    Downgrade,
 }
 
-/// Memory to lend to a call: room for any interface, any slack form and any log.
+/// Memory to lend to a call: room for any interface, any slack form, any log and any sheet.
 pub fn lent() -> Vec<u8> {
     vec![0; velimhaw::SLACK_MAX]
 }
@@ -47,7 +49,22 @@ pub fn all() -> Vec<Workload> {
     for size in [500, 1000, 2000, 4000] {
         all.push(play(&format!("play, 126 moves, text: {size} bytes"), inputs::text_sheet(size), inputs::text_script(63)));
     }
-    all
+    all.into_iter().chain(moves()).collect()
+}
+
+/// The sheets moved to the new form and to the old one: W, typical, largest and growing.
+fn moves() -> Vec<Workload> {
+    let mut sheets = vec![
+        ("W".to_string(), inputs::W_SHEET.to_vec()),
+        ("typical: 300 bytes".to_string(), inputs::sheet(300, 12, 3)),
+        ("largest: 4,096 bytes".to_string(), inputs::sheet(4096, 32, 16)),
+    ];
+    for (size, components) in [(256, 2), (1024, 8), (4096, 32)] {
+        sheets.push((format!("growth: {size} bytes"), inputs::sheet(size, components, 4)));
+    }
+    let upgrades = sheets.iter().map(|(name, sheet)| moved(&format!("upgrade, {name}"), inputs::old_form(sheet), Service::Upgrade));
+    let downgrades = sheets.iter().map(|(name, sheet)| moved(&format!("downgrade, {name}"), sheet.clone(), Service::Downgrade));
+    upgrades.chain(downgrades).collect()
 }
 
 /// Makes a workload of a name, a sheet and a charter.
@@ -65,6 +82,11 @@ fn play(name: &str, sheet: Vec<u8>, script: Vec<u8>) -> Workload {
     Workload { service: Service::Play(script), ..check(name, sheet, inputs::RUNNING_CHARTER.to_vec()) }
 }
 
+/// A call that takes no charter.
+fn moved(name: &str, sheet: Vec<u8>, service: Service) -> Workload {
+    Workload { service, ..check(name, sheet, Vec::new()) }
+}
+
 impl Workload {
     /// One call of a side: 0 is the independent implementation, 1 the proved library. The number that it accepts with.
     pub fn call(&self, side: usize, lent: &mut [u8]) -> usize {
@@ -73,9 +95,13 @@ impl Workload {
             (0, Service::Check) => independent::check(sheet, charter, lent),
             (0, Service::Slack) => independent::slack(sheet, charter, lent),
             (0, Service::Play(script)) => independent::play(sheet, charter, script, lent),
+            (0, Service::Upgrade) => independent::upgrade(sheet, lent),
+            (0, Service::Downgrade) => independent::downgrade(sheet, lent),
             (_, Service::Check) => told(velimhaw::check(sheet, charter, lent)),
             (_, Service::Slack) => told(velimhaw::slack(sheet, charter, lent)),
             (_, Service::Play(script)) => told(velimhaw::play(sheet, charter, script, lent)),
+            (_, Service::Upgrade) => told(velimhaw::upgrade(sheet, lent)),
+            (_, Service::Downgrade) => told(velimhaw::downgrade(sheet, lent)),
         };
         black_box(answer).unwrap_or_else(|n| panic!("{}: refused {n}", self.name))
     }

@@ -6,10 +6,12 @@ use independent::running::State;
 use independent::text;
 use velimhaw::{SlackEntries, SLACK_MAX};
 
-/// The inputs of one case; `output`, `line` and `log` are the lengths of the lent memory, and `trim` chooses a count of the charter.
+/// The inputs of one case; `old` is a sheet of the old form, `output`, `line` and `log` are the lengths of the lent memory, and `trim`
+/// chooses a count of the charter.
 #[derive(Clone)]
 pub struct Case {
     pub sheet: Vec<u8>,
+    pub old: Vec<u8>,
     pub charter: Vec<u8>,
     pub names: Vec<u8>,
     pub script: Vec<u8>,
@@ -27,7 +29,8 @@ pub struct Outcome {
     memory: Vec<u8>,
 }
 
-const MARGIN: usize = 24;
+/// The bytes around what is lent.
+pub const MARGIN: usize = 24;
 
 impl Case {
     pub fn check(&self, subject: &dyn Subject) -> Outcome {
@@ -48,7 +51,7 @@ impl Case {
     }
 
     /// Lends patterned memory with a margin on both sides to a call.
-    fn lend(&self, length: usize, call: impl FnOnce(&mut [u8]) -> Result<usize, u32>) -> Outcome {
+    pub fn lend(&self, length: usize, call: impl FnOnce(&mut [u8]) -> Result<usize, u32>) -> Outcome {
         let mut memory = self.patterned(length + 2 * MARGIN);
         let answer = call(&mut memory[MARGIN..MARGIN + length]);
         Outcome { answer, memory }
@@ -81,7 +84,8 @@ impl Case {
         (printed != format!("accepted\n{lines}")).then(|| format!("list prints {printed:?}, the slack form shows {lines:?}"))
     }
 
-    fn compare(&self, service: &str, unit: usize, left: &Outcome, right: &Outcome) -> Option<String> {
+    /// What of the outcomes of a call differs, or what both do to memory past `unit` bytes for each of the number that they answer.
+    pub fn compare(&self, service: &str, unit: usize, left: &Outcome, right: &Outcome) -> Option<String> {
         if left.answer != right.answer {
             return Some(format!("{service}: independent {:?}, proved {:?}", left.answer, right.answer));
         }
@@ -117,8 +121,9 @@ impl Case {
     }
 
     pub fn print(&self) {
-        let inputs = [("sheet", &self.sheet), ("charter", &self.charter), ("names", &self.names), ("script", &self.script)];
-        for (name, bytes) in inputs {
+        let sheets = [("sheet", &self.sheet), ("old sheet", &self.old)];
+        let others = [("charter", &self.charter), ("names", &self.names), ("script", &self.script)];
+        for (name, bytes) in sheets.into_iter().chain(others) {
             println!("{name} ({} bytes): {}", bytes.len(), hex(bytes));
         }
         let lengths = format!("output {} bytes, line {} bytes, log {} bytes", self.output, self.line, self.log);

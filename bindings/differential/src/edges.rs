@@ -1,12 +1,12 @@
-//! Sheets and charters around the limits of documents 01 and 02: lengths, nesting, names, components, purposes, threads, nodes; large
-//! shared counts and large grants.
+//! Sheets and charters around the limits of documents 01 and 02: lengths, in the new form and in the old one, nesting, names, components,
+//! purposes, threads, nodes; large shared counts and large grants.
 
 use crate::random::Random;
 
 /// A sheet and a charter near one limit.
 pub fn edge(random: &mut Random) -> (Vec<u8>, Vec<u8>) {
     let step = random.below(4);
-    match random.below(15) {
+    match random.below(16) {
         0 => (nested(&[3, 0, 0], 62 + step), vec![0]),
         1 => (nested(&[1], 62 + step).into_iter().chain(vec![0; 62 + step]).collect(), vec![0]),
         2 => (components(31 + step, &[4, 0, last_purposes(random), 0]), vec![0]),
@@ -21,6 +21,7 @@ pub fn edge(random: &mut Random) -> (Vec<u8>, Vec<u8>) {
         11 => shared_count(random),
         12 => large_grants(random),
         13 => purposes_and_maps(random),
+        14 => both_forms_long(random),
         _ => (bound_names(61 + step), vec![1, 0, 0, 0x17, 1, 0, 255, 255, 0]),
     }
 }
@@ -151,6 +152,23 @@ fn large_grants(random: &mut Random) -> (Vec<u8>, Vec<u8>) {
     sheet.push(random.below(16) as u8);
     sheet.extend_from_slice(random.pick(&acts));
     (sheet, charter)
+}
+
+/// Components that disclose side by side, now and then one of them with another purpose than 0: the new form or the old one has about 4,096
+/// bytes. A third free name makes up the length.
+fn both_forms_long(random: &mut Random) -> (Vec<u8>, Vec<u8>) {
+    let components = random.between(1, 32);
+    let length = random.between(4095, 4097) + random.pick(&[0, 1, components]);
+    let sends = (length - 9 - 3 * components) / 5;
+    let spare = length - 7 - 3 * components - 5 * sends;
+    let mut sheet = vec![3, 2, 0, 0, 0, 1, 0, 0, spare as u8 - 2];
+    sheet.extend(vec![0; spare - 1]);
+    for number in 0..components {
+        sheet.extend_from_slice(if number + 1 < components { &[1] } else { &[] });
+        sheet.extend_from_slice(&[4, 0, (random.below(200) == 0) as u8]);
+        parallel(&mut sheet, sends * (number + 1) / components - sends * number / components, &[6, 0, 1, 0]);
+    }
+    (sheet, vec![1, 0, 0, 0x10, 1, 0, 255, random.pick(&[0, 15, 255]), 0])
 }
 
 /// Names bound by receives until so many are in scope.

@@ -2,7 +2,7 @@
 
 use crate::case::Case;
 use crate::random::Random;
-use crate::{charters, classes, damage, edges, names, repeats, scripts, sheets};
+use crate::{charters, classes, damage, edges, names, old, repeats, scripts, sheets};
 use independent::charter::Charter;
 use independent::permissions::Entry;
 use independent::running::State;
@@ -17,6 +17,7 @@ pub fn case(random: &mut Random) -> Case {
         _ => pair(random),
     };
     let mut script = script(random, &sheet, &charter);
+    let old = old::old(random, &sheet);
     if random.chance(15) {
         match random.below(3) {
             0 => damage::damage(random, &mut sheet),
@@ -26,7 +27,7 @@ pub fn case(random: &mut Random) -> Case {
     }
     let names = names::names(random);
     let (pattern, trim) = (random.byte(), random.below(1 << 16));
-    let mut case = Case { sheet, charter, names, script, output: 0, line: 0, log: 0, pattern, trim };
+    let mut case = Case { sheet, old, charter, names, script, output: 0, line: 0, log: 0, pattern, trim };
     case.output = around(random, needed_output(&case), 3);
     case.line = around(random, needed_line(&case), 3);
     case.log = around(random, needed_log(&case), 9);

@@ -1,5 +1,5 @@
 //! The differential tester: generates inputs and compares the independent implementation with the proved library. It also looks at demand 3
-//! after every move, by path and purpose, and trims a charter by the slack that is told.
+//! after every move, by path and purpose, trims a charter by the slack that is told, and moves sheets to the old form and to the new one.
 //! Usage: differential [--cases N] [--seconds S] [--seed X] [--first K] [--show]
 //! `--first` starts at a later case of the same seed; `--show` prints each case before it is run.
 
@@ -10,10 +10,13 @@ mod damage;
 mod edges;
 mod faults;
 mod generate;
+mod moving;
 mod names;
+mod old;
 mod purposes;
 mod random;
 mod repeats;
+mod sameness;
 mod scripts;
 mod served;
 mod shared;
@@ -78,7 +81,7 @@ fn options() -> Option<Options> {
 fn run(options: &Options, totals: &mut Totals) -> ExitCode {
     let end = options.seconds.map(|seconds| Instant::now() + Duration::from_secs(seconds));
     let mut number = options.first;
-    while totals.cases < options.cases && end.map_or(true, |end| Instant::now() < end) {
+    while totals.cases < options.cases && end.is_none_or(|end| Instant::now() < end) {
         let mut random = Random::new(options.seed, number);
         let case = generate::case(&mut random);
         if options.show {
@@ -98,11 +101,14 @@ fn run(options: &Options, totals: &mut Totals) -> ExitCode {
 type Look = fn(&Case) -> Option<String>;
 
 /// The looks at each case, whatever the lengths of its output, line and log.
-const LOOKS: [Look; 4] = [
+const LOOKS: [Look; 7] = [
     Case::violation,
     |case| case.slack_difference(&Independent, &Proved),
     |case| case.list_difference(&Proved),
     trimming::fault,
+    moving::difference,
+    moving::loss,
+    sameness::fault,
 ];
 
 /// Looks at a case, and compares the two sides on it, with `sweep` at every length around the need; the answer is a shown fault.

@@ -16,6 +16,7 @@ pub fn shrink(case: Case, fails: &dyn Fn(&Case) -> bool) -> Case {
         best = drop_bytes(best, fails, |case| &mut case.names);
         best = drop_bytes(best, fails, |case| &mut case.charter);
         best = drop_bytes(best, fails, |case| &mut case.sheet);
+        best = drop_bytes(best, fails, |case| &mut case.old);
         best = drop_maps(best, fails);
         best = lend_less(best, fails);
         if weight(&best) == size {
@@ -26,7 +27,7 @@ pub fn shrink(case: Case, fails: &dyn Fn(&Case) -> bool) -> Case {
 
 fn weight(case: &Case) -> usize {
     let lent = case.output + case.line + case.log;
-    case.sheet.len() + case.charter.len() + case.names.len() + case.script.len() + lent
+    case.sheet.len() + case.old.len() + case.charter.len() + case.names.len() + case.script.len() + lent
 }
 
 /// Drops runs of things, long ones first, while the case built from the rest fails.
@@ -98,10 +99,10 @@ fn without_map(charter: &Charter, number: usize) -> Option<Charter> {
     (number < nodes).then_some(fewer)
 }
 
-/// Puts 0 for bytes of the sheet and of the charter.
+/// Puts 0 for bytes of the sheets and of the charter.
 fn put_zeros(case: Case, fails: &dyn Fn(&Case) -> bool) -> Case {
     let mut best = case;
-    for field in [(|case| &mut case.sheet) as fn(&mut Case) -> &mut Vec<u8>, |case| &mut case.charter] {
+    for field in [(|case| &mut case.sheet) as fn(&mut Case) -> &mut Vec<u8>, |case| &mut case.old, |case| &mut case.charter] {
         for at in 0..field(&mut best).len() {
             let mut other = best.clone();
             field(&mut other)[at] = 0;

@@ -1,10 +1,10 @@
 //! What the cases of a run met: refusals by number, faults of charters that come together, counts that components share, purposes, sums
-//! told and counts trimmed, the first uncovered permissions by verb, records by label.
+//! told and counts trimmed, the first uncovered permissions by verb, records by label, sheets moved and what they are answered.
 
 use crate::case::Case;
 use crate::subject::Independent;
 use crate::trimming::Trimming;
-use crate::{classes, faults, served, shared};
+use crate::{classes, faults, moving, sameness, served, shared};
 use independent::permissions::Need;
 use independent::{charter, sheet, typing};
 use std::collections::BTreeMap;
@@ -30,6 +30,9 @@ pub struct Totals {
     trimmed: BTreeMap<&'static str, u64>,
     verbs: BTreeMap<&'static str, u64>,
     records: BTreeMap<(u8, u8), u64>,
+    moved: BTreeMap<(&'static str, &'static str), u64>,
+    unmoved: BTreeMap<(&'static str, u32), u64>,
+    same: BTreeMap<Result<(), u32>, u64>,
 }
 
 impl Totals {
@@ -43,6 +46,7 @@ impl Totals {
         self.count_slack(case);
         self.count_explanation(case);
         self.count_run(case);
+        self.count_moving(case);
     }
 
     /// Adds the faults of a charter that was asked 12 to 15.
@@ -97,6 +101,17 @@ impl Totals {
         }
     }
 
+    /// Adds which sheets are moved, and, where a moved one must be answered as the old one was, the answer.
+    fn count_moving(&mut self, case: &Case) {
+        for moving in moving::all(case) {
+            let way = moving.way.name();
+            add(&mut self.moved, moving.met().into_iter().map(|what| (way, what)));
+            add(&mut self.unmoved, moving.moved(&Independent).err().map(|number| (way, number)));
+        }
+        let is = sameness::after(case, &Independent);
+        add(&mut self.same, sameness::before(case).filter(|_| is.is_some()));
+    }
+
     pub fn print(&self) {
         println!("check, refused by number: {:?}", self.check);
         println!("charters with nodes that fail 13 or 14: {:?}", self.faults);
@@ -110,19 +125,20 @@ impl Totals {
         println!("first uncovered permission, by verb: {:?}", self.verbs);
         println!("play, refused by number: {:?}", self.play);
         println!("records, by number and label: {:?}", self.records);
+        println!("sheets moved: {:?}", self.moved);
+        println!("sheets not moved, by number: {:?}", self.unmoved);
+        println!("moved sheets answered as the old ones were: {:?}", self.same);
         println!("{} cases, {} accepted, {} moves, {} of them taken", self.cases, self.accepted, self.moves, self.taken);
     }
 }
 
 /// Adds one to each of some things.
-fn add(counts: &mut BTreeMap<&'static str, u64>, met: impl IntoIterator<Item = &'static str>) {
+fn add<K: Ord>(counts: &mut BTreeMap<K, u64>, met: impl IntoIterator<Item = K>) {
     met.into_iter().for_each(|what| *counts.entry(what).or_insert(0) += 1);
 }
 
 fn tally(refused: &mut BTreeMap<u32, u64>, answer: Result<usize, u32>) {
-    if let Err(number) = answer {
-        *refused.entry(number).or_insert(0) += 1;
-    }
+    add(refused, answer.err());
 }
 
 /// What is worth counting of the sums for a group.

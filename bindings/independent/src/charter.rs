@@ -1,6 +1,7 @@
 //! Charters as trees, their reader (question 11) and their own rules (questions 12 to 15).
 
 use crate::bytes::Reader;
+use crate::dialect::Dialect;
 use crate::permissions::{Count, Permissions};
 use std::collections::BTreeSet;
 
@@ -41,6 +42,12 @@ pub fn read(bytes: &[u8]) -> Result<Charter, u32> {
     if reader.at_end() { Ok(Charter { trees }) } else { Err(UNREADABLE) }
 }
 
+/// Reads a whole charter of a dialect. In the old one a map had no bit 5; every fault having one number, it is asked after the reading.
+pub fn read_in(dialect: Dialect, bytes: &[u8]) -> Result<Charter, u32> {
+    let charter = read(bytes)?;
+    if dialect == Dialect::Old && charter.has_maps() { Err(UNREADABLE) } else { Ok(charter) }
+}
+
 /// Reads a node with at most `levels` levels of nodes, itself included.
 fn read_node(reader: &mut Reader, levels: usize, nodes_left: &mut usize) -> Result<Node, u32> {
     if levels == 0 || *nodes_left == 0 {
@@ -71,7 +78,7 @@ fn read_list(reader: &mut Reader, grant: &mut Permissions) -> Result<(), u32> {
     }
     for _ in 0..count {
         let group = reader.below(64, UNREADABLE, UNREADABLE)?;
-        let rising = grant.disclose.keys().next_back().map_or(true, |&last| last < group);
+        let rising = grant.disclose.keys().next_back().is_none_or(|&last| last < group);
         let times = match reader.two(UNREADABLE)? {
             n @ 1..=4095 => Count::Finite(n as u32),
             65535 => Count::Unlimited,
@@ -89,6 +96,13 @@ impl Charter {
     /// The tree of a kind.
     pub fn tree(&self, kind: u8) -> Option<&Tree> {
         self.trees.iter().find(|tree| tree.kind == kind)
+    }
+
+    /// Whether some node has a map of purposes.
+    pub fn has_maps(&self) -> bool {
+        let mut some = false;
+        self.trees.iter().for_each(|tree| tree.root.visit(&mut |node| some |= node.purposes.is_some()));
+        some
     }
 
     /// Questions 12 to 15: 12 of the whole charter, 13 and 14 node by node, tree after tree, then 15 of the whole charter.

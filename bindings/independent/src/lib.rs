@@ -1,12 +1,14 @@
 //! Document 01 (flow sheets, charters and runs), the sentence for a refused sheet, the counts that components share, what a charter leaves
-//! over and the purposes for which it grants, in plain Rust, written from the documents and the list of readings that decides their open
-//! points. It shares no code with the proved library, but those readings it shares: an agreement of the two says nothing about an open
-//! point that the list itself reads wrongly.
+//! over, the purposes for which it grants, and sheets moved between the forms without and with purposes, in plain Rust, written from the
+//! documents and the list of readings that decides their open points. It shares no code with the proved library, but those readings it
+//! shares: an agreement of the two says nothing about an open point that the list itself reads wrongly.
 
 pub mod bytes;
 pub mod charter;
 pub mod cover;
 pub mod demand3;
+pub mod dialect;
+pub mod moving;
 pub mod names;
 pub mod permissions;
 pub mod running;
@@ -18,9 +20,12 @@ pub mod slack;
 pub mod text;
 pub mod types;
 pub mod typing;
+pub mod writing;
 
 use charter::Charter;
 use cover::{Uncovered, Verdict};
+use dialect::Dialect;
+pub use moving::{downgrade, upgrade};
 use permissions::Entry;
 use running::State;
 use sheet::Sheet;
@@ -49,16 +54,26 @@ impl Judged {
             Some(Uncovered { path: self.sheet.components[entry.component].path.clone(), need, kind: entry.kind })
         })
     }
+
+    /// Question 18.
+    fn accepted(self) -> Result<Judged, u32> {
+        if self.uncovered().is_none() { Ok(self) } else { Err(18) }
+    }
 }
 
 /// Puts questions 1 to 17 and makes the covering test; the number of the first question that fails is the error.
 pub fn judge(sheet: &[u8], charter: &[u8]) -> Result<Judged, u32> {
+    judge_in(Dialect::New, sheet, charter)
+}
+
+/// The same of a sheet and a charter of a dialect.
+fn judge_in(dialect: Dialect, sheet: &[u8], charter: &[u8]) -> Result<Judged, u32> {
     if sheet.len() > LONGEST || charter.len() > LONGEST {
         return Err(1);
     }
-    let sheet = sheet::read(sheet)?;
+    let sheet = sheet::read_in(dialect, sheet)?;
     typing::check_sheet(&sheet)?;
-    let charter = charter::read(charter)?;
+    let charter = charter::read_in(dialect, charter)?;
     charter.check()?;
     let interface = typing::interface(&sheet);
     let verdicts = cover::verdicts(&sheet, &charter, &interface)?;
@@ -67,13 +82,20 @@ pub fn judge(sheet: &[u8], charter: &[u8]) -> Result<Judged, u32> {
 
 /// Puts questions 1 to 18; the number of the first that fails is the error.
 pub fn accept(sheet: &[u8], charter: &[u8]) -> Result<Judged, u32> {
-    let judged = judge(sheet, charter)?;
-    if judged.uncovered().is_none() { Ok(judged) } else { Err(18) }
+    judge(sheet, charter)?.accepted()
 }
 
 /// The service check: the length of the interface written to `output`, or the question's number.
 pub fn check(sheet: &[u8], charter: &[u8], output: &mut [u8]) -> Result<usize, u32> {
-    let accepted = accept(sheet, charter)?;
+    write_interface(accept(sheet, charter)?, output)
+}
+
+/// The service check as it was before there were purposes in sheets, charters and interfaces.
+pub fn before(sheet: &[u8], charter: &[u8], output: &mut [u8]) -> Result<usize, u32> {
+    write_interface(judge_in(Dialect::Old, sheet, charter)?.accepted()?, output)
+}
+
+fn write_interface(accepted: Judged, output: &mut [u8]) -> Result<usize, u32> {
     write(&permissions::write_interface(&accepted.sheet, &accepted.interface), output)
 }
 

@@ -1,5 +1,6 @@
 //! Permissions, how they join, and the interface with its stored form.
 
+use crate::dialect::Dialect;
 use crate::sheet::{Component, Sheet};
 use std::collections::BTreeMap;
 use std::fmt;
@@ -153,13 +154,15 @@ pub struct Entry {
 }
 
 impl Entry {
-    /// Appends what a stored entry begins with: kind, length of the path, path and purpose.
+    /// Appends what a stored entry begins with: kind, length of the path, path and, if the sheet's dialect has them, purpose.
     pub fn write_head(&self, sheet: &Sheet, out: &mut Vec<u8>) {
         let Component { path, purpose } = &sheet.components[self.component];
         out.push(self.kind);
         out.push(path.len() as u8);
         out.extend_from_slice(path);
-        out.push(*purpose);
+        if sheet.dialect == Dialect::New {
+            out.push(*purpose);
+        }
     }
 }
 

@@ -1,10 +1,12 @@
-//! Sheets as trees, and their reader (questions 2 to 6).
+//! Sheets as trees, and their reader (questions 2 to 6), which reads both dialects.
 
 use crate::bytes::Reader;
+use crate::dialect::Dialect;
 use crate::types::{self, Type};
 
-/// A sheet: the types of its free names, its system, and its components in sheet order.
+/// A sheet: the dialect that it was read in, the types of its free names, its system, and its components in sheet order.
 pub struct Sheet {
+    pub dialect: Dialect,
     pub free: Vec<Type>,
     pub system: System,
     pub components: Vec<Component>,
@@ -45,23 +47,29 @@ pub const PURPOSES: u8 = 16;
 
 /// Reads a whole sheet; the error is the number of the question that its first failing byte fails.
 pub fn read(bytes: &[u8]) -> Result<Sheet, u32> {
+    read_in(Dialect::New, bytes)
+}
+
+/// Reads a whole sheet of a dialect.
+pub fn read_in(dialect: Dialect, bytes: &[u8]) -> Result<Sheet, u32> {
     let mut reader = Reader::new(bytes);
     let count = reader.below(33, MISSING, RANGE)?;
     let mut free = Vec::new();
     for _ in 0..count {
         free.push(types::read(&mut reader, MISSING, RANGE)?);
     }
-    let mut walk = Walk { reader, path: Vec::new(), components: Vec::new() };
+    let mut walk = Walk { reader, dialect, path: Vec::new(), components: Vec::new() };
     let system = walk.system(1, free.len())?;
     if !walk.reader.at_end() {
         return Err(LEFT_OVER);
     }
-    Ok(Sheet { free, system, components: walk.components })
+    Ok(Sheet { dialect, free, system, components: walk.components })
 }
 
 /// The reader on its way through the forms: the groups passed so far and the components met so far.
 struct Walk<'a> {
     reader: Reader<'a>,
+    dialect: Dialect,
     path: Vec<u8>,
     components: Vec<Component>,
 }
@@ -93,11 +101,19 @@ impl Walk<'_> {
     fn component(&mut self, level: usize, names: usize) -> Result<System, u32> {
         let number = self.components.len();
         self.enter_group()?;
-        let purpose = self.reader.below(PURPOSES, MISSING, RANGE)?;
+        let purpose = self.purpose()?;
         self.components.push(Component { path: self.path.clone(), purpose });
         let process = self.process(level + 1, names)?;
         self.path.pop();
         Ok(System::Component(number, process))
+    }
+
+    /// Reads a component's purpose, where the dialect stores it.
+    fn purpose(&mut self) -> Result<u8, u32> {
+        match self.dialect {
+            Dialect::Old => Ok(0),
+            Dialect::New => self.reader.below(PURPOSES, MISSING, RANGE),
+        }
     }
 
     /// Reads a group that has to be new to the path, and adds it.

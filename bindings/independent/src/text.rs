@@ -1,4 +1,4 @@
-//! What the list program and the run program write.
+//! What the programs write.
 
 use crate::cover::Verdict;
 use crate::permissions::Need;
@@ -26,6 +26,27 @@ pub fn run(sheet: &[u8], charter: &[u8], script: &[u8]) -> Vec<u8> {
         Ok(moves) => {
             log.truncate(8 * moves);
             log
+        }
+    }
+}
+
+/// The upgrade program's bytes for an old sheet.
+pub fn upgrade(sheet: &[u8]) -> Vec<u8> {
+    moved(sheet, crate::upgrade)
+}
+
+/// The downgrade program's bytes for a sheet.
+pub fn downgrade(sheet: &[u8]) -> Vec<u8> {
+    moved(sheet, crate::downgrade)
+}
+
+fn moved(sheet: &[u8], service: fn(&[u8], &mut [u8]) -> Result<usize, u32>) -> Vec<u8> {
+    let mut output = vec![0; crate::LONGEST];
+    match service(sheet, &mut output) {
+        Err(number) => refused(number).into_bytes(),
+        Ok(length) => {
+            output.truncate(length);
+            output
         }
     }
 }

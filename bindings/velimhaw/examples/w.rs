@@ -1,6 +1,7 @@
 //! Checks and plays example W of docs/REFERENCE.md, and prints the entries of its interface, what its charter leaves over and the records
-//! of its log; then explains why another charter refuses it.
-use velimhaw::{try_check, try_explain, try_play, try_slack, Refusal, GROUPS, KINDS, LOG_MAX, SENTENCE_MAX, SLACK_MAX};
+//! of its log; then explains why another charter refuses it, and moves it back to the old form and over again.
+use velimhaw::{try_check, try_downgrade, try_explain, try_play, try_slack, try_upgrade, Refusal};
+use velimhaw::{GROUPS, KINDS, LOG_MAX, MOVED_MAX, SENTENCE_MAX, SLACK_MAX};
 
 const SHEET: [u8; 31] = [
     2, 2, 0, 0, 0, 1, 0, 0, 2, 0, 1, 4, 1, 0, 6, 0, 1, 0, 4, 2, 0, 5, 0, 1, 0, 0, 5, 2, 0, 0, 0,
@@ -47,5 +48,8 @@ fn main() -> Result<(), Refusal> {
     if let Some(sentence) = try_explain(&SHEET, &STRICT_CHARTER, &names(), &mut line)? {
         println!("explain: {sentence}");
     }
+    let mut moved = [0; MOVED_MAX];
+    let old_sheet = try_downgrade(&SHEET, &mut moved)?;
+    println!("downgrade: {} bytes, upgrade: {} bytes", old_sheet.len(), try_upgrade(old_sheet, &mut output)?.len());
     Ok(())
 }

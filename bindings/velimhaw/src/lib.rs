@@ -1,16 +1,18 @@
-//! Velimhaw's four services from Rust: check a sheet against a charter, tell how much the charter leaves over, explain a refusal with 18,
-//! play a script on an accepted sheet. The work is done by the proved static library; this package declares its four functions, and takes
-//! their answers and the bytes they write apart.
+//! Velimhaw's six services from Rust: check a sheet against a charter, tell how much the charter leaves over, explain a refusal with 18,
+//! play a script on an accepted sheet, move an old sheet over to the form with purposes, and a sheet back to the old form. The work is done
+//! by the proved static library; this package declares its six functions, and takes their answers and the bytes they write apart.
 //!
-//! [`try_check`], [`try_slack`] and [`try_play`] answer what was written as an iterator, [`try_explain`] as a sentence, or the
-//! [`Refusal`]; [`check`], [`slack`], [`explain`] and [`play`] answer the plain number. Any bytes of any length may be lent. On refusal
-//! the output, line or log keeps its bytes, and so do on acceptance those past what is written.
+//! [`try_check`], [`try_slack`] and [`try_play`] answer what was written as an iterator, [`try_explain`] as a sentence, [`try_upgrade`]
+//! and [`try_downgrade`] as bytes, or the [`Refusal`]; [`check`], [`slack`], [`explain`], [`play`], [`upgrade`] and [`downgrade`] answer
+//! the plain number. Any bytes of any length may be lent. On refusal the output, line or log keeps its bytes, and so do on acceptance those
+//! past what is written.
 //!
 //! "Question N" is that of docs/REFERENCE.md.
 
 mod entries;
 mod interface;
 mod limits;
+mod moving;
 mod records;
 mod refusal;
 mod services;
@@ -19,6 +21,7 @@ mod sums;
 pub use entries::{EntriesOf, EntryOf};
 pub use interface::{Disclosure, Entries, Entry};
 pub use limits::*;
+pub use moving::{downgrade, try_downgrade, try_upgrade, upgrade};
 pub use records::{Record, Records};
 pub use refusal::{question, Refusal};
 pub use services::{check, explain, play, slack, try_check, try_explain, try_play, try_slack, Answer, Explanation};

@@ -14,6 +14,8 @@ pub const INTERFACE_MAX: usize = 18_944;
 pub const SLACK_MAX: usize = 27_136;
 /// The length of a line for which `explain` never refuses with 19: the bytes of the longest sentence.
 pub const SENTENCE_MAX: usize = 230;
+/// The length of an output for which neither `upgrade` nor `downgrade` refuses with 19.
+pub const MOVED_MAX: usize = SHEET_MAX;
 /// The length of a log for which `play` never refuses with 22.
 pub const LOG_MAX: usize = RECORD_LENGTH * MOVES_MAX;
 /// The length of a move's record.

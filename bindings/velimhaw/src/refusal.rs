@@ -14,7 +14,7 @@ impl Refusal {
         Refusal { number }
     }
 
-    /// The question's number: 1 to 22 and 40 of a call, 30 to 35 of a move.
+    /// The question's number: 1 to 22, 40 and 41 of a call, 30 to 35 of a move.
     pub fn number(self) -> usize {
         self.number
     }
@@ -32,7 +32,7 @@ impl std::error::Error for Refusal {}
 /// What a question asks for, in one line (docs/REFERENCE.md, question N); nothing for a number that no question has.
 pub fn question(number: usize) -> Option<&'static str> {
     Some(match number {
-        1 => "sheet and charter of at most 4,096 bytes each",
+        1 => "sheet, charter and moved sheet of at most 4,096 bytes each",
         2 => "a byte wherever the sheet needs one",
         3 => "no byte left over after the sheet",
         4 => "each code, group, purpose, kind and count of the sheet in its range",
@@ -50,7 +50,7 @@ pub fn question(number: usize) -> Option<&'static str> {
         16 => "a tree of the charter for each entry's kind",
         17 => "each group of each entry's path at a node that the path reaches",
         18 => "each entry covered by its path's grant for its purpose, counts added over components with the same groups and purpose",
-        19 => "an output long enough for the interface or the slack, or a line for the sentence",
+        19 => "an output long enough for the interface, the slack or the moved sheet, or a line for the sentence",
         20 => "a start of at most 64 threads and 1,024 names",
         21 => "a script of at most 1,024 whole moves, each field in its range",
         22 => "a log of at least 8 bytes a move",
@@ -61,6 +61,7 @@ pub fn question(number: usize) -> Option<&'static str> {
         34 => "sender and receiver on the same channel",
         35 => "at most 64 threads and 1,024 names after the move",
         40 => "a name of 1 to 20 letters, ended by 0A, for each of 64 groups and 16 kinds, no two alike in a list, and nothing after",
+        41 => "purpose 0 at each component of a sheet that goes back to the old form",
         _ => return None,
     })
 }

@@ -1,11 +1,11 @@
-//! The four services: as the static library answers, and as results.
+//! The services on a sheet and its charter, as the static library answers and as results; and what an answer is.
 
 use crate::{Entries, Records, Refusal, SlackEntries, RECORD_LENGTH};
 
-/// What `check`, `slack` and `play` answer.
+/// What all services but `explain` answer.
 #[derive(Clone, Copy, Debug, PartialEq, Eq)]
 pub enum Answer {
-    /// The length written (check, slack) or the number of moves (play).
+    /// The number of moves (play) or the length written (all others).
     Accepted(usize),
     /// The number of the first question that fails; the memory lent keeps its bytes.
     Refused(usize),
@@ -35,13 +35,13 @@ pub enum Explanation {
 
 /// A slice as C takes it: where its bytes are, and how many.
 #[repr(C)]
-struct Bytes {
+pub(crate) struct Bytes {
     at: *const u8,
     length: usize,
 }
 
 #[repr(C)]
-struct Lent {
+pub(crate) struct Lent {
     at: *mut u8,
     length: usize,
 }
@@ -53,16 +53,16 @@ extern "C" {
     fn velimhaw_play(sheet: Bytes, charter: Bytes, script: Bytes, log: Lent) -> u64;
 }
 
-fn bytes(s: &[u8]) -> Bytes {
+pub(crate) fn bytes(s: &[u8]) -> Bytes {
     Bytes { at: s.as_ptr(), length: s.len() }
 }
 
-fn lent(s: &mut [u8]) -> Lent {
+pub(crate) fn lent(s: &mut [u8]) -> Lent {
     Lent { at: s.as_mut_ptr(), length: s.len() }
 }
 
 /// Below 64: the number of a question. From 64 on: accepted.
-fn answer(code: u64) -> Answer {
+pub(crate) fn answer(code: u64) -> Answer {
     if code < 64 {
         Answer::Refused(code as usize)
     } else {

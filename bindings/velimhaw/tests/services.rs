@@ -227,7 +227,7 @@ fn the_constants_of_the_header_are_these() {
     let header = include_str!("../../c/velimhaw.h");
     let sizes = [("SHEET_MAX", SHEET_MAX), ("CHARTER_MAX", CHARTER_MAX), ("SCRIPT_MAX", SCRIPT_MAX), ("INTERFACE_MAX", INTERFACE_MAX)];
     let sums = [("SLACK_MAX", SLACK_MAX), ("NEEDED_MAX", NEEDED_MAX.into()), ("GRANTED_MAX", GRANTED_MAX.into())];
-    let texts = [("NAMES_FILE_MAX", NAMES_FILE_MAX), ("SENTENCE_MAX", SENTENCE_MAX)];
+    let texts = [("NAMES_FILE_MAX", NAMES_FILE_MAX), ("SENTENCE_MAX", SENTENCE_MAX), ("MOVED_MAX", MOVED_MAX)];
     let fields = [("KINDS", KINDS.into()), ("GROUPS", GROUPS.into()), ("PURPOSES", PURPOSES.into()), ("PATH_MAX", PATH_MAX.into())];
     let more = [("RECORD_LENGTH", RECORD_LENGTH), ("LOG_MAX", LOG_MAX), ("MOVES_MAX", MOVES_MAX), ("UNLIMITED", UNLIMITED.into())];
     for (name, value) in sizes.into_iter().chain(sums).chain(texts).chain(fields).chain(more) {

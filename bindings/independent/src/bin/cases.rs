@@ -1,10 +1,14 @@
-//! Runs a file of cases through the independent implementation and compares what the two programs would write.
+//! Runs a file of cases through the independent implementation and compares what the programs would write.
 //! A line: sheet|charter|script|what list writes|what run writes, in hexadecimal, and for a names file |names after them, where `-`
-//! is the file names.bin beside the file of cases.
+//! is the file names.bin beside the file of cases; or upgrade|sheet.bin=sheet|what it writes, and the same for downgrade. An empty line,
+//! or one that begins with #, is passed over.
 
 use independent::text;
 use std::path::Path;
 use std::process::ExitCode;
+
+/// A program's name, what it is wanted to write, and what it writes.
+type Outcome = (&'static str, Vec<u8>, Vec<u8>);
 
 fn main() -> ExitCode {
     let Some(path) = std::env::args().nth(1) else {
@@ -13,31 +17,47 @@ fn main() -> ExitCode {
     };
     let lines = std::fs::read_to_string(&path).expect("the file of cases");
     let beside = Path::new(&path).with_file_name("names.bin");
-    let results: Vec<bool> = lines.lines().enumerate().map(|(i, line)| agrees(i + 1, line, &beside)).collect();
+    let cases = lines.lines().enumerate().filter(|(_, line)| !line.is_empty() && !line.starts_with('#'));
+    let results: Vec<bool> = cases.map(|(i, line)| agrees(i + 1, line, &beside)).collect();
     let passed = results.iter().filter(|&&fine| fine).count();
     println!("{} passed, {} failed", passed, results.len() - passed);
     if passed > 0 && passed == results.len() { ExitCode::SUCCESS } else { ExitCode::FAILURE }
 }
 
-/// Whether both outputs of one line agree; a difference is printed. `beside` is the names file that `-` stands for.
+/// Whether the outputs of one line agree; a difference is printed. `beside` is the names file that `-` stands for.
 fn agrees(number: usize, line: &str, beside: &Path) -> bool {
-    let fields: Vec<&str> = line.split('|').collect();
-    let ([sheet, charter, script, wants_list, wants_run] | [sheet, charter, script, wants_list, wants_run, _]) = fields[..] else {
-        println!("line {number}: not five or six fields");
+    let Some(results) = results(&line.split('|').collect::<Vec<_>>(), beside) else {
+        println!("line {number}: not the fields of a case");
         return false;
     };
-    let (sheet, charter) = (unhex(sheet), unhex(charter));
-    let list = text::list(&sheet, &charter, &names(fields.get(5).copied(), beside)).into_bytes();
-    let run = text::run(&sheet, &charter, &unhex(script));
-    let results = [("list", unhex(wants_list), list), ("run", unhex(wants_run), run)];
     for (name, wants, got) in results.iter().filter(|(_, wants, got)| wants != got) {
         println!("line {number}, {name}: wants {:?}, wrote {:?}", String::from_utf8_lossy(wants), String::from_utf8_lossy(got));
     }
     results.iter().all(|(_, wants, got)| wants == got)
 }
 
+/// What the programs of one line are wanted to write, and what they write.
+fn results(fields: &[&str], beside: &Path) -> Option<Vec<Outcome>> {
+    match *fields {
+        ["upgrade", sheet, wants] => Some(vec![("upgrade", unhex(wants), text::upgrade(&sheet_file(sheet)?))]),
+        ["downgrade", sheet, wants] => Some(vec![("downgrade", unhex(wants), text::downgrade(&sheet_file(sheet)?))]),
+        [sheet, charter, script, wants_list, wants_run, ref names @ ..] if names.len() < 2 => {
+            let (sheet, charter) = (unhex(sheet), unhex(charter));
+            let list = text::list(&sheet, &charter, &names_file(names.first().copied(), beside)).into_bytes();
+            let run = text::run(&sheet, &charter, &unhex(script));
+            Some(vec![("list", unhex(wants_list), list), ("run", unhex(wants_run), run)])
+        }
+        _ => None,
+    }
+}
+
+/// The sheet of a line for one of the programs that move it.
+fn sheet_file(field: &str) -> Option<Vec<u8>> {
+    field.strip_prefix("sheet.bin=").map(unhex)
+}
+
 /// The bytes of the names file that a line's sixth field gives.
-fn names(field: Option<&str>, beside: &Path) -> Vec<u8> {
+fn names_file(field: Option<&str>, beside: &Path) -> Vec<u8> {
     match field {
         Some("-") => std::fs::read(beside).expect("the file names.bin"),
         Some(names) => unhex(names),

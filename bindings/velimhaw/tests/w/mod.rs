@@ -1,9 +1,12 @@
-//! Example W of docs/REFERENCE.md: its sheet, charter and script, and the interface, slack form and log that they give; a charter that
-//! refuses it with 18, names, and the sentence that they give.
+//! Example W of docs/REFERENCE.md: its sheet, also in the old form, charter and script, and the interface, slack form and log that they
+//! give; a charter that refuses it with 18, names, and the sentence that they give.
 #![allow(dead_code)]
 
 pub const SHEET: [u8; 31] = [
     2, 2, 0, 0, 0, 1, 0, 0, 2, 0, 1, 4, 1, 0, 6, 0, 1, 0, 4, 2, 0, 5, 0, 1, 0, 0, 5, 2, 0, 0, 0,
+];
+pub const OLD_SHEET: [u8; 29] = [
+    2, 2, 0, 0, 0, 1, 0, 0, 2, 0, 1, 4, 1, 6, 0, 1, 0, 4, 2, 5, 0, 1, 0, 0, 5, 2, 0, 0, 0,
 ];
 pub const CHARTER: [u8; 15] = [1, 0, 0, 8, 2, 1, 16, 1, 0, 1, 0, 0, 2, 5, 0];
 pub const SCRIPT: [u8; 10] = [4, 0, 1, 5, 0, 0, 3, 0, 2, 0];
