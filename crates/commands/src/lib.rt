@@ -1,4 +1,6 @@
-// What the programs `list`, `run`, `upgrade` and `downgrade` do, each on the files of the folder it is run in (an absent file as empty).
+// What the programs `list`, `run`, `upgrade`, `downgrade` and `stricter` do, each on the files of the folder it is run in (an absent file
+// as empty).
+use comparing::no_looser;
 use execution::play;
 use explaining::examine;
 use files::first;
@@ -145,4 +147,23 @@ pub fn downgrade() {
     let s = load(b"sheet.bin", &mut sheet);
     let answer = moving::downgrade(first(&sheet, s), &mut output);
     write_moved(answer, &output);
+}
+
+// Prints `yes` if the first charter is no looser than the second, and `no` otherwise, as a line.
+pub fn print_compared(charter: &[u8], before: &[u8]) {
+    if no_looser(charter, before) {
+        io::write_all(STDOUT_FILENO, b"yes\n");
+        return;
+    }
+    io::write_all(STDOUT_FILENO, b"no\n");
+}
+
+// The program `stricter`: reads `charter.bin`, a new charter, and `before.bin`, the one in service, and prints `yes` or `no`. A charter of
+// more than 4,096 bytes is answered `no` however much of it is read.
+pub fn stricter() {
+    let mut charter = [0u8; 4097];
+    let mut before = [0u8; 4097];
+    let c = load(b"charter.bin", &mut charter);
+    let b = load(b"before.bin", &mut before);
+    print_compared(first(&charter, c), first(&before, b));
 }

@@ -1,4 +1,5 @@
--- Laws of `every`: over two lists, of two tests, of a test of no elements, and of two tests that say the same.
+-- Laws of `every`: over two lists, of two tests, of a test of no elements, of two tests that say the same, of a test that each element passes,
+-- and of a test that follows from two others.
 use mathlib.Core.Bool.{Bool, true, false, _&&_, and-assoc}
 use mathlib.Core.List.{List, [], _∷_, _++_}
 use mathlib.Core.Path.{_≡_, refl, sym, ap, _∙_}
@@ -37,3 +38,17 @@ pub every-same : {A : Type 0} (p q : A → Bool) (l : List A) → ((x : A) → p
 unfolding every
 every-same p q [] h = refl
 every-same p q (x ∷ l) h = rw (h x, every-same p q l h)
+
+pub every-true : {A : Type 0} (p : A → Bool) → ((x : A) → p x ≡ true) → (xs : List A) → every p xs ≡ true
+unfolding every
+every-true p h [] = refl
+every-true p h (x ∷ xs) = rw (h x) (every-true p h xs)
+
+pub every-through : {A : Type 0} (p q r : A → Bool) → ((x : A) → p x ≡ true → q x ≡ true → r x ≡ true) → (xs : List A)
+    → every p xs ≡ true → every q xs ≡ true → every r xs ≡ true
+unfolding every
+every-through p q r h [] e f = refl
+every-through p q r h (x ∷ xs) e f =
+    let k = both-true (p x) (every p xs) e in
+    let l = both-true (q x) (every q xs) f in
+    rw (h x (k .0) (l .0)) (every-through p q r h xs (k .1) (l .1))

@@ -56,7 +56,7 @@ asked-policy true n d rest h = go (eqb n 0) d
     go true false = refl
     go false d = rw (lt-ltb n 16 (omega arith))
 
-policy-ends : {A : Type 0} (policy : List Tree) (rest : Asked A) → wellFormed policy rest ≡ endsBelow 16 (policyFault policy) rest
+pub policy-ends : {A : Type 0} (policy : List Tree) (rest : Asked A) → wellFormed policy rest ≡ endsBelow 16 (policyFault policy) rest
 unfolding wellFormed policyFault
 policy-ends policy rest = asked-policy (kindsDistinct policy) (nodesFault policy) (fenced policy) rest (nodes-below policy)
 

@@ -47,7 +47,7 @@ use Rattle.interface.proofs.ByteLaws.{interface-small}
 use Rattle.interface.proofs.SizeLaws.{actsIn, acts-few}
 use Rattle.policy.specs.Reading.{isCount}
 use Rattle.policy.specs.Syntax.{Granted, Head, Nodes, Tree, alone, bitAt}
-use Rattle.policy.proofs.CountLaws.{inCounts, Counted, counted-none, counted-more, AllCounted, all-none, all-more, policy-counted}
+use Rattle.policy.proofs.CountLaws.{inCounts, ListFits, Lists, lists-none, lists-more, AllLists, all-none, all-more, policy-fits}
 use Rattle.fit.specs.Grants.{reachedAmong, reached, treeFor, reachedIn, reachedFor, noPermissions, onlyFor, forPurpose, grantingTo, givenBy, storedCount, listed, joined, countGranted}
 use Rattle.fit.specs.Satisfies.{Verdict, flag, counts, verdictOf, covering}
 use Rattle.service.specs.Questions.{passed, Accepted, judged}
@@ -157,17 +157,17 @@ listed-up h (d ∷ ds) t =
 unfoldable CountedHead : Head → Type 0
 CountedHead head = inCounts (head .permissions .list) ≡ true
 
-among-counted : (path : List ℕ) {ns : Nodes} → Counted ns → All CountedHead (reachedAmong path ns)
+among-counted : (path : List ℕ) {ns : Nodes} → Lists (ListFits 0) ns → All CountedHead (reachedAmong path ns)
 unfolding reachedAmong CountedHead
-among-counted path counted-none = done
-among-counted path (counted-more {g = g} {p = p} {below = below} l b r) = all-append (go (member g path) (among-counted path b)) (among-counted path r)
+among-counted path lists-none = done
+among-counted path (lists-more {g = g} {p = p} {below = below} l b r) = all-append (go (member g path) (among-counted path b)) (among-counted path r)
   where
     go : (t : Bool) → All CountedHead (reachedAmong path below)
         → All CountedHead (cond t (record { group = g; permissions = p } ∷ reachedAmong path below) [])
-    go true more = also l more
+    go true more = also (l .counts) more
     go false more = done
 
-reached-counted : (kind : ℕ) (path : List ℕ) {policy : List Tree} → AllCounted policy → All CountedHead (reachedFor policy kind path)
+reached-counted : (kind : ℕ) (path : List ℕ) {policy : List Tree} → AllLists (ListFits 0) policy → All CountedHead (reachedFor policy kind path)
 unfolding reachedFor treeFor reachedIn reached
 reached-counted kind path all-none = done
 reached-counted kind path (all-more {t = t} {rest = rest} c more) = go (eqb (t .kind) kind) (among-counted path c) (reached-counted kind path more)
@@ -203,15 +203,15 @@ joined-up h {heads} all (g ∷ path) =
     up-join 4095 (4095 * length path) (4095 * length (g ∷ path)) (listed h (givenBy g heads .list)) (joined h heads path) (omega arith)
     (given-up h g all) (joined-up h all path)
 
-pub granted-few : (h kind : ℕ) (c : Component) {policy : List Tree} → length (c .path) ≤ 8 → AllCounted policy → UpTo 32760 (countGranted h policy kind c)
+pub granted-few : (h kind : ℕ) (c : Component) {policy : List Tree} → length (c .path) ≤ 8 → AllLists (ListFits 0) policy → UpTo 32760 (countGranted h policy kind c)
 unfolding countGranted grantingTo
 granted-few h kind c short all =
     up-more (4095 * length (c .path)) 32760 _ (omega arith) (joined-up h (for-counted (c .purpose) (reached-counted kind (c .path) all)) (c .path))
 
 -- The policy of what is accepted was read.
-accepted-counted : (s c : List ℕ) (a : Accepted) → judged s c ≡ passed a → AllCounted (a .policy)
+accepted-counted : (s c : List ℕ) (a : Accepted) → judged s c ≡ passed a → AllLists (ListFits 0) (a .policy)
 unfolding Every
-accepted-counted s c a h = rw (passed-policy s c a h .reads) at (policy-counted c)
+accepted-counted s c a h = rw (passed-policy s c a h .reads) at (policy-fits c)
 
 -- A verdict whose sums are so bounded, and the verdicts on an entry whose kind, path and groups are in range.
 unfoldable pub Bounded : Verdict → Type 0

@@ -1,8 +1,10 @@
 // Puts stored cases through the services, and prints for each, by its number, what the programs write: `list` and `run`, the listing's
-// lines parted by semicolons and the log's bytes in hexadecimal; or `upgrade` or `downgrade`, the moved sheet's bytes in hexadecimal.
-// What is printed is compared with the file stdout, which the script `make` writes from the cases, as it does data/cases.bin. There a
-// case begins with a byte: 0, of `list` and `run`, four two-byte lengths, low byte first, and the bytes of the sheet, the charter, the
-// script and the names file; 1, of `upgrade`, and 2, of `downgrade`, one such length and the bytes of the sheet.
+// lines parted by semicolons and the log's bytes in hexadecimal; or `upgrade` or `downgrade`, the moved sheet's bytes in hexadecimal; or
+// `stricter`, its answer. What is printed is compared with the file stdout, which the script `make` writes from the cases, as it does
+// data/cases.bin. There a case begins with a byte: 0, of `list` and `run`, four two-byte lengths, low byte first, and the bytes of the
+// sheet, the charter, the script and the names file; 1, of `upgrade`, and 2, of `downgrade`, one such length and the bytes of the sheet;
+// 3, of `stricter`, two such lengths and the bytes of the new charter and of the one before it.
+use commands::print_compared;
 use commands::print_listing;
 use execution::play;
 use files::first;
@@ -115,6 +117,12 @@ fn show_downgrade(number: u64, sheet: &[u8]) {
     say_moved(answer, &output);
 }
 
+fn show_stricter(number: u64, charter: &[u8], before: &[u8]) {
+    io::print_decimal(STDOUT_FILENO, number);
+    say(b" stricter: ");
+    print_compared(charter, before);
+}
+
 // Reads a case of `list` and `run` whose parts have these lengths, and shows it.
 fn show_parts(
     fd: i32,
@@ -176,6 +184,20 @@ fn show_moved(fd: i32, number: u64, kind: u8) -> bool {
     true
 }
 
+// Shows a case of `stricter`; whether its lengths stood in the file.
+fn show_compared(fd: i32, number: u64) -> bool {
+    let mut h = [0u8; 4];
+    if io::read_full(fd, &mut h) < 4 {
+        return false;
+    }
+    let mut charter = [0u8; 4097];
+    let mut before = [0u8; 4097];
+    let c = next_bytes(fd, &mut charter, two_bytes(h[0], h[1]));
+    let b = next_bytes(fd, &mut before, two_bytes(h[2], h[3]));
+    show_stricter(number, first(&charter, c), first(&before, b));
+    true
+}
+
 // Shows the next case of the file; whether there was one.
 fn show_next(fd: i32, number: u64) -> bool {
     let mut kind = [0u8; 1];
@@ -184,6 +206,9 @@ fn show_next(fd: i32, number: u64) -> bool {
     }
     if kind[0] == 0 {
         return show_checked(fd, number);
+    }
+    if kind[0] == 3 {
+        return show_compared(fd, number);
     }
     show_moved(fd, number, kind[0])
 }

@@ -17,6 +17,7 @@ use Rattle.explaining.specs.Explain.{explained}
 use Rattle.explaining.proofs.ExplainLaws.{SaidInRange, explain-in-range}
 use Rattle.slack.specs.Slack.{slackTold}
 use Rattle.slack.proofs.SlackSizes.{SlackInRange, slack-in-range}
+use Rattle.comparing.specs.NoLooser.{noLooser}
 use Rattle.moving.specs.Moving.{upgraded, downgraded}
 use Rattle.moving.proofs.MoveLaws.{MovedInRange, upgrade-in-range, downgrade-in-range}
 use Rattle.running.specs.State.{State}
@@ -25,7 +26,7 @@ use Rattle.running.specs.Moves.{Move, hasRoom}
 use Rattle.running.specs.Script.{movesFrom, asTwentyOne, readScript}
 use Rattle.running.specs.Play.{openedFrom, opened, logged, outcomeOf, played}
 use Rattle.script.proofs.ScriptLaws.{script-moves, script-few}
-use Rattle.velimhaw.specs.Codes.{codeOf, CheckedAs, PlayedAs, ExplainedAs, ToldAs, UpgradedAs, DowngradedAs}
+use Rattle.velimhaw.specs.Codes.{codeOf, CheckedAs, PlayedAs, ExplainedAs, ToldAs, UpgradedAs, DowngradedAs, yesOrNo, ComparedAs}
 
 -- A number that tells an answer.
 pub data Tells : Asked ℕ → ℕ → Type 0 where
@@ -87,6 +88,18 @@ upgrade-tells sheet output output′ r x =
 pub downgrade-tells : (sheet output output′ : List ℕ) (r : ℕ) → DowngradedAs sheet output output′ r → Tells (downgraded sheet output .answer) r
 downgrade-tells sheet output output′ r x =
     rw (x .answer) (code-tells (downgraded sheet output .answer) (small-moved (downgraded sheet output .answer) (downgrade-in-range sheet output)))
+
+-- A number that tells yes or no.
+pub data TellsYesOrNo : Bool → ℕ → Type 0 where
+  says-yes : TellsYesOrNo true 1
+  says-no : TellsYesOrNo false 0
+
+pub no-looser-tells : (a b : List ℕ) (r : ℕ) → ComparedAs a b r → TellsYesOrNo (noLooser a b) r
+no-looser-tells a b r c = rw (c .answer) (go (noLooser a b))
+  where
+    go : (t : Bool) → TellsYesOrNo t (yesOrNo t)
+    go true = unfold yesOrNo in says-yes
+    go false = unfold yesOrNo in says-no
 
 -- the only number that a script is refused with
 twenty-one : (x : Read (List Move)) {q at : ℕ} → asTwentyOne x ≡ refused q at → q ≡ 21

@@ -2,6 +2,7 @@
 use Prim.Native.Nat.{ℕ, _+_, _<_, _≤_}
 use mathlib.Core.Path.{_≡_, refl, ap, _∙_}
 use mathlib.Core.List.{List}
+use mathlib.Core.Bool.{Bool, true, false}
 use borrow.Author.Needs.{needs}
 use borrow.Author.Tests.{lt-ltb, le-ltb}
 use Rattle.service.specs.Questions.{passed, failed}
@@ -14,8 +15,9 @@ use Rattle.execution.specs.Told.{Played}
 use Rattle.explaining.specs.Explain.{explained}
 use Rattle.explaining.specs.Told.{Explained}
 use Rattle.slack.specs.Told.{Tells}
+use Rattle.comparing.specs.NoLooser.{noLooser}
 use Rattle.moving.specs.Told.{Upgraded, Downgraded}
-use Rattle.velimhaw.specs.Codes.{codeOf, CheckedAs, PlayedAs, ExplainedAs, ToldAs, UpgradedAs, DowngradedAs}
+use Rattle.velimhaw.specs.Codes.{codeOf, CheckedAs, PlayedAs, ExplainedAs, ToldAs, UpgradedAs, DowngradedAs, yesOrNo, ComparedAs}
 
 module _ (a : Answer) (n : ℕ) where
   pub accepted-short : a ≡ answer-case.Accepted n → n < 4294967296 → n + 64 ≡ codeOf (told a)
@@ -52,4 +54,12 @@ upgraded-as sheet output output′ a r u e = record { answer = e ∙ ap codeOf (
 pub downgraded-as : (sheet output output′ : List ℕ) (a : Answer) (r : ℕ) → Downgraded sheet output output′ a → r ≡ codeOf (told a) → DowngradedAs sheet output output′ r
 downgraded-as sheet output output′ a r d e = record { answer = e ∙ ap codeOf (d .answer); lent = d .lent }
 
-pub ruleset code-steps = (needs, accepted-short, accepted-long, refused-small, refused-large, checked-as, played-as, explained-as, told-as, upgraded-as, downgraded-as)
+-- Yes and no as a number.
+module _ (a b : List ℕ) (t : Bool) (e : t ≡ noLooser a b) where
+  pub compared-yes : t ≡ true → ComparedAs a b 1
+  compared-yes h = record { answer = unfold yesOrNo in rw (← e, h) }
+
+  pub compared-no : t ≡ false → ComparedAs a b 0
+  compared-no h = record { answer = unfold yesOrNo in rw (← e, h) }
+
+pub ruleset code-steps = (needs, accepted-short, accepted-long, refused-small, refused-large, checked-as, played-as, explained-as, told-as, upgraded-as, downgraded-as, compared-yes, compared-no)

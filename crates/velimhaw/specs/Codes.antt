@@ -1,14 +1,16 @@
--- Answers as numbers: below 64 the number of the question that failed, from 64 on 64 more than the length or the number of moves.
+-- Answers as numbers: below 64 the number of the question that failed, from 64 on 64 more than the length or the number of moves; and of a
+-- service that answers yes or no, 1 or 0.
 use Prim.Native.Nat.{ℕ, _+_}
 use mathlib.Core.Path.{_≡_}
 use mathlib.Core.List.{List}
-use mathlib.Core.Bool.{cond}
+use mathlib.Core.Bool.{Bool, cond}
 use lib.Dec.{ltb}
 use Rattle.service.specs.Questions.{Asked, passed, failed}
 use Rattle.service.specs.Check.{checked}
 use Rattle.running.specs.Play.{played}
 use Rattle.explaining.specs.Explain.{explained}
 use Rattle.slack.specs.Slack.{slackTold}
+use Rattle.comparing.specs.NoLooser.{noLooser}
 use Rattle.moving.specs.Moving.{upgraded, downgraded}
 
 unfoldable pub codeOf : Asked ℕ → ℕ
@@ -38,3 +40,9 @@ pub record UpgradedAs (sheet output output′ : List ℕ) (r : ℕ) : Type 0 whe
 pub record DowngradedAs (sheet output output′ : List ℕ) (r : ℕ) : Type 0 where
   pub answer : r ≡ codeOf (downgraded sheet output .answer)
   pub lent : output′ ≡ downgraded sheet output .lent
+
+unfoldable pub yesOrNo : Bool → ℕ
+yesOrNo answer = cond answer 1 0
+
+pub record ComparedAs (a b : List ℕ) (r : ℕ) : Type 0 where
+  pub answer : r ≡ yesOrNo (noLooser a b)

@@ -1,9 +1,10 @@
 // The services for programs in C and Rust: `rt staticlib velimhaw` writes them into a static library. An answer is one number: below 64
 // it is the number of the question that failed, from 64 on the call was accepted and the length written, or the number of moves, is 64
-// less.
+// less. Of `velimhaw_no_looser`, which refuses nothing, it is 1 for yes and 0 for no.
 ghost use mathlib.Core.Path.{_≡_};
 ghost use Rattle.service.specs.Told.{told};
-ghost use Rattle.velimhaw.specs.Codes.{codeOf, CheckedAs, PlayedAs, ExplainedAs, ToldAs, UpgradedAs, DowngradedAs};
+ghost use Rattle.velimhaw.specs.Codes.{codeOf, CheckedAs, PlayedAs, ExplainedAs, ToldAs, UpgradedAs, DowngradedAs, ComparedAs};
+use comparing::no_looser;
 use execution::play;
 use explaining::explain;
 use moving::downgrade;
@@ -75,4 +76,12 @@ pub extern "C" fn velimhaw_downgrade(sheet: &[u8], output: &mut [u8]) -> u64
     ensures { λ r. ⌜ DowngradedAs (now (sheet .entry)) (now (output .entry)) (now (output .exit)) r ⌝ }
 {
     code(downgrade(sheet, output))
+}
+
+// Is charter `a` no looser than charter `b`? 1 for yes, 0 for no.
+#[no_mangle]
+pub extern "C" fn velimhaw_no_looser(a: &[u8], b: &[u8]) -> u64
+    ensures { λ r. ⌜ ComparedAs (now (a .entry)) (now (b .entry)) r ⌝ }
+{
+    if no_looser(a, b) { 1 } else { 0 }
 }

@@ -19,7 +19,7 @@ use Rattle.policy.specs.WellFormed.{metFrom, allKeep, keepsWithin}
 use Rattle.policy.specs.Rows.{nodeAt, Flat, flatOf, flats, flatten}
 use Rattle.wellformed.specs.Rows.{metRows, headsIn, belowIn, keptIn, allKept}
 
-regroup : (a b c e : Bool) → (a && (b && (c && e))) ≡ (a && (b && c) && e)
+pub regroup : (a b c e : Bool) → (a && (b && (c && e))) ≡ (a && (b && c) && e)
 regroup true true c e = refl
 regroup true false c e = refl
 regroup false b c e = refl

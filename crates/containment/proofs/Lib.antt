@@ -1,0 +1,3 @@
+-- Lemmas of this crate's proofs: the rule of the table, and maps digit by digit.
+pub mod Table
+pub mod DigitLaws
