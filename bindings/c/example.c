@@ -1,5 +1,6 @@
 /* Checks and plays example W through the static library, and prints the entries of its interface, what its charter leaves over and the
- * records of its log; then explains why another charter refuses it, and moves it back to the old form and over again. */
+ * records of its log; then explains why another charter refuses it, compares the two charters, and moves the sheet back to the old form
+ * and over again. */
 #include "velimhaw.h"
 #include "w.h"
 #include <inttypes.h>
@@ -143,6 +144,16 @@ static void move_and_show(velimhaw_lent old_output, velimhaw_lent output) {
     show_answer("upgrade", velimhaw_upgrade(old_sheet, output));
 }
 
+static const char *no_looser(velimhaw_bytes now, velimhaw_bytes before) {
+    return velimhaw_no_looser(now, before) == 1 ? "yes" : "no";
+}
+
+/* The two charters, each in place of the other. */
+static void compare_and_show(void) {
+    printf("no looser: the stricter charter than W's %s, ", no_looser(strict_charter, charter));
+    printf("W's than the stricter one %s\n", no_looser(charter, strict_charter));
+}
+
 int main(void) {
     static uint8_t output[VELIMHAW_SLACK_MAX];
     static uint8_t log[VELIMHAW_LOG_MAX];
@@ -157,6 +168,7 @@ int main(void) {
     check_and_show("check with 3 bytes of output", charter, three_bytes);
     check_and_show("check against a stricter charter", strict_charter, whole_output);
     explain_and_show("explain", strict_charter);
+    compare_and_show();
     move_and_show(whole_moved, whole_output);
     return 0;
 }

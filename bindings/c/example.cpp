@@ -1,5 +1,6 @@
 // Checks and plays example W from C++ over the C header: entries of its interface and of what its charter leaves over, and records, as
-// vectors, a refusal as an exception; then explains why another charter refuses it, and moves it back to the old form and over again.
+// vectors, a refusal as an exception; then explains why another charter refuses it, compares the two charters, and moves the sheet back to
+// the old form and over again.
 #include "velimhaw.h"
 #include "w.h"
 #include <array>
@@ -65,6 +66,8 @@ std::vector<std::uint8_t> moved(std::uint64_t (*service)(velimhaw_bytes, velimha
     return output;
 }
 
+bool no_looser(velimhaw_bytes charter, velimhaw_bytes before) { return velimhaw_no_looser(charter, before) == 1; }
+
 void show(const velimhaw_entry &entry) {
     std::cout << "  kind " << int(entry.kind) << ", component's group " << int(entry.path[entry.path_length - 1]) << ", purpose "
               << int(entry.purpose) << ", discloses into " << int(entry.disclose_length) << " groups\n";
@@ -109,6 +112,8 @@ int main() {
         std::cout << "C++, check against a stricter charter: " << refusal.what() << '\n';
         std::cout << "C++, explain: " << explain(bytes(w_strict_charter)) << '\n';
     }
+    std::cout << "C++, no looser: the stricter charter than W's " << (no_looser(bytes(w_strict_charter), bytes(w_charter)) ? "yes" : "no")
+              << ", W's than the stricter one " << (no_looser(bytes(w_charter), bytes(w_strict_charter)) ? "yes" : "no") << '\n';
     std::vector<std::uint8_t> old_sheet = moved(velimhaw_downgrade, bytes(w_sheet));
     std::vector<std::uint8_t> sheet = moved(velimhaw_upgrade, {old_sheet.data(), old_sheet.size()});
     std::cout << "C++, downgrade: " << old_sheet.size() << " bytes, upgrade: " << sheet.size() << " bytes\n";

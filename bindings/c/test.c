@@ -1,7 +1,7 @@
 /* Tests velimhaw.h: entries of both forms and records taken off whole, truncated and malformed bytes, the lines of the questions, the
- * memory lent to a refused call, a count that components share, purposes, what a charter leaves over, the sentence, and sheets moved
- * between the old form and the new one. All bytes stand right before a page that may not be touched, so a read past their end is a
- * fault. */
+ * memory lent to a refused call, a count that components share, purposes, what a charter leaves over, the sentence, sheets moved between
+ * the old form and the new one, and charters compared. All bytes stand right before a page that may not be touched, so a read past their
+ * end is a fault. */
 #define _DEFAULT_SOURCE
 #include "velimhaw.h"
 #include "w.h"
@@ -31,15 +31,18 @@ static const uint8_t two_purposes[] = {2, 2, 0, 0, 0, 1, 0, 0, 2, 0, 1, 4, 1, 9,
 static const velimhaw_bytes sheet_of_two = {two_of_one_path, sizeof two_of_one_path};
 static const velimhaw_bytes sheet_of_purposes = {two_purposes, sizeof two_purposes};
 
-static uint8_t *page_end;
+static uint8_t *page_end, *other_end;
 
-/* Maps a page and, after it, one that may not be touched. */
-static void map_pages(void) {
-    size_t page = (size_t)sysconf(_SC_PAGESIZE);
-    uint8_t *at = mmap(NULL, 2 * page, PROT_READ | PROT_WRITE, MAP_PRIVATE | MAP_ANONYMOUS, -1, 0);
+static size_t two_pages(void) {
+    return 2 * (size_t)sysconf(_SC_PAGESIZE);
+}
+
+/* Maps two pages and, after them, two that may not be touched. Where those begin. */
+static uint8_t *map_pages(void) {
+    uint8_t *at = mmap(NULL, 2 * two_pages(), PROT_READ | PROT_WRITE, MAP_PRIVATE | MAP_ANONYMOUS, -1, 0);
     assert(at != MAP_FAILED);
-    assert(mprotect(at + page, page, PROT_NONE) == 0);
-    page_end = at + page;
+    assert(mprotect(at + two_pages(), two_pages(), PROT_NONE) == 0);
+    return at + two_pages();
 }
 
 /* Some bytes, copied to right before the page that may not be touched. */
@@ -500,8 +503,157 @@ static void test_longest_moved_sheets(void) {
     refuses(velimhaw_downgrade, sheet, 1);
 }
 
+/* Lets the two pages before an end be read, and written or not. */
+static void let_write(uint8_t *end, bool write) {
+    assert(mprotect(end - two_pages(), two_pages(), write ? PROT_READ | PROT_WRITE : PROT_READ) == 0);
+}
+
+/* Whether a charter is no looser than another. Each stands right before a page that may not be touched, and neither may be written. */
+static bool compared(velimhaw_bytes a, velimhaw_bytes b) {
+    velimhaw_bytes charter = at_end(a.bytes, a.length), before = {other_end - b.length, b.length};
+    memcpy(other_end - b.length, b.bytes, b.length);
+    let_write(page_end, false);
+    let_write(other_end, false);
+    uint64_t answer = velimhaw_no_looser(charter, before);
+    let_write(page_end, true);
+    let_write(other_end, true);
+    assert(answer <= 1);
+    return answer == 1;
+}
+
+/* Each of two charters compared with the other. */
+static void compares(velimhaw_bytes a, velimhaw_bytes b, bool there, bool back) {
+    assert(compared(a, b) == there && compared(b, a) == back);
+}
+
+/* W's charter, a stricter one and one without trees; one slice lent for both; W's charter cut short anywhere. */
+static void test_charters_of_w(void) {
+    static const uint8_t zero[] = {0};
+    velimhaw_bytes no_tree = {zero, sizeof zero};
+    compares(charter_of_w, charter_of_w, true, true);
+    compares(strict_charter, charter_of_w, true, false);
+    compares(no_tree, charter_of_w, true, false);
+    compares(no_tree, no_tree, true, true);
+    assert(velimhaw_no_looser(charter_of_w, charter_of_w) == 1);
+    for (size_t length = 0; length < sizeof w_charter; length++) {
+        velimhaw_bytes cut = {w_charter, length};
+        compares(cut, charter_of_w, false, false);
+        compares(cut, cut, false, false);
+    }
+}
+
+/* Two charters, each with its length, and whether the first is no looser than the second, and the second than the first. */
+static void test_compared_charters(void) {
+    static const struct { bool there, back; uint8_t a_length, a[12], b_length, b[12]; } pairs[] = {
+        {true, false, 5, {1, 0, 0, 0x00, 0}, 5, {1, 0, 0, 0x01, 0}},                                     /* read */
+        {true, false, 5, {1, 0, 0, 0x00, 0}, 5, {1, 0, 0, 0x02, 0}},                                     /* write */
+        {true, false, 5, {1, 0, 0, 0x00, 0}, 5, {1, 0, 0, 0x04, 0}},                                     /* access */
+        {true, false, 5, {1, 0, 0, 0x08, 0}, 5, {1, 0, 0, 0x00, 0}},                                     /* nondisclose */
+        {true, false, 5, {1, 0, 0, 0x00, 0}, 9, {1, 0, 0, 0x10, 1, 5, 1, 0, 0}},                         /* a group in its list */
+        {true, false, 9, {1, 0, 0, 0x10, 1, 5, 1, 0, 0}, 12, {1, 0, 0, 0x10, 2, 4, 1, 0, 5, 1, 0, 0}},   /* another before it */
+        {false, false, 9, {1, 0, 0, 0x10, 1, 5, 1, 0, 0}, 9, {1, 0, 0, 0x10, 1, 4, 1, 0, 0}},            /* another in its place */
+        {true, false, 9, {1, 0, 0, 0x10, 1, 5, 1, 0, 0}, 9, {1, 0, 0, 0x10, 1, 5, 2, 0, 0}},             /* a count, 1 and 2 */
+        {true, false, 9, {1, 0, 0, 0x10, 1, 5, 0xff, 0, 0}, 9, {1, 0, 0, 0x10, 1, 5, 0, 1, 0}},          /* 255 and 256 */
+        {true, false, 9, {1, 0, 0, 0x10, 1, 5, 0xff, 0x0f, 0}, 9, {1, 0, 0, 0x10, 1, 5, 0xff, 0xff, 0}}, /* 4,095 and unlimited */
+        {true, true, 5, {1, 0, 0, 0x00, 0}, 7, {1, 0, 0, 0x20, 0xff, 0xff, 0}},                          /* all purposes */
+        {true, false, 7, {1, 0, 0, 0x20, 0xff, 0x7f, 0}, 5, {1, 0, 0, 0x00, 0}},                         /* purpose 15 */
+        {true, false, 7, {1, 0, 0, 0x20, 0, 0, 0}, 7, {1, 0, 0, 0x20, 0, 1, 0}},                         /* purpose 8 */
+        {true, true, 9, {2, 0, 0, 1, 0, 1, 0, 2, 0}, 9, {2, 1, 0, 2, 0, 0, 0, 1, 0}},                    /* trees exchanged */
+        {true, false, 5, {1, 1, 0, 2, 0}, 9, {2, 0, 0, 1, 0, 1, 0, 2, 0}},                               /* a tree */
+        {false, false, 5, {1, 0, 0, 0, 0}, 5, {1, 1, 0, 0, 0}},                                          /* another kind */
+        {false, false, 5, {1, 0, 0, 0, 0}, 5, {1, 0, 1, 0, 0}},                                          /* another group */
+        {false, false, 5, {1, 0, 0, 0, 0}, 8, {1, 0, 0, 0, 1, 1, 0, 0}},                                 /* a child */
+        {false, false, 11, {1, 0, 0, 0, 2, 1, 0, 0, 2, 0, 0}, 11, {1, 0, 0, 0, 2, 2, 0, 0, 1, 0, 0}},    /* children exchanged */
+        {false, false, 11, {1, 0, 0, 0, 2, 1, 0, 0, 2, 0, 0}, 11, {1, 0, 0, 0, 1, 1, 0, 1, 2, 0, 0}},    /* a child for a sister */
+        {true, false, 11, {1, 0, 0, 0, 1, 1, 0, 1, 2, 0, 0}, 11, {1, 0, 0, 0, 1, 1, 0, 1, 2, 1, 0}},     /* read, two levels down */
+    };
+    for (size_t i = 0; i < sizeof pairs / sizeof pairs[0]; i++) {
+        velimhaw_bytes a = {pairs[i].a, pairs[i].a_length}, b = {pairs[i].b, pairs[i].b_length};
+        compares(a, b, pairs[i].there, pairs[i].back);
+    }
+}
+
+/* Each pair of maps of four bits: as the low half of a permission map, in which nondisclose goes the other way, and at each quarter of a
+ * map of purposes. */
+static void test_maps_of_four_bits(void) {
+    for (unsigned a = 0; a < 16; a++)
+        for (unsigned b = 0; b < 16; b++) {
+            const uint8_t of_a[] = {1, 0, 0, (uint8_t)a, 0}, of_b[] = {1, 0, 0, (uint8_t)b, 0};
+            velimhaw_bytes left = {of_a, sizeof of_a}, right = {of_b, sizeof of_b};
+            assert(compared(left, right) == ((a & ~b & 7) == 0 && (b & ~a & 8) == 0));
+            for (int shift = 0; shift < 16; shift += 4) {
+                const uint8_t for_a[] = {1, 0, 0, 0x20, (uint8_t)(a << shift), (uint8_t)(a << shift >> 8), 0};
+                const uint8_t for_b[] = {1, 0, 0, 0x20, (uint8_t)(b << shift), (uint8_t)(b << shift >> 8), 0};
+                velimhaw_bytes one = {for_a, sizeof for_a}, other = {for_b, sizeof for_b};
+                assert(compared(one, other) == ((a & ~b) == 0));
+            }
+        }
+}
+
+/* Charters that fail a question of 11 to 15 are no looser than any, themselves too, and none is than they. */
+static void test_charters_that_fail(void) {
+    static const struct { uint8_t length, bytes[12]; } failing[] = {
+        {0, {0}}, {2, {0, 0}}, {5, {1, 0, 0, 0x40, 0}}, {6, {1, 0, 0, 0x20, 0, 0}}, {9, {1, 0, 0, 0x10, 1, 5, 0, 0, 0}}, /* 11 */
+        {9, {2, 0, 0, 0, 0, 0, 0, 0, 0}},                                                                                 /* 12 */
+        {8, {1, 0, 0, 0, 1, 0, 0, 0}},                                                                                    /* 13 */
+        {11, {1, 0, 0, 0, 2, 1, 0, 0, 1, 1, 0}},                                                                          /* 14 */
+        {12, {1, 0, 0, 8, 1, 1, 0x10, 1, 5, 1, 0, 0}},                                                                    /* 15 */
+    };
+    for (size_t i = 0; i < sizeof failing / sizeof failing[0]; i++) {
+        velimhaw_bytes charter = {failing[i].bytes, failing[i].length};
+        compares(charter, charter, false, false);
+        compares(charter, charter_of_w, false, false);
+    }
+}
+
+/* Writes a charter of 4,096 or 4,097 bytes: a root and 20 children with a count for each of 64 groups, the last for fewer; in the shorter
+ * one it has purposes too. */
+static velimhaw_bytes write_long_charter(uint8_t *charter, size_t length, uint8_t count) {
+    uint8_t *at = charter;
+    *at++ = 1;
+    *at++ = 0;
+    for (uint8_t group = 0; group < 21; group++) {
+        size_t left = length - (size_t)(at - charter);
+        bool purposes = group == 20 && left % 3 == 0;
+        uint8_t items = group < 20 ? 64 : (uint8_t)((left - 4) / 3);
+        *at++ = group;
+        *at++ = purposes ? 0x30 : 0x10;
+        *at++ = items;
+        for (uint8_t into = 0; into < items; into++) {
+            *at++ = into;
+            *at++ = count;
+            *at++ = 0;
+        }
+        for (int i = 0; purposes && i < 2; i++)
+            *at++ = 0x80;
+        *at++ = group == 0 ? 20 : 0;
+    }
+    assert(at == charter + length);
+    velimhaw_bytes written = {charter, length};
+    return written;
+}
+
+/* The longest charters are compared to their last byte; a charter a byte longer is no looser than any, and none than it. */
+static void test_longest_charters(void) {
+    static uint8_t bytes[3][VELIMHAW_CHARTER_MAX + 1];
+    static const uint8_t zero[] = {0};
+    velimhaw_bytes no_tree = {zero, sizeof zero};
+    velimhaw_bytes charter = write_long_charter(bytes[0], VELIMHAW_CHARTER_MAX, 1);
+    velimhaw_bytes looser = write_long_charter(bytes[1], VELIMHAW_CHARTER_MAX, 1);
+    velimhaw_bytes longer = write_long_charter(bytes[2], VELIMHAW_CHARTER_MAX + 1, 1);
+    compares(charter, looser, true, true);
+    bytes[1][VELIMHAW_CHARTER_MAX - 2] |= 1; /* purpose 8 at the last node */
+    compares(charter, looser, true, false);
+    compares(no_tree, charter, true, false);
+    compares(no_tree, longer, false, false);
+    compares(longer, longer, false, false);
+    charter.length--;
+    compares(charter, looser, false, false);
+}
+
 int main(void) {
-    map_pages();
+    page_end = map_pages();
+    other_end = map_pages();
     test_entries_of_w();
     test_slack_of_w();
     test_records_of_w();
@@ -527,6 +679,11 @@ int main(void) {
     test_moved_sheets();
     test_sheets_that_are_not_moved();
     test_longest_moved_sheets();
+    test_charters_of_w();
+    test_compared_charters();
+    test_maps_of_four_bits();
+    test_charters_that_fail();
+    test_longest_charters();
     printf("test: all passed\n");
     return 0;
 }

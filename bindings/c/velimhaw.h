@@ -1,11 +1,12 @@
-/* Velimhaw's six services for C and C++: check a sheet against a charter, tell how much the charter leaves over, explain a refusal with
- * 18, play a script on an accepted sheet, move an old sheet over to the form with purposes, and a sheet back to the old form; and what
- * takes the bytes they write apart. Link target/staticlib/libvelimhaw.a, which `rt staticlib velimhaw` writes (x86-64 Linux).
+/* Velimhaw's seven services for C and C++: check a sheet against a charter, tell how much the charter leaves over, explain a refusal with
+ * 18, play a script on an accepted sheet, move an old sheet over to the form with purposes and a sheet back to the old form, and say
+ * whether a charter is no looser than another; and what takes the bytes they write apart. Link target/staticlib/libvelimhaw.a, which
+ * `rt staticlib velimhaw` writes (x86-64 Linux).
  *
- * An answer is one number. Below VELIMHAW_ACCEPTED it is the number of the first question that fails (docs/REFERENCE.md, question N;
- * velimhaw_question gives its line), and the output, line or log keeps its bytes. From VELIMHAW_ACCEPTED on the call was accepted: the
- * answer less VELIMHAW_ACCEPTED is the number of moves (play) or the length written (all others), and the bytes past what was written keep
- * theirs.
+ * An answer is one number; that of velimhaw_no_looser is 1 for yes and 0 for no. Of all others: below VELIMHAW_ACCEPTED it is the number
+ * of the first question that fails (docs/REFERENCE.md, question N; velimhaw_question gives its line), and the output, line or log keeps
+ * its bytes. From VELIMHAW_ACCEPTED on the call was accepted: the answer less VELIMHAW_ACCEPTED is the number of moves (play) or the length
+ * written (all others), and the bytes past what was written keep theirs.
  *
  * Memory lent to a call:
  * - Any bytes may be lent, of any length that memory can have; every call ends without a fault.
@@ -116,6 +117,19 @@ uint64_t velimhaw_upgrade(velimhaw_bytes sheet, velimhaw_lent output);
  * - VELIMHAW_ACCEPTED + n where the old form was written; it has n bytes.
  * velimhaw_upgrade gives the sheet back, byte for byte. */
 uint64_t velimhaw_downgrade(velimhaw_bytes sheet, velimhaw_lent output);
+
+/* Says whether a charter is no looser than the one before it, which it shall replace: whatever sheet it accepts, that one accepts.
+ *
+ * The answer is 1 if
+ * - both have at most VELIMHAW_CHARTER_MAX bytes and pass 11 to 15;
+ * - each tree of the charter has one for its kind before, with the same groups and children in the same order;
+ * - and at each node read, write and access stood before where they stand now, each count is at most what it was before (a group that is
+ *   not listed has 0, and unlimited stands above every number), each purpose was one before (without a map all are), and nondisclose
+ *   stands where it stood before;
+ * and else 0, which a charter that does not pass gets even with itself. Trees may stand in another order, and before there may have been
+ * more of them. 0 does not say that some sheet newly passes: it is the answer, too, where no more than a child is missing. Nothing is
+ * written. */
+uint64_t velimhaw_no_looser(velimhaw_bytes charter, velimhaw_bytes before);
 
 /* ---- The interface: an entry for each component and kind with a permission, by component, then rising kind. ----
  *

@@ -5,6 +5,7 @@
 
 mod inputs;
 mod instructions;
+mod policies;
 mod shared;
 mod workloads;
 

@@ -1,6 +1,7 @@
-//! The workloads of the benchmark: a call of `check`, `slack`, `play`, `upgrade` or `downgrade` on given inputs, of either side.
+//! The workloads of the benchmark: a call of `check`, `slack`, `play`, `upgrade`, `downgrade` or `no_looser` on given inputs, of either
+//! side.
 
-use crate::{inputs, shared};
+use crate::{inputs, policies, shared};
 use std::hint::black_box;
 
 pub struct Workload {
@@ -10,13 +11,14 @@ pub struct Workload {
     service: Service,
 }
 
-/// What is called; `play` with its script.
+/// What is called; `play` with its script, `no_looser` with the charter that its own is to replace.
 enum Service {
     Check,
     Slack,
     Play(Vec<u8>),
     Upgrade,
     Downgrade,
+    NoLooser(Vec<u8>),
 }
 
 /// Memory to lend to a call: room for any interface, any slack form, any log and any sheet.
@@ -49,7 +51,7 @@ pub fn all() -> Vec<Workload> {
     for size in [500, 1000, 2000, 4000] {
         all.push(play(&format!("play, 126 moves, text: {size} bytes"), inputs::text_sheet(size), inputs::text_script(63)));
     }
-    all.into_iter().chain(moves()).collect()
+    all.into_iter().chain(moves()).chain(comparisons()).collect()
 }
 
 /// The sheets moved to the new form and to the old one: W, typical, largest and growing.
@@ -65,6 +67,21 @@ fn moves() -> Vec<Workload> {
     let upgrades = sheets.iter().map(|(name, sheet)| moved(&format!("upgrade, {name}"), inputs::old_form(sheet), Service::Upgrade));
     let downgrades = sheets.iter().map(|(name, sheet)| moved(&format!("downgrade, {name}"), sheet.clone(), Service::Downgrade));
     upgrades.chain(downgrades).collect()
+}
+
+/// Charters compared with looser ones, W's with itself: 16 trees, those of the other charter the other way round; the longest lists; a deep
+/// and wide tree, growing.
+fn comparisons() -> Vec<Workload> {
+    let mut all = vec![
+        compared("no_looser, W", inputs::W_CHARTER.to_vec(), inputs::W_CHARTER.to_vec()),
+        compared("no_looser, 16 trees of 4 nodes", policies::trees(1, false), policies::trees(2, true)),
+        compared("no_looser, 21 nodes, lists of 64", policies::long_lists(1), policies::long_lists(2)),
+    ];
+    for nodes in [4, 16, 64] {
+        let name = format!("no_looser, growth: {nodes} nodes, {} bytes", 64 * nodes);
+        all.push(compared(&name, policies::deep_and_wide(nodes, 1), policies::deep_and_wide(nodes, 2)));
+    }
+    all
 }
 
 /// Makes a workload of a name, a sheet and a charter.
@@ -87,8 +104,13 @@ fn moved(name: &str, sheet: Vec<u8>, service: Service) -> Workload {
     Workload { service, ..check(name, sheet, Vec::new()) }
 }
 
+/// A call that takes no sheet.
+fn compared(name: &str, charter: Vec<u8>, before: Vec<u8>) -> Workload {
+    Workload { service: Service::NoLooser(before), ..check(name, Vec::new(), charter) }
+}
+
 impl Workload {
-    /// One call of a side: 0 is the independent implementation, 1 the proved library. The number that it accepts with.
+    /// One call of a side: 0 is the independent implementation, 1 the proved library. The number that it accepts with, or 1 for yes.
     pub fn call(&self, side: usize, lent: &mut [u8]) -> usize {
         let (sheet, charter) = (black_box(&self.sheet[..]), black_box(&self.charter[..]));
         let answer = match (side, &self.service) {
@@ -97,16 +119,18 @@ impl Workload {
             (0, Service::Play(script)) => independent::play(sheet, charter, script, lent),
             (0, Service::Upgrade) => independent::upgrade(sheet, lent),
             (0, Service::Downgrade) => independent::downgrade(sheet, lent),
+            (0, Service::NoLooser(before)) => said(independent::no_looser(charter, black_box(before))),
             (_, Service::Check) => told(velimhaw::check(sheet, charter, lent)),
             (_, Service::Slack) => told(velimhaw::slack(sheet, charter, lent)),
             (_, Service::Play(script)) => told(velimhaw::play(sheet, charter, script, lent)),
             (_, Service::Upgrade) => told(velimhaw::upgrade(sheet, lent)),
             (_, Service::Downgrade) => told(velimhaw::downgrade(sheet, lent)),
+            (_, Service::NoLooser(before)) => said(velimhaw::no_looser(charter, black_box(before))),
         };
         black_box(answer).unwrap_or_else(|n| panic!("{}: refused {n}", self.name))
     }
 
-    /// Both sides accept with the same number and write the same, and every move of a run is taken.
+    /// Both sides accept with the same number, or say yes, and write the same, and every move of a run is taken.
     pub fn agree(&self) {
         let (mut left, mut right) = (lent(), lent());
         let number = self.call(0, &mut left);
@@ -123,4 +147,9 @@ fn told(answer: velimhaw::Answer) -> Result<usize, u32> {
         velimhaw::Answer::Accepted(number) => Ok(number),
         velimhaw::Answer::Refused(number) => Err(number as u32),
     }
+}
+
+/// 1 for yes; no is a refusal.
+fn said(yes: bool) -> Result<usize, u32> {
+    if yes { Ok(1) } else { Err(0) }
 }

@@ -6,13 +6,15 @@ use independent::running::State;
 use independent::text;
 use velimhaw::{SlackEntries, SLACK_MAX};
 
-/// The inputs of one case; `old` is a sheet of the old form, `output`, `line` and `log` are the lengths of the lent memory, and `trim`
-/// chooses a count of the charter.
+/// The inputs of one case; `old` is a sheet of the old form, `stricter` and `looser` are charters to compare with the charter, `output`,
+/// `line` and `log` are the lengths of the lent memory, and `trim` chooses a count of the charter.
 #[derive(Clone)]
 pub struct Case {
     pub sheet: Vec<u8>,
     pub old: Vec<u8>,
     pub charter: Vec<u8>,
+    pub stricter: Vec<u8>,
+    pub looser: Vec<u8>,
     pub names: Vec<u8>,
     pub script: Vec<u8>,
     pub output: usize,
@@ -122,8 +124,9 @@ impl Case {
 
     pub fn print(&self) {
         let sheets = [("sheet", &self.sheet), ("old sheet", &self.old)];
-        let others = [("charter", &self.charter), ("names", &self.names), ("script", &self.script)];
-        for (name, bytes) in sheets.into_iter().chain(others) {
+        let charters = [("charter", &self.charter), ("stricter charter", &self.stricter), ("looser charter", &self.looser)];
+        let others = [("names", &self.names), ("script", &self.script)];
+        for (name, bytes) in sheets.into_iter().chain(charters).chain(others) {
             println!("{name} ({} bytes): {}", bytes.len(), hex(bytes));
         }
         let lengths = format!("output {} bytes, line {} bytes, log {} bytes", self.output, self.line, self.log);

@@ -126,7 +126,8 @@ pub fn each_node(node: &mut Node, change: &mut dyn FnMut(&mut Node)) {
     change(node);
 }
 
-fn groups_of(root: &Node) -> Vec<u8> {
+/// The groups of a tree's nodes, in reading order.
+pub fn groups_of(root: &Node) -> Vec<u8> {
     let mut groups = Vec::new();
     root.visit(&mut |node| groups.push(node.group));
     groups

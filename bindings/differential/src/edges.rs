@@ -6,7 +6,7 @@ use crate::random::Random;
 /// A sheet and a charter near one limit.
 pub fn edge(random: &mut Random) -> (Vec<u8>, Vec<u8>) {
     let step = random.below(4);
-    match random.below(16) {
+    match random.below(18) {
         0 => (nested(&[3, 0, 0], 62 + step), vec![0]),
         1 => (nested(&[1], 62 + step).into_iter().chain(vec![0; 62 + step]).collect(), vec![0]),
         2 => (components(31 + step, &[4, 0, last_purposes(random), 0]), vec![0]),
@@ -22,6 +22,7 @@ pub fn edge(random: &mut Random) -> (Vec<u8>, Vec<u8>) {
         12 => large_grants(random),
         13 => purposes_and_maps(random),
         14 => both_forms_long(random),
+        15..=16 => (vec![0, 0], long_charter(random)),
         _ => (bound_names(61 + step), vec![1, 0, 0, 0x17, 1, 0, 255, 255, 0]),
     }
 }
@@ -189,6 +190,21 @@ fn wide_charter(random: &mut Random, nodes: usize) -> Vec<u8> {
     (2..nodes).for_each(|_| out.extend([&[1], map, &[0]].concat()));
     let (group, last) = if random.chance(60) { (random.below(2) as u8, random.pick(&maps)) } else { (1, map) };
     out.extend([&[group], last, &[0]].concat());
+    out
+}
+
+/// A charter that reads, of 4,094, 4,096 or 4,097 bytes: a root and 20 children with a count for each group, the last for fewer and with
+/// purposes or without.
+fn long_charter(random: &mut Random) -> Vec<u8> {
+    let lasts: [(u8, &[u8]); 4] = [(56, &[]), (56, &[1, 0x80]), (56, &[0xff, 0xff]), (57, &[])];
+    let last = random.pick(&lasts);
+    let mut out = vec![1, 0];
+    for group in 0..21 {
+        let (items, purposes) = if group < 20 { (64, &[][..]) } else { last };
+        out.extend([group, if purposes.is_empty() { 0x10 } else { 0x30 }, items]);
+        (0..items).for_each(|into| out.extend([into, random.byte(), random.between(1, 15) as u8]));
+        out.extend([purposes, &[if group == 0 { 20 } else { 0 }]].concat());
+    }
     out
 }
 

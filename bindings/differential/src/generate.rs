@@ -2,7 +2,7 @@
 
 use crate::case::Case;
 use crate::random::Random;
-use crate::{charters, classes, damage, edges, names, old, repeats, scripts, sheets};
+use crate::{chain, charters, classes, damage, edges, growing, names, old, repeats, scripts, sheets};
 use independent::charter::Charter;
 use independent::permissions::Entry;
 use independent::running::State;
@@ -14,6 +14,7 @@ pub fn case(random: &mut Random) -> Case {
     let (mut sheet, mut charter) = match random.below(100) {
         0..=9 => edges::edge(random),
         10..=14 => (damage::noise(random), damage::noise(random)),
+        15..=20 => (vec![0, 0], growing::charter(random).write()),
         _ => pair(random),
     };
     let mut script = script(random, &sheet, &charter);
@@ -25,9 +26,10 @@ pub fn case(random: &mut Random) -> Case {
             _ => damage::damage(random, &mut script),
         }
     }
+    let [stricter, looser] = chain::around(random, &charter);
     let names = names::names(random);
     let (pattern, trim) = (random.byte(), random.below(1 << 16));
-    let mut case = Case { sheet, old, charter, names, script, output: 0, line: 0, log: 0, pattern, trim };
+    let mut case = Case { sheet, old, charter, stricter, looser, names, script, output: 0, line: 0, log: 0, pattern, trim };
     case.output = around(random, needed_output(&case), 3);
     case.line = around(random, needed_line(&case), 3);
     case.log = around(random, needed_log(&case), 9);
@@ -64,6 +66,10 @@ fn change(random: &mut Random, charter: &mut Charter, sheet: &Sheet, interface: 
     }
     if random.chance(12) {
         repeats::repeat(random, charter);
+    }
+    if random.chance(30) {
+        let nodes = random.between(1, 8);
+        growing::grow(random, charter, nodes);
     }
 }
 

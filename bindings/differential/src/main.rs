@@ -1,18 +1,24 @@
 //! The differential tester: generates inputs and compares the independent implementation with the proved library. It also looks at demand 3
-//! after every move, by path and purpose, trims a charter by the slack that is told, and moves sheets to the old form and to the new one.
+//! after every move, by path and purpose, trims a charter by the slack that is told, moves sheets to the old form and to the new one, and
+//! compares charters, with what their comparison promises of sheets.
 //! Usage: differential [--cases N] [--seconds S] [--seed X] [--first K] [--show]
 //! `--first` starts at a later case of the same seed; `--show` prints each case before it is run.
 
 mod case;
+mod chain;
 mod charters;
 mod classes;
+mod comparing;
+mod conditions;
 mod damage;
 mod edges;
 mod faults;
 mod generate;
+mod growing;
 mod moving;
 mod names;
 mod old;
+mod pruning;
 mod purposes;
 mod random;
 mod repeats;
@@ -23,6 +29,7 @@ mod shared;
 mod sharers;
 mod sheets;
 mod shrink;
+mod steps;
 mod subject;
 mod totals;
 mod trimming;
@@ -101,7 +108,7 @@ fn run(options: &Options, totals: &mut Totals) -> ExitCode {
 type Look = fn(&Case) -> Option<String>;
 
 /// The looks at each case, whatever the lengths of its output, line and log.
-const LOOKS: [Look; 7] = [
+const LOOKS: [Look; 11] = [
     Case::violation,
     |case| case.slack_difference(&Independent, &Proved),
     |case| case.list_difference(&Proved),
@@ -109,6 +116,10 @@ const LOOKS: [Look; 7] = [
     moving::difference,
     moving::loss,
     sameness::fault,
+    comparing::difference,
+    comparing::misjudged,
+    comparing::unlawful,
+    comparing::broken,
 ];
 
 /// Looks at a case, and compares the two sides on it, with `sweep` at every length around the need; the answer is a shown fault.

@@ -2,6 +2,7 @@
 //! trees, and now and then a broken fence (15) or a kind twice (12) besides.
 
 use crate::charters::{change_count, change_flag, new_node};
+use crate::growing::spare_kind;
 use crate::purposes;
 use crate::random::Random;
 use independent::charter::{Charter, Node, Tree};
@@ -10,8 +11,8 @@ use independent::charter::{Charter, Node, Tree};
 pub fn repeat(random: &mut Random, charter: &mut Charter) {
     let wanted = random.between(2, 4);
     while charter.trees.len() < wanted {
-        let spare: Vec<u8> = (0..16).filter(|&kind| charter.tree(kind).is_none()).collect();
-        charter.trees.push(Tree { kind: random.pick(&spare), root: new_node(random) });
+        let kind = spare_kind(random, charter).expect("a kind without a tree");
+        charter.trees.push(Tree { kind, root: new_node(random) });
     }
     let trees = if random.chance(50) { charter.trees.len() } else { 1 };
     (0..random.between(2, 10)).for_each(|_| add(random, &mut charter.trees[..trees]));

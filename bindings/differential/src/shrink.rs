@@ -2,11 +2,12 @@
 
 use crate::case::Case;
 use crate::charters::each_node;
+use crate::pruning::{prune, CHARTERS};
 use independent::charter::{self, Charter};
 use independent::script::{self, Move};
 
-/// The smallest case found by dropping moves, bytes, maps of purposes and lent memory while `fails` holds, with 0 for bytes where it still
-/// does then.
+/// The smallest case found by dropping moves, bytes, parts of its charters and lent memory while `fails` holds, with 0 for bytes where it
+/// still does then.
 pub fn shrink(case: Case, fails: &dyn Fn(&Case) -> bool) -> Case {
     let mut best = case;
     loop {
@@ -14,10 +15,10 @@ pub fn shrink(case: Case, fails: &dyn Fn(&Case) -> bool) -> Case {
         best = drop_moves(best, fails);
         best = drop_bytes(best, fails, |case| &mut case.script);
         best = drop_bytes(best, fails, |case| &mut case.names);
-        best = drop_bytes(best, fails, |case| &mut case.charter);
+        best = CHARTERS.into_iter().fold(best, |best, field| drop_bytes(best, fails, field));
         best = drop_bytes(best, fails, |case| &mut case.sheet);
         best = drop_bytes(best, fails, |case| &mut case.old);
-        best = drop_maps(best, fails);
+        best = drop_maps(prune(best, fails), fails);
         best = lend_less(best, fails);
         if weight(&best) == size {
             return put_zeros(best, fails);
@@ -27,7 +28,8 @@ pub fn shrink(case: Case, fails: &dyn Fn(&Case) -> bool) -> Case {
 
 fn weight(case: &Case) -> usize {
     let lent = case.output + case.line + case.log;
-    case.sheet.len() + case.old.len() + case.charter.len() + case.names.len() + case.script.len() + lent
+    let charters = case.charter.len() + case.stricter.len() + case.looser.len();
+    case.sheet.len() + case.old.len() + charters + case.names.len() + case.script.len() + lent
 }
 
 /// Drops runs of things, long ones first, while the case built from the rest fails.
@@ -99,10 +101,11 @@ fn without_map(charter: &Charter, number: usize) -> Option<Charter> {
     (number < nodes).then_some(fewer)
 }
 
-/// Puts 0 for bytes of the sheets and of the charter.
+/// Puts 0 for bytes of the sheets and of the charters.
 fn put_zeros(case: Case, fails: &dyn Fn(&Case) -> bool) -> Case {
     let mut best = case;
-    for field in [(|case| &mut case.sheet) as fn(&mut Case) -> &mut Vec<u8>, |case| &mut case.old, |case| &mut case.charter] {
+    let sheets: [fn(&mut Case) -> &mut Vec<u8>; 2] = [|case| &mut case.sheet, |case| &mut case.old];
+    for field in sheets.into_iter().chain(CHARTERS) {
         for at in 0..field(&mut best).len() {
             let mut other = best.clone();
             field(&mut other)[at] = 0;

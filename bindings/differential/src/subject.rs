@@ -31,6 +31,7 @@ pub trait Subject {
     fn explain(&self, sheet: &[u8], charter: &[u8], names: &[u8], line: &mut [u8]) -> Result<usize, u32>;
     fn play(&self, sheet: &[u8], charter: &[u8], script: &[u8], log: &mut [u8]) -> Result<usize, u32>;
     fn moved(&self, way: Way, sheet: &[u8], output: &mut [u8]) -> Result<usize, u32>;
+    fn no_looser(&self, charter: &[u8], before: &[u8]) -> bool;
 }
 
 /// The independent implementation.
@@ -58,6 +59,10 @@ impl Subject for Independent {
             Way::Upgrade => independent::upgrade(sheet, output),
             Way::Downgrade => independent::downgrade(sheet, output),
         }
+    }
+
+    fn no_looser(&self, charter: &[u8], before: &[u8]) -> bool {
+        independent::no_looser(charter, before)
     }
 }
 
@@ -90,6 +95,10 @@ impl Subject for Proved {
             Way::Upgrade => velimhaw::upgrade(sheet, output),
             Way::Downgrade => velimhaw::downgrade(sheet, output),
         })
+    }
+
+    fn no_looser(&self, charter: &[u8], before: &[u8]) -> bool {
+        velimhaw::no_looser(charter, before)
     }
 }
 

@@ -1,7 +1,10 @@
 //! What the cases of a run met: refusals by number, faults of charters that come together, counts that components share, purposes, sums
-//! told and counts trimmed, the first uncovered permissions by verb, records by label, sheets moved and what they are answered.
+//! told and counts trimmed, the first uncovered permissions by verb, records by label, sheets moved and what they are answered, charters
+//! compared and what sheets are answered under them.
 
 use crate::case::Case;
+use crate::comparing::Comparison;
+use crate::conditions::Condition;
 use crate::subject::Independent;
 use crate::trimming::Trimming;
 use crate::{classes, faults, moving, sameness, served, shared};
@@ -33,6 +36,10 @@ pub struct Totals {
     moved: BTreeMap<(&'static str, &'static str), u64>,
     unmoved: BTreeMap<(&'static str, u32), u64>,
     same: BTreeMap<Result<(), u32>, u64>,
+    compared: BTreeMap<&'static str, u64>,
+    failing: BTreeMap<Condition, u64>,
+    alone: BTreeMap<Condition, u64>,
+    kept: BTreeMap<&'static str, u64>,
 }
 
 impl Totals {
@@ -47,6 +54,7 @@ impl Totals {
         self.count_explanation(case);
         self.count_run(case);
         self.count_moving(case);
+        self.count_comparing(case);
     }
 
     /// Adds the faults of a charter that was asked 12 to 15.
@@ -112,6 +120,18 @@ impl Totals {
         add(&mut self.same, sameness::before(case).filter(|_| is.is_some()));
     }
 
+    /// Adds what comparing the case's charters answers, which conditions fail, and what its sheet is answered under charters of which one
+    /// is no looser than the other.
+    fn count_comparing(&mut self, case: &Case) {
+        let compared = Comparison::of(case, &Independent);
+        add(&mut self.compared, compared.met());
+        add(&mut self.kept, compared.kept().into_iter().flat_map(|(_, kept)| kept.unwrap_or_default()));
+        for failing in compared.pairs().map(|pair| compared.failing(pair)) {
+            add(&mut self.alone, failing.first().copied().filter(|_| failing.len() == 1));
+            add(&mut self.failing, failing);
+        }
+    }
+
     pub fn print(&self) {
         println!("check, refused by number: {:?}", self.check);
         println!("charters with nodes that fail 13 or 14: {:?}", self.faults);
@@ -128,6 +148,10 @@ impl Totals {
         println!("sheets moved: {:?}", self.moved);
         println!("sheets not moved, by number: {:?}", self.unmoved);
         println!("moved sheets answered as the old ones were: {:?}", self.same);
+        println!("charters compared: {:?}", self.compared);
+        println!("conditions that fail: {:?}", self.failing);
+        println!("conditions that fail alone: {:?}", self.alone);
+        println!("sheets under a charter and a looser one: {:?}", self.kept);
         println!("{} cases, {} accepted, {} moves, {} of them taken", self.cases, self.accepted, self.moves, self.taken);
     }
 }

@@ -1,10 +1,11 @@
 //! Document 01 (flow sheets, charters and runs), the sentence for a refused sheet, the counts that components share, what a charter leaves
-//! over, the purposes for which it grants, and sheets moved between the forms without and with purposes, in plain Rust, written from the
-//! documents and the list of readings that decides their open points. It shares no code with the proved library, but those readings it
-//! shares: an agreement of the two says nothing about an open point that the list itself reads wrongly.
+//! over, the purposes for which it grants, sheets moved between the forms without and with purposes, and charters compared, in plain Rust,
+//! written from the documents and the list of readings that decides their open points. It shares no code with the proved library, but
+//! those readings it shares: an agreement of the two says nothing about an open point that the list itself reads wrongly.
 
 pub mod bytes;
 pub mod charter;
+pub mod comparing;
 pub mod cover;
 pub mod demand3;
 pub mod dialect;
@@ -23,6 +24,7 @@ pub mod typing;
 pub mod writing;
 
 use charter::Charter;
+pub use comparing::no_looser;
 use cover::{Uncovered, Verdict};
 use dialect::Dialect;
 pub use moving::{downgrade, upgrade};

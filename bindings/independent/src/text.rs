@@ -51,6 +51,11 @@ fn moved(sheet: &[u8], service: fn(&[u8], &mut [u8]) -> Result<usize, u32>) -> V
     }
 }
 
+/// The stricter program's line for a charter and the one before it.
+pub fn stricter(charter: &[u8], before: &[u8]) -> String {
+    if crate::no_looser(charter, before) { "yes\n".to_string() } else { "no\n".to_string() }
+}
+
 /// The line below `refused 18`: the sentence, or the number of the question that keeps it from being written.
 fn explanation(sheet: &[u8], charter: &[u8], names: &[u8]) -> String {
     let mut line = [0; sentence::LONGEST];

@@ -1,6 +1,7 @@
 //! Checks and plays example W of docs/REFERENCE.md, and prints the entries of its interface, what its charter leaves over and the records
-//! of its log; then explains why another charter refuses it, and moves it back to the old form and over again.
-use velimhaw::{try_check, try_downgrade, try_explain, try_play, try_slack, try_upgrade, Refusal};
+//! of its log; then explains why another charter refuses it, compares the two charters, and moves the sheet back to the old form and over
+//! again.
+use velimhaw::{no_looser, try_check, try_downgrade, try_explain, try_play, try_slack, try_upgrade, Refusal};
 use velimhaw::{GROUPS, KINDS, LOG_MAX, MOVED_MAX, SENTENCE_MAX, SLACK_MAX};
 
 const SHEET: [u8; 31] = [
@@ -48,6 +49,8 @@ fn main() -> Result<(), Refusal> {
     if let Some(sentence) = try_explain(&SHEET, &STRICT_CHARTER, &names(), &mut line)? {
         println!("explain: {sentence}");
     }
+    let ways = (no_looser(&STRICT_CHARTER, &CHARTER), no_looser(&CHARTER, &STRICT_CHARTER));
+    println!("no looser: the stricter charter than W's {}, W's than the stricter one {}", ways.0, ways.1);
     let mut moved = [0; MOVED_MAX];
     let old_sheet = try_downgrade(&SHEET, &mut moved)?;
     println!("downgrade: {} bytes, upgrade: {} bytes", old_sheet.len(), try_upgrade(old_sheet, &mut output)?.len());

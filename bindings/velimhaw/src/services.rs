@@ -2,7 +2,7 @@
 
 use crate::{Entries, Records, Refusal, SlackEntries, RECORD_LENGTH};
 
-/// What all services but `explain` answer.
+/// What all services but `explain` and `no_looser` answer.
 #[derive(Clone, Copy, Debug, PartialEq, Eq)]
 pub enum Answer {
     /// The number of moves (play) or the length written (all others).

@@ -1,7 +1,7 @@
 //! Runs a file of cases through the independent implementation and compares what the programs would write.
 //! A line: sheet|charter|script|what list writes|what run writes, in hexadecimal, and for a names file |names after them, where `-`
-//! is the file names.bin beside the file of cases; or upgrade|sheet.bin=sheet|what it writes, and the same for downgrade. An empty line,
-//! or one that begins with #, is passed over.
+//! is the file names.bin beside the file of cases; or upgrade|sheet.bin=sheet|what it writes, and the same for downgrade; or
+//! stricter|charter.bin=charter|before.bin=charter|what it writes. An empty line, or one that begins with #, is passed over.
 
 use independent::text;
 use std::path::Path;
@@ -39,8 +39,12 @@ fn agrees(number: usize, line: &str, beside: &Path) -> bool {
 /// What the programs of one line are wanted to write, and what they write.
 fn results(fields: &[&str], beside: &Path) -> Option<Vec<Outcome>> {
     match *fields {
-        ["upgrade", sheet, wants] => Some(vec![("upgrade", unhex(wants), text::upgrade(&sheet_file(sheet)?))]),
-        ["downgrade", sheet, wants] => Some(vec![("downgrade", unhex(wants), text::downgrade(&sheet_file(sheet)?))]),
+        ["upgrade", sheet, wants] => Some(vec![("upgrade", unhex(wants), text::upgrade(&file("sheet.bin", sheet)?))]),
+        ["downgrade", sheet, wants] => Some(vec![("downgrade", unhex(wants), text::downgrade(&file("sheet.bin", sheet)?))]),
+        ["stricter", charter, before, wants] => {
+            let line = text::stricter(&file("charter.bin", charter)?, &file("before.bin", before)?);
+            Some(vec![("stricter", unhex(wants), line.into_bytes())])
+        }
         [sheet, charter, script, wants_list, wants_run, ref names @ ..] if names.len() < 2 => {
             let (sheet, charter) = (unhex(sheet), unhex(charter));
             let list = text::list(&sheet, &charter, &names_file(names.first().copied(), beside)).into_bytes();
@@ -51,9 +55,9 @@ fn results(fields: &[&str], beside: &Path) -> Option<Vec<Outcome>> {
     }
 }
 
-/// The sheet of a line for one of the programs that move it.
-fn sheet_file(field: &str) -> Option<Vec<u8>> {
-    field.strip_prefix("sheet.bin=").map(unhex)
+/// The bytes that a field gives for the file of such a name.
+fn file(name: &str, field: &str) -> Option<Vec<u8>> {
+    field.strip_prefix(name)?.strip_prefix('=').map(unhex)
 }
 
 /// The bytes of the names file that a line's sixth field gives.
