@@ -65,8 +65,11 @@ module _ (a nodes : List ℕ) (trees : Trees) (b others : List ℕ) (choice : Tr
     pub trees-end : trees .len ≤ t → Decided true
     trees-end h p q k l = let r = s .left p q k l in passed-all p q (r .rest) h (r .held) (r .same)
 
-    module _ (h : t < trees .len) (bounded : Bounded choice) (kinds : length (choice .kinds) ≡ 16) (u : ℕ)
-        (is : u ≡ indexOf (getD (trees .kinds) t 0) (take (choice .len) (choice .kinds))) where
+    module _ (h : t < trees .len) (bounded : Bounded choice) (kinds : length (choice .kinds) ≡ 16) (kind u : ℕ)
+        (its : kind ≡ getD (trees .kinds) t 0) (found : u ≡ indexOf kind (take (choice .len) (choice .kinds))) where
+      is : u ≡ indexOf (getD (trees .kinds) t 0) (take (choice .len) (choice .kinds))
+      is = rw its at found
+
       pub tree-absent : choice .len ≤ u → Decided false
       tree-absent k p q i j =
           let r = s .left p q i j in

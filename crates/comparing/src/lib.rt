@@ -9,6 +9,7 @@ pub mod counts;
 pub mod rows;
 
 use crate::rows::trees_within;
+use containment::answers;
 use policy::Trees;
 use policy::read::no_trees;
 use policy::read::read_policy;
@@ -33,7 +34,7 @@ fn not_passed() -> Loaded
 }
 
 // Reads a charter into the table of nodes, and asks 11 to 15.
-fn load(c: &[u8], nodes: &mut [usize]) -> Loaded
+fn load(c: &[u8], nodes: &mut [u16]) -> Loaded
     requires { ⌜ length (now nodes) ≡ 384 ⌝ }
     ensures { λ r. ⌜ LoadedAs (now (c .entry)) (now (nodes .exit)) r ⌝ }
 {
@@ -59,15 +60,16 @@ fn load(c: &[u8], nodes: &mut [usize]) -> Loaded
 pub fn no_looser(a: &[u8], b: &[u8]) -> bool
     ensures { λ r. ⌜ r ≡ noLooser (now (a .entry)) (now (b .entry)) ⌝ }
 {
-    let mut nodes = [0usize; 384];
+    let mut nodes = [0u16; 384];
     let first = load(a, &mut nodes);
     if !first.passes {
         return false;
     }
-    let mut others = [0usize; 384];
+    let mut others = [0u16; 384];
     let second = load(b, &mut others);
     if !second.passes {
         return false;
     }
-    trees_within(a, &nodes, first.trees, b, &others, second.trees)
+    let answers = answers();
+    trees_within(&answers, a, &nodes, first.trees, b, &others, second.trees)
 }

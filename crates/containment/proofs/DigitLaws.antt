@@ -1,14 +1,17 @@
 -- Maps digit by digit: the lowest four bits, and those of a sixteenth; and what of a map's lowest bits is left when higher ones are cut off.
-use Prim.Native.Nat.{ℕ, zero, suc, _-_, _*_, _/_, _%_, _<_, _≤_}
+use Prim.Native.Nat.{ℕ, zero, suc, _+_, _-_, _*_, _/_, _%_, _<_, _≤_}
 use mathlib.Core.Bool.{Bool, true, false, cond, not, _&&_}
+use mathlib.Core.List.{List}
 use mathlib.Core.Path.{_≡_, refl, sym, ap, _∙_}
 use native.Mathlib.Omega.{arith}
 use borrow.Author.Tests.{not-true, not-false}
 use lib.Dec.{eqb}
+use lib.ListN.{length, getD}
 use Rattle.reading.proofs.Tests.{tests}
 use Rattle.inference.specs.Lists.{every, rising}
 use Rattle.policy.specs.Syntax.{bitAt}
 use Rattle.containment.specs.Bits.{implies, bitsAmong}
+use Rattle.containment.specs.Answers.{Answers, answering}
 
 -- Every number from one more on, asked of the number after it.
 every-shifted : (p : ℕ → Bool) (start n : ℕ) → every p (rising (suc start) n) ≡ every (λ k. p (suc k)) (rising start n)
@@ -76,10 +79,17 @@ low-four n a b =
 bits-digit : (n a b : ℕ) → bitsAmong (suc (suc (suc (suc n)))) a b ≡ (bitsAmong 4 (a % 16) (b % 16) && bitsAmong n (a / 16) (b / 16))
 bits-digit n a b = low-four n a b ∙ rw (sixteenth a, sixteenth b, low-digit a b)
 
--- An entry of the table as a test.
-pub entry-tells : (x : ℕ) (t : Bool) → x ≡ cond t 1 0 → eqb x 1 ≡ t
-entry-tells x true e = rw e
-entry-tells x false e = rw e
+-- An entry of the table as a test: 1 is yes.
+is-one : (x : ℕ) (t : Bool) → x ≡ cond t 1 0 → eqb x 1 ≡ t
+is-one x true e = rw e
+is-one x false e = rw e
+
+module _ (table : List ℕ) (a b : ℕ) where
+  pub entry-there : Answers table → a < 16 → b < 16 → 16 * a + b < length table
+  entry-there (answering count rule) h k = omega arith
+
+  pub entry-tells : Answers table → a < 16 → b < 16 → eqb (getD table (16 * a + b) 0) 1 ≡ bitsAmong 4 a b
+  entry-tells (answering count rule) h k = is-one (getD table (16 * a + b) 0) (bitsAmong 4 a b) (rule a b h k)
 
 -- Whether the bits of all digits stand in another map is whether those of the digits that are left do.
 pub record DigitsLeft (digits a b left x y : ℕ) : Type 0 where
@@ -105,7 +115,7 @@ module _ (digits a b left x y : ℕ) (s : DigitsLeft digits a b left x y) where
     pub digits-next : not t ≡ false → DigitsLeft digits a b (left - 1) (x / 16) (y / 16)
     digits-next k = record { same = rw (not-false t k) at one-digit }
 
-pub ruleset digit-steps = (tests, entry-tells, digits-start, digits-end, digits-differ, digits-next)
+pub ruleset digit-steps = (tests, entry-there, entry-tells, digits-start, digits-end, digits-differ, digits-next)
 
 -- Maps of fewer bits than four: the bits that are cut off stand in neither.
 pub three-bits : (a b : ℕ) → bitsAmong 4 (a % 8) (b % 8) ≡ bitsAmong 3 a b

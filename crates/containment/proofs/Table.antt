@@ -12,6 +12,7 @@ use Rattle.reading.proofs.FormLaws.{both-true}
 use Rattle.inference.specs.Lists.{every, rising}
 use Rattle.policy.specs.Syntax.{bitAt}
 use Rattle.containment.specs.Bits.{implies, bitsAmong}
+use Rattle.containment.specs.Answers.{Answers, answering}
 
 -- Each entry of a table, from place i on, passes a test of its place and itself.
 unfoldable pub everyEntry : (ℕ → ℕ → Bool) → ℕ → List ℕ → Bool
@@ -73,3 +74,6 @@ answers-count = refl
 
 pub answers-rule : (a b : ℕ) → a < 16 → b < 16 → getD answers (16 * a + b) 0 ≡ cond (bitsAmong 4 a b) 1 0
 answers-rule = table-rule answers answers-pass answers-count
+
+pub answers-hold : Answers answers
+answers-hold = answering answers-count answers-rule

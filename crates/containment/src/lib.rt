@@ -1,8 +1,8 @@
 // Which bits of a map stand in another: one constant table of 256 answers, and maps of any number of four-bit digits by it.
 ghost use mathlib.Core.Path.{_≡_};
-ghost use mathlib.Core.Bool.{cond};
 ghost use Prim.Native.Nat.{_*_, _<_};
 ghost use Rattle.containment.specs.Bits.{bitsAmong};
+ghost use Rattle.containment.specs.Answers.{Answers};
 
 // "one for each pair of four-bit maps, entry 16 × a + b being 1 exactly if all bits of a stand in b" (document 02, Q-8). Beside each entry
 // its a and b, in binary.
@@ -265,31 +265,31 @@ const ANSWERS: [u8; 256] = [
     1, // 1111 in 1111
 ];
 
-// The entry of two four-bit maps.
-fn answer(a: usize, b: usize) -> u8
-    requires { ⌜ (a < 16) × (b < 16) ⌝ }
-    ensures { λ r. ⌜ r ≡ cond (bitsAmong 4 a b) 1 0 ⌝ }
+// The table, for a caller to keep and lend: made once, and not at each look-up.
+pub fn answers() -> [u8; 256]
+    ensures { λ r. ⌜ Answers r ⌝ }
 {
-    ANSWERS[16 * a + b]
+    ANSWERS
 }
 
 // Do all bits of a four-bit map stand in another?
-pub fn among(a: usize, b: usize) -> bool
-    requires { ⌜ (a < 16) × (b < 16) ⌝ }
+pub fn among(answers: &[u8], a: usize, b: usize) -> bool
+    requires { ⌜ Answers (now answers) × (a < 16) × (b < 16) ⌝ }
     ensures { λ r. ⌜ r ≡ bitsAmong 4 a b ⌝ }
 {
-    answer(a, b) == 1
+    answers[16 * a + b] == 1
 }
 
 // Do all bits of the lowest `digits` four-bit digits of a map stand in another?
-pub fn digits_among(digits: usize, a: usize, b: usize) -> bool
+pub fn digits_among(answers: &[u8], digits: usize, a: usize, b: usize) -> bool
+    requires { ⌜ Answers (now answers) ⌝ }
     ensures { λ r. ⌜ r ≡ bitsAmong (4 * digits) a b ⌝ }
 {
     let mut first = a;
     let mut second = b;
     let mut left = digits;
     while 0 < left {
-        if !among(first % 16, second % 16) {
+        if !among(answers, first % 16, second % 16) {
             return false;
         }
         first /= 16;

@@ -137,10 +137,10 @@ module _ (forms : List ℕ) (x : Exchange) (z : Sizes) (turns : ℕ) (threads th
       threadsOf d (chain cells (x .theirs .names) (x .theirs .env) ++ (x .sent ∷ []))
       (length (state .types) + length (news (remainingAt forms (x .mine)))) (remainingAt forms (x .theirs))
 
-  module _ (few : turns ≤ 1275) (known-room : length known ≡ 1024) (number-mine : c .number ≡ x .mine .component) (number-theirs : d .number ≡ x .theirs .component)
+  module _ (few : turns + 1029 ≤ length cells) (known-room : length known ≡ 1024) (number-mine : c .number ≡ x .mine .component) (number-theirs : d .number ≡ x .theirs .component)
       (fits-mine : Ranged (x .mine) (z .cells)) (fits-theirs : Ranged (x .theirs) (z .cells)) (binds : x .theirs .names + x .theirs .nest < 128) (small : x .sent < 65536)
       (apart : x .sender ≡ x .receiver → ⊥) (sender : x .sender < z .threads) (receiver : x .receiver < z .threads)
-      (threads-room : length threads ≡ 128) (made-room : length made ≡ 128) (types-room : length types ≡ 1024) (cells-room : length cells ≡ 2304)
+      (threads-room : length threads ≡ 128) (made-room : length made ≡ 128) (types-room : length types ≡ 1024) (cells-room : length cells ≤ 2304)
       (same-made : length made₁ ≡ length made) (same-types : length types₁ ≡ length types) (same-cells : length cells₁ ≡ length cells)
       (holds : Holds forms z turns threads types known cells state) where
     ready-mine : Ready (x .mine) before made types cells
@@ -166,8 +166,14 @@ module _ (forms : List ℕ) (x : Exchange) (z : Sizes) (turns : ℕ) (threads th
 
     -- After the sender's walk.
     module _ (m : Makes forms (x .mine) (processIn (x .mine .nest) forms (x .mine .at)) before made made₁ types types₁ cells cells₁ first) where
+      cell-inside : cell + 4 ≤ length cells
+      cell-inside = omega (arith, m .grows .slack, m .grows .names, holds .slack)
+
       cell-left : cell ≤ 2300
-      cell-left = omega (arith, m .grows .slack, m .grows .names, holds .slack)
+      cell-left = omega (arith, cell-inside, cells-room)
+
+      widened-length : length widened ≡ length cells
+      widened-length = bound-length cells₁ cell (x .theirs .env) (x .sent) ∙ same-cells
 
       ready-theirs : Ready place begun made₁ types₁ widened
       ready-theirs = record {
@@ -178,10 +184,10 @@ module _ (forms : List ℕ) (x : Exchange) (z : Sizes) (turns : ℕ) (threads th
         env = omega arith;
         few = omega (arith, m .grows .threads);
         given = omega (arith, m .grows .names);
-        slack = omega (arith, m .grows .slack, holds .slack);
+        slack = omega (arith, m .grows .slack, holds .slack, widened-length);
         made-room = omega (arith, same-made);
         types-room = same-types ∙ types-room;
-        cells-room = bound-length cells₁ cell (x .theirs .env) (x .sent) ∙ same-cells ∙ cells-room;
+        cells-room = omega (arith, widened-length, cells-room);
       }
 
       cells-kept : take (z .cells) widened ≡ take (z .cells) cells
@@ -190,7 +196,7 @@ module _ (forms : List ℕ) (x : Exchange) (z : Sizes) (turns : ℕ) (threads th
       names-theirs : chain widened (x .theirs .names + 1) cell ≡ chain cells (x .theirs .names) (x .theirs .env) ++ (x .sent ∷ [])
       names-theirs =
           chain-bound cells₁ (x .theirs .names) cell (x .theirs .env) (x .sent) (omega (arith, fits-theirs .env, m .grows .cells))
-          (omega (arith, cell-left, same-cells)) (omega (arith, cell-left)) small
+          (omega (arith, cell-inside, same-cells)) (omega (arith, cell-left)) small
           ∙ ap (λ l. l ++ (x .sent ∷ []))
           (chain-kept cells₁ cells (z .cells) (x .theirs .names) (x .theirs .env) (m .grows .kept) (fits-theirs .env))
 

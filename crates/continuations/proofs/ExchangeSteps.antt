@@ -135,10 +135,10 @@ module _ (forms : List ℕ) (x : Exchange) (z : Sizes) (threads threads′ made 
   abbrev before : Sizes
   before = record { threads = 0; names = z .names; cells = z .cells }
 
-  met : x .sender < z .threads → x .receiver < z .threads → length threads ≡ 128 → length made ≡ 128 → length types ≡ 1024 → length cells ≡ 2304
+  met : x .sender < z .threads → x .receiver < z .threads → length threads ≡ 128 → length made ≡ 128 → length types ≡ 1024 → length cells ≤ 2304
       → MakesBoth forms x before made made′ types types′ cells cells′ b
       → ((x .sender ≡ x .receiver → ⊥) → b .mine ≤ b .sizes .threads → PutsBoth z x b made′ threads threads′ r)
-      → (state : State) (c d : Component) (turns : ℕ) (known : List Bool) → turns ≤ 1275 → length known ≡ 1024 → c .number ≡ x .mine .component → d .number ≡ x .theirs .component
+      → (state : State) (c d : Component) (turns : ℕ) (known : List Bool) → turns + 1029 ≤ length cells → length known ≡ 1024 → c .number ≡ x .mine .component → d .number ≡ x .theirs .component
       → Ranged (x .mine) (z .cells) → Ranged (x .theirs) (z .cells) → x .theirs .names + x .theirs .nest < 128 → x .sent < 65536 → (x .sender ≡ x .receiver → ⊥)
       → Holds forms z turns threads types known cells state → Exchanges forms x z turns threads′ types′ known cells cells′ state c d r
   unfolding Walks

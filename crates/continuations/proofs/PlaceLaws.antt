@@ -66,8 +66,8 @@ module _ (forms : List ℕ) (process : Place) (at from : ℕ) (z : Sizes) (turns
   abbrev mine : List Thread
   mine = threadsOf c (chain cells (process .names) (process .env)) (length (state .types)) (remainingAt forms process)
 
-  module _ (few : turns ≤ 1276) (known-room : length known ≡ 1024) (number : c .number ≡ process .component) (fits : Ranged process (z .cells))
-      (made-room : length made ≡ 128) (types-room : length types ≡ 1024) (cells-room : length cells ≡ 2304)
+  module _ (few : turns + 1028 ≤ length cells) (known-room : length known ≡ 1024) (number : c .number ≡ process .component) (fits : Ranged process (z .cells))
+      (made-room : length made ≡ 128) (types-room : length types ≡ 1024) (cells-room : length cells ≤ 2304)
       (ordered : at ≤ from) (inside : from ≤ z .threads) (threads-room : length threads ≡ 128)
       (holds : Holds forms z turns threads types known cells state) where
     pub process-ready : Ready process before made types cells

@@ -38,10 +38,10 @@ pub record Exchanges (forms : List ℕ) (x : Exchange) (z : Sizes) (turns : ℕ)
   pub taken : r .fits ≡ true → Holds forms (r .sizes) (turns + 1) threads′ types′ known cells′ (exchanged forms x cells state c d)
   pub kept : r .fits ≡ false → (r .sizes ≡ z) × Holds forms z turns threads′ types′ known cells′ state
 
--- The same for every state that memory holds before, at most 1,275 turns into a run, whichever names are known.
+-- The same for every state that memory holds before, with cells for one turn more, whichever names are known.
 abbrev pub Exchanging : List ℕ → Exchange → Sizes → List ℕ → List ℕ → List ℕ → List ℕ → List ℕ → List ℕ → Placed → Type 0
 Exchanging forms x z threads types cells threads′ types′ cells′ r =
-    (state : State) (c d : Component) (turns : ℕ) (known : List Bool) → turns ≤ 1275 → length known ≡ 1024
+    (state : State) (c d : Component) (turns : ℕ) (known : List Bool) → turns + 1029 ≤ length cells → length known ≡ 1024
     → c .number ≡ x .mine .component → d .number ≡ x .theirs .component → Ranged (x .mine) (z .cells) → Ranged (x .theirs) (z .cells)
     → x .theirs .names + x .theirs .nest < 128 → x .sent < 65536 → (x .sender ≡ x .receiver → ⊥)
     → Holds forms z turns threads types known cells state → Exchanges forms x z turns threads′ types′ known cells cells′ state c d r

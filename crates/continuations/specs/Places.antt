@@ -24,7 +24,7 @@ pub record Tables (z : Sizes) (threads made types cells : List ℕ) : Type 0 whe
   pub thread-room : length threads ≡ 128
   pub made-room : length made ≡ 128
   pub type-room : length types ≡ 1024
-  pub cell-room : length cells ≡ 2304
+  pub cell-room : length cells ≤ 2304
 
 -- A process to be taken apart: its component, names, nesting and place in their ranges, its run names among the cells in use.
 pub record Ranged (t : Place) (top : ℕ) : Type 0 where
@@ -78,9 +78,9 @@ pub record Replaces (forms : List ℕ) (process : Place) (at from : ℕ) (z : Si
   pub taken : r .fits ≡ true → Holds forms (r .sizes) turns threads′ types′ known cells′ (put forms process at from cells state c)
   pub kept : r .fits ≡ false → (r .sizes ≡ z) × Holds forms z turns threads′ types′ known cells′ state
 
--- The same for every state that memory holds before, at most 1,276 turns into a run, whichever names are known.
+-- The same for every state that memory holds before, with cells for its turns, whichever names are known.
 abbrev pub Replacing : List ℕ → Place → ℕ → ℕ → Sizes → List ℕ → List ℕ → List ℕ → List ℕ → List ℕ → List ℕ → Placed → Type 0
 Replacing forms process at from z threads types cells threads′ types′ cells′ r =
-    (state : State) (c : Component) (turns : ℕ) (known : List Bool) → turns ≤ 1276 → length known ≡ 1024 → c .number ≡ process .component
+    (state : State) (c : Component) (turns : ℕ) (known : List Bool) → turns + 1028 ≤ length cells → length known ≡ 1024 → c .number ≡ process .component
     → Ranged process (z .cells) → Holds forms z turns threads types known cells state
     → Replaces forms process at from z turns threads′ types′ known cells cells′ state c r

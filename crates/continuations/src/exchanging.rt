@@ -27,8 +27,8 @@ fn make_theirs(
     sent: usize,
     sizes: Sizes,
     made: &mut [usize],
-    types: &mut [usize],
-    cells: &mut [usize],
+    types: &mut [u32],
+    cells: &mut [u32],
 ) -> Sizes
     ensures { λ r. ⌜ Walks (now (forms .entry)) (underCell t (sizes .cells)) (withCell sizes) (now (made .entry)) (now (made .exit))
         (now (types .entry)) (now (types .exit))
@@ -47,8 +47,8 @@ fn make_both(
     x: Exchange,
     sizes: Sizes,
     made: &mut [usize],
-    types: &mut [usize],
-    cells: &mut [usize],
+    types: &mut [u32],
+    cells: &mut [u32],
 ) -> BothMade
     ensures { λ r. ⌜ MakesBoth (now (forms .entry)) x sizes (now (made .entry)) (now (made .exit))
         (now (types .entry)) (now (types .exit)) (now (cells .entry)) (now (cells .exit)) r ⌝ }
@@ -166,8 +166,8 @@ pub fn exchange(
     sizes: Sizes,
     threads: &mut [usize],
     made: &mut [usize],
-    types: &mut [usize],
-    cells: &mut [usize],
+    types: &mut [u32],
+    cells: &mut [u32],
 ) -> Placed
     requires { ⌜ (x .sender < sizes .threads) × (x .receiver < sizes .threads)
         × Tables sizes (now threads) (now made) (now types) (now cells) ⌝ }

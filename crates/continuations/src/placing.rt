@@ -7,7 +7,7 @@ use crate::Placed;
 use memory::Thread;
 use memory::threads::splice;
 use products::Sizes;
-use products::processes::make_process;
+use products::processes::make;
 
 // 35: "room for 64 threads and 1,024 names afterwards?", where `kept` threads stay.
 pub fn has_room(kept: usize, sizes: Sizes) -> bool
@@ -73,14 +73,14 @@ pub fn replace(
     sizes: Sizes,
     threads: &mut [usize],
     made: &mut [usize],
-    types: &mut [usize],
-    cells: &mut [usize],
+    types: &mut [u32],
+    cells: &mut [u32],
 ) -> Placed
     requires { ⌜ (at ≤ from) × (from ≤ sizes .threads) × Tables sizes (now threads) (now made) (now types) (now cells) ⌝ }
     ensures { λ r. ⌜ Replacing (now (forms .entry)) process at from sizes
         (now (threads .entry)) (now (types .entry)) (now (cells .entry))
         (now (threads .exit)) (now (types .exit)) (now (cells .exit)) r ⌝ }
 {
-    let after = make_process(forms, process, none_made(sizes), made, types, cells);
+    let after = make(forms, process, none_made(sizes), made, types, cells);
     put(threads, sizes, at, from, made, after)
 }

@@ -23,7 +23,7 @@ pub fn thread_at(threads: &[usize], i: usize) -> Thread
 }
 
 // A receive, with the run name of its channel.
-fn receives(act: Act, next: usize, t: Thread, cells: &[usize]) -> Prefix
+fn receives(act: Act, next: usize, t: Thread, cells: &[u32]) -> Prefix
     ensures { λ r. ⌜ r ≡ Prefix.Receives (record {
       channel = getD (chain (now (cells .entry)) (t .names) (t .env)) (act .channel) 65535;
       object = act .object;
@@ -38,7 +38,7 @@ fn receives(act: Act, next: usize, t: Thread, cells: &[usize]) -> Prefix
 }
 
 // A send, with the run names of its channel and of what it sends.
-fn sends(act: Act, next: usize, t: Thread, cells: &[usize]) -> Prefix
+fn sends(act: Act, next: usize, t: Thread, cells: &[u32]) -> Prefix
     ensures { λ r. ⌜ r ≡ Prefix.Sends (record {
       channel = getD (chain (now (cells .entry)) (t .names) (t .env)) (act .channel) 65535;
       object = getD (chain (now (cells .entry)) (t .names) (t .env)) (act .object) 65535;
@@ -53,7 +53,7 @@ fn sends(act: Act, next: usize, t: Thread, cells: &[usize]) -> Prefix
 }
 
 // The prefix of a thread, with run names for its own.
-pub fn prefix_of(forms: &[usize], t: Thread, cells: &[usize]) -> Prefix
+pub fn prefix_of(forms: &[usize], t: Thread, cells: &[u32]) -> Prefix
     ensures { λ r. ⌜ PrefixFound (now (forms .entry)) (now (cells .entry)) t r ⌝ }
 {
     if t.nest == 0 {

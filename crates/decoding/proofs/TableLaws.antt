@@ -1,4 +1,4 @@
--- What a table holds at a place, one level down; and the places of parts, which have few digits.
+-- What a table holds at a place, one level down; and the places of parts and the types of new names, which have few digits.
 use Prim.Native.Nat.{ℕ, zero, suc, _-_, _/_, _<_}
 use mathlib.Core.List.{List}
 use mathlib.Core.Path.{_≡_, refl}
@@ -7,6 +7,8 @@ use native.Mathlib.Numerals.{sub-one}
 use native.Mathlib.Omega.{arith}
 use lib.Dec.{lit<}
 use lib.ListN.{getD}
+use Rattle.reading.specs.declared.Form.the-variants.{New}
+use Rattle.decoding.proofs.WordLaws.{FormFits, unpacked-fits}
 use Rattle.decoding.specs.Words.{unpacked, itemAt}
 use Rattle.decoding.specs.Tables.{processOf, processIn, systemOf, systemIn}
 
@@ -41,3 +43,7 @@ module _ (forms : List ℕ) (at : ℕ) where
   pub second-near : itemAt forms at .second < 8192
   unfolding itemAt unpacked
   second-near = mod-lt (getD forms at 0 / 8 / 8192 / 256) (lit< tt)
+
+  pub new-small : {u : ℕ} → itemAt forms at .form ≡ New u → u < 536870912
+  unfolding itemAt FormFits
+  new-small h = rw h at (unpacked-fits (getD forms at 0))

@@ -1,9 +1,10 @@
 -- A form whose fields fit their digits is the form that its number stands for.
 use Prim.Native.Nat.{ℕ, _+_, _*_, _/_, _%_, _<_}
+use mathlib.Core.Bool.{Bool, true, false, cond}
 use mathlib.Core.Path.{_≡_, refl, ap}
-use native.Mathlib.Nat.{mod-eq-of-lt}
+use native.Mathlib.Nat.{mod-eq-of-lt, mod-lt}
 use native.Mathlib.Omega.{arith}
-use lib.Dec.{lit<}
+use lib.Dec.{eqb, lit<}
 use Rattle.memory.proofs.ThreadLaws.{digit-last, digits-before}
 use Rattle.reading.specs.Syntax.{Process, par, System, parₛ}
 use Rattle.reading.specs.declared.Form.{Form}
@@ -21,6 +22,20 @@ FormFits (Component own) = (own .purpose < 256) × (own .group < 536870912)
 FormFits (Input a) = (a .channel < 256) × (a .object < 536870912)
 FormFits (Output a) = (a .channel < 256) × (a .object < 536870912)
 FormFits Replicate = Unit {0}
+
+-- The form that any number stands for fits.
+fits-either : (t : Bool) (f g : Form) → FormFits f → FormFits g → FormFits (cond t f g)
+fits-either true f g h k = h
+fits-either false f g h k = k
+
+pub unpacked-fits : (w : ℕ) → FormFits (unpacked w .form)
+unfolding FormFits unpacked formOf
+unpacked-fits w =
+    let code = w % 8 in
+    let x = mod-lt (w / 8 / 8192) (lit< tt) in
+    let o = mod-lt (w / 8 / 8192 / 256) (lit< tt) in
+    fits-either (eqb code 1) _ _ tt (fits-either (eqb code 2) _ _ o (fits-either (eqb code 3) _ _ o (fits-either (eqb code 4) _ _ (x, o)
+    (fits-either (eqb code 5) _ _ (x, o) (fits-either (eqb code 6) _ _ (x, o) (fits-either (eqb code 7) _ _ tt tt))))))
 
 module _ (code channel object next : ℕ) (c : code < 8) (x : channel < 256) (o : object < 536870912) (n : next < 8192) where
   abbrev word : ℕ
@@ -48,13 +63,16 @@ module _ (code channel object next : ℕ) (c : code < 8) (x : channel < 256) (o 
     digit-last object channel 256 x,
   )
 
-  object-back : digits code channel object next / 8 / 8192 / 256 ≡ object
-  object-back = rw (
+  field-back : digits code channel object next / 8 / 8192 / 256 ≡ object
+  field-back = rw (
     bare,
     digits-before ((object * 256 + channel) * 8192 + next) code 8 c,
     digits-before (object * 256 + channel) next 8192 n,
     digits-before object channel 256 x,
   )
+
+  object-back : digits code channel object next / 8 / 8192 / 256 % 536870912 ≡ object
+  object-back = rw (field-back, mod-eq-of-lt o)
 
 module _ (next second : ℕ) (n : next < 8192) (m : second < 8192) where
   form-back : (f : Form) → FormFits f → unpacked (packedForm f next second) .form ≡ f
@@ -93,7 +111,7 @@ module _ (next second : ℕ) (n : next < 8192) (m : second < 8192) where
 
   second-back : unpacked (packedForm Par next second) .second ≡ second
   unfolding packedForm unpacked
-  second-back = rw (object-back 1 0 second next (lit< tt) (lit< tt) (omega arith) n, mod-eq-of-lt m)
+  second-back = rw (field-back 1 0 second next (lit< tt) (lit< tt) (omega arith) n, mod-eq-of-lt m)
 
   -- So a number gives back the process, or the system, that its form begins.
   process-second : (part : ℕ → Process) (f : Form) → processOf part f next (unpacked (packedForm f next second) .second) ≡ processOf part f next second

@@ -82,7 +82,7 @@ module _ (code channel object : ℕ) where
   unfolding formOf
   code-nil a b c d e f g = rw (ne-eqb code 1 a, ne-eqb code 2 b, ne-eqb code 3 c, ne-eqb code 4 d, ne-eqb code 5 e, ne-eqb code 6 f, ne-eqb code 7 g)
 
-pub unpack-digits : (w : ℕ) (f : Form) → f ≡ formOf (w % 8) (w / 8 / 8192 % 256) (w / 8 / 8192 / 256)
+pub unpack-digits : (w : ℕ) (f : Form) → f ≡ formOf (w % 8) (w / 8 / 8192 % 256) (w / 8 / 8192 / 256 % 536870912)
     → record { form = f; next = w / 8 % 8192; second = w / 8 / 8192 / 256 % 8192 } ≡ unpacked w
 unfolding unpacked
 unpack-digits w f e = rw e

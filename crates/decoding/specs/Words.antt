@@ -38,7 +38,7 @@ formOf code channel object =
 
 unfoldable pub unpacked : ℕ → Item
 unpacked w = record {
-  form = formOf (w % 8) (w / 8 / 8192 % 256) (w / 8 / 8192 / 256);
+  form = formOf (w % 8) (w / 8 / 8192 % 256) (w / 8 / 8192 / 256 % 536870912);
   next = w / 8 % 8192;
   second = w / 8 / 8192 / 256 % 8192;
 }

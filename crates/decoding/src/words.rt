@@ -60,7 +60,7 @@ fn unpack(w: usize) -> Item
     let fields = placed / 8192;
     let object = fields / 256;
     Item {
-        form: form_of(w % 8, fields % 256, object),
+        form: form_of(w % 8, fields % 256, object % 536870912),
         next: placed % 8192,
         second: object % 8192,
     }

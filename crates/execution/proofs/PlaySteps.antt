@@ -1,5 +1,5 @@
 -- What each return of the service has to show, over plain values: questions 1 to 18, 20, 21 and 22 in order, and the run.
-use Prim.Native.Nat.{ℕ, zero, suc, _*_, _/_, _<_, _≤_}
+use Prim.Native.Nat.{ℕ, zero, suc, _+_, _*_, _/_, _<_, _≤_}
 use mathlib.Core.Bool.{Bool, true, false, _&&_}
 use mathlib.Core.List.{List}
 use mathlib.Core.Path.{_≡_, refl, sym, ap, _∙_}
@@ -8,14 +8,9 @@ use borrow.Author.Needs.{needs}
 use borrow.Author.Tests.{le-leb, lt-leb}
 use lib.Dec.{leb}
 use lib.ListN.{length, getD, replicate, length-replicate}
-use Rattle.reading.specs.Read.{got, refused}
+use Rattle.reading.specs.Read.{got}
 use Rattle.reading.specs.Syntax.{Sheet}
 use Rattle.reading.specs.System.{readSheet}
-use Rattle.reading.specs.Told.{number, refusalOf}
-use Rattle.reading.specs.declared.Number.{Number}
-use Rattle.reading.specs.declared.NumberRead.{NumberRead}
-use Rattle.reading.specs.declared.NumberRead.the-variants as number-read
-use Rattle.reading.specs.declared.Refusal.{Refusal}
 use Rattle.reading.proofs.TreeLaws.{sheet-parts}
 use Rattle.service.specs.Questions.{passed, failed, ask, afterReading, judged}
 use Rattle.service.specs.Told.{firstFailed}
@@ -28,14 +23,14 @@ use Rattle.running.specs.Products.{start}
 use Rattle.running.specs.Moves.{Move, hasRoom, runLog}
 use Rattle.running.specs.Script.{readScript}
 use Rattle.running.specs.Play.{openedFrom, opened, logged, outcomeOf, played}
-use Rattle.script.specs.Told.{countedMoves}
-use Rattle.script.proofs.ScriptLaws.{script-moves, script-few}
+use Rattle.script.specs.Told.{movesIn}
+use Rattle.script.proofs.ScriptLaws.{script-moves}
 use Rattle.script.proofs.CountSteps.{Counted, script-counted, script-refused}
 use Rattle.products.specs.Held.{Holds}
 use Rattle.products.specs.Starts.{Blank, Starts}
 use Rattle.products.specs.declared.Sizes.{Sizes}
 use Rattle.execution.specs.Told.{Played}
-use Rattle.execution.specs.Begins.{Reads, begun, startOf, listed, movesOf, ranOver, scripted, playedScript, playedFrom, Comes, Standing, Lent}
+use Rattle.execution.specs.Begins.{Reads, begun, startOf, listed, movesOf, ranOver, scripted, playedScript, playedFrom, Comes, Standing, Enough, Lent}
 use Rattle.execution.specs.Runs.{Going, Ongoing}
 use Rattle.execution.specs.declared.Point.{Point}
 
@@ -44,22 +39,17 @@ moves-are : (script : List ℕ) {ms : List Move} {e : ℕ} → readScript script
 unfolding movesOf listed
 moves-are script h = rw h
 
-module _ (script log : List ℕ) where
-  module _ (begin : State) where
-    refused-so : (r : NumberRead) (q w : Refusal) → r ≡ number-read.Refused q → w ≡ refusalOf r → number r ≡ countedMoves (readScript script)
-        → Comes (playedScript begin script log) log (answer-case.Refused (w .question))
-    unfolding playedScript scripted logged outcomeOf afterReading
-    refused-so r q w e o h =
-        let f : readScript script ≡ refused (q .question) (q .at) = script-refused script (ap number (sym e) ∙ h) in
-        let k : w .question ≡ q .question = ap (λ (x : Refusal). x .question) (o ∙ ap refusalOf e) in
-        record { answer = rw (f, k); lent = rw f }
+module _ (script log : List ℕ) (n : ℕ) (h : n ≡ movesIn (readScript script)) where
+  refused-so : (begin : State) → n ≡ 65535 → Comes (playedScript begin script log) log (answer-case.Refused 21)
+  unfolding playedScript scripted logged outcomeOf afterReading
+  refused-so begin k = let f = script-refused script h k .1 in record { answer = rw f; lent = rw f }
 
-  module _ (r : NumberRead) (n : Number) (e : r ≡ number-read.Found n) (h : number r ≡ countedMoves (readScript script)) where
-    counted : Counted script (n .value) (n .next)
-    counted = script-counted script (ap number (sym e) ∙ h)
+  module _ (read : n ≡ 65535 → ⊥) where
+    counted : Counted script n
+    counted = script-counted script h read
 
     -- Question 22.
-    short-so : (begin : State) → length log / 8 < n .value → Comes (playedScript begin script log) log (answer-case.Refused 22)
+    short-so : (begin : State) → length log / 8 < n → Comes (playedScript begin script log) log (answer-case.Refused 22)
     unfolding playedScript scripted logged outcomeOf afterReading ask
     short-so begin k =
         let c = counted in
@@ -67,8 +57,8 @@ module _ (script log : List ℕ) where
         record { answer = rw (c .is, t); lent = rw (c .is, t) }
 
     -- The run.
-    written-so : (begin : State) (log′ : List ℕ) → n .value ≤ length log / 8 → log′ ≡ ranOver (runLog begin (movesOf script)) log
-        → Comes (playedScript begin script log) log′ (answer-case.Accepted (n .value))
+    written-so : (begin : State) (log′ : List ℕ) → n ≤ length log / 8 → log′ ≡ ranOver (runLog begin (movesOf script)) log
+        → Comes (playedScript begin script log) log′ (answer-case.Accepted n)
     unfolding playedScript scripted logged outcomeOf afterReading ask ranOver
     written-so begin log′ k w =
         let c = counted in
@@ -76,50 +66,54 @@ module _ (script log : List ℕ) where
         record { answer = rw (c .is, t) (ap passed (sym (c .count))); lent = rw (c .is, t) (rw (moves-are script (c .is)) at w) }
 
 -- The same for every state that memory holds.
-module _ (forms script log threads types : List ℕ) (known : List Bool) (cells : List ℕ) (z : Sizes) (r : NumberRead) where
+module _ (forms script log threads types : List ℕ) (known : List Bool) (cells : List ℕ) (z : Sizes) (n : ℕ) (h : n ≡ movesIn (readScript script)) where
   abbrev Played-so : List ℕ → Answer → Type 0
   Played-so log′ a = (state : State) → Holds forms z 1 threads types known cells state → Comes (playedScript state script log) log′ a
 
   abbrev first-point : Point
   first-point = record { at = 0; done = 0; sizes = z }
 
-  pub script-fails : (q w : Refusal) → r ≡ number-read.Refused q → w ≡ refusalOf r → number r ≡ countedMoves (readScript script)
-      → Played-so log (answer-case.Refused (w .question))
-  script-fails q w e o h state holds = refused-so script log state r q w e o h
+  pub script-fails : n ≡ 65535 → Played-so log (answer-case.Refused 21)
+  script-fails k state holds = refused-so script log n h state k
 
-  module _ (n : Number) (e : r ≡ number-read.Found n) (h : number r ≡ countedMoves (readScript script)) where
-    pub log-short : length log / 8 < n .value → Played-so log (answer-case.Refused 22)
-    log-short k state holds = short-so script log r n e h state k
+  module _ (read : n ≡ 65535 → ⊥) where
+    pub log-short : length log / 8 < n → Played-so log (answer-case.Refused 22)
+    log-short k state holds = short-so script log n h read state k
 
-    module _ (k : n .value ≤ length log / 8) where
+    module _ (k : n ≤ length log / 8) where
       begins-so : (state : State) → Holds forms z 1 threads types known cells state
-          → Going forms script (runLog state (movesOf script)) (n .value) first-point log threads types known cells
+          → Going forms script (runLog state (movesOf script)) n first-point log threads types known cells
       begins-so state holds =
-          let c = counted script log r n e h in
+          let c = counted script log n h read in
           let same = moves-are script (c .is) in
-          let read = script-moves script (c .is) in
+          let told = script-moves script (c .is) in
           record {
             state = state;
             rest = movesOf script;
-            end = n .next;
+            end = c .end;
             holds = holds;
-            reads = rw same read;
+            reads = rw same told;
             whole = refl;
             all = omega (arith, ap length same, c .count);
-            most = omega (arith, c .count, script-few script read);
             room = omega arith;
           }
 
-      pub run-begins : Standing forms z threads types known cells → Ongoing forms script (n .value) first-point log threads types known cells
+      pub run-begins : Standing forms z threads types known cells → Ongoing forms script n first-point log threads types known cells
       run-begins held = record { run = runLog (held .state) (movesOf script); going = begins-so (held .state) (held .holds) }
 
       pub log-written : (log′ : List ℕ)
-          → ((run : List ℕ) → Going forms script run (n .value) first-point log threads types known cells → log′ ≡ ranOver run log)
-          → Played-so log′ (answer-case.Accepted (n .value))
+          → ((run : List ℕ) → Going forms script run n first-point log threads types known cells → log′ ≡ ranOver run log)
+          → Played-so log′ (answer-case.Accepted n)
       log-written log′ w state holds =
-          written-so script log r n e h state log′ k (w (runLog state (movesOf script)) (begins-so state holds))
+          written-so script log n h read state log′ k (w (runLog state (movesOf script)) (begins-so state holds))
 
-pub ruleset script-steps = (needs, script-fails, log-short, log-written, run-begins)
+-- The moves counted have their cells.
+pub counted-enough : (n : ℕ) (script cells : List ℕ) → ((n ≡ 65535 → ⊥) → (n ≤ 1024) × (n ≤ length script)) → (n ≡ 65535 → ⊥)
+    → Enough script cells → n + 1029 ≤ length cells
+unfolding Enough
+counted-enough n script cells few read enough = let k = few read in omega (arith, k .0, k .1)
+
+pub ruleset script-steps = (needs, script-fails, log-short, log-written, run-begins, counted-enough)
 
 -- Question 20.
 module _ (s script log : List ℕ) (reads : Reads s) (forms threads types : List ℕ) (known : List Bool) (cells : List ℕ) (z : Sizes)
@@ -175,11 +169,15 @@ tables-from s forms threads made types known cells threads′ made′ types′ k
   thread-room = th ∙ b .thread-room;
   made-room = ma ∙ m;
   type-room = ty ∙ b .type-room;
-  cell-room = ce ∙ b .cell-room;
+  cell-room = omega (arith, ce, b .cell-few);
   known-room = k ∙ b .known-room;
 }
 
-pub ruleset start-steps = (needs, crowded, overnamed, start-stands, plays-on, tables-from)
+pub still-enough : (script cells cells′ : List ℕ) → Enough script cells → length cells′ ≡ length cells → Enough script cells′
+unfolding Enough
+still-enough script cells cells′ h same = omega arith
+
+pub ruleset start-steps = (needs, crowded, overnamed, start-stands, plays-on, tables-from, still-enough)
 
 -- New tables.
 all-false : (n i : ℕ) → getD (replicate n false) i false ≡ false
@@ -187,16 +185,25 @@ all-false zero i = refl
 all-false (suc n) zero = refl
 all-false (suc n) (suc i) = all-false n i
 
-pub new-tables : (s forms : List ℕ) → length s ≤ length forms
-    → Blank s forms (replicate 128 0) (replicate 1024 0) (replicate 1024 false) (replicate 2304 0)
-new-tables s forms h = record {
+pub new-tables : (s forms : List ℕ) (n : ℕ) → length s ≤ length forms → 1029 ≤ n → n ≤ 2304
+    → Blank s forms (replicate 128 0) (replicate 1024 0) (replicate 1024 false) (replicate n 0)
+new-tables s forms n h least most = record {
   form-room = h;
   thread-room = length-replicate {A = ℕ} 128 0;
   type-room = length-replicate {A = ℕ} 1024 0;
   known-room = length-replicate {A = Bool} 1024 false;
-  cell-room = length-replicate {A = ℕ} 2304 0;
+  cell-room = omega (arith, length-replicate {A = ℕ} n 0);
+  cell-few = omega (arith, length-replicate {A = ℕ} n 0);
   unknown = all-false 1024;
 }
+
+pub few-enough : (script : List ℕ) → length script ≤ 240 → Enough script (replicate 1280 0)
+unfolding Enough
+few-enough script h = omega (arith, length-replicate {A = ℕ} 1280 0)
+
+pub all-enough : (script : List ℕ) → Enough script (replicate 2304 0)
+unfolding Enough
+all-enough script = omega (arith, length-replicate {A = ℕ} 2304 0)
 
 -- Questions 1 to 18.
 module _ (s c : List ℕ) (n : ℕ) (first : n ≡ firstFailed (judged s c)) where

@@ -1,5 +1,5 @@
 -- A run before its first move: its start, its script, the tables lent to it, and the outcome from the questions left on.
-use Prim.Native.Nat.{ℕ, _≤_}
+use Prim.Native.Nat.{ℕ, _+_, _≤_, min}
 use mathlib.Core.Path.{_≡_}
 use mathlib.Core.List.{List, [], _++_}
 use mathlib.Core.Bool.{Bool}
@@ -66,10 +66,14 @@ pub record Standing (forms : List ℕ) (z : Sizes) (threads types : List ℕ) (k
   pub state : State
   pub holds : Holds forms z 1 threads types known cells state
 
+-- There are cells for a run under a script: no script has more than 1,024 moves, and none more than bytes.
+unfoldable pub Enough : List ℕ → List ℕ → Type 0
+Enough script cells = min 1024 (length script) + 1029 ≤ length cells
+
 -- The tables of a run have their lengths.
 pub record Lent (threads made types : List ℕ) (known : List Bool) (cells : List ℕ) : Type 0 where
   pub thread-room : length threads ≡ 128
   pub made-room : length made ≡ 128
   pub type-room : length types ≡ 1024
-  pub cell-room : length cells ≡ 2304
+  pub cell-room : length cells ≤ 2304
   pub known-room : length known ≡ 1024

@@ -22,7 +22,6 @@ pub record Going (forms script run : List ℕ) (count : ℕ) (p : Point) (log th
   pub reads : movesFrom (1024 - p .done) script (p .at) ≡ got rest end
   pub whole : take (p .done * 8) log ++ runLog state rest ≡ run
   pub all : p .done + length rest ≡ count
-  pub most : count ≤ 1024
   pub room : count * 8 ≤ length log
 
 -- Some run goes on so.

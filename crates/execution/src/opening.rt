@@ -5,13 +5,11 @@ ghost use lib.ListN.{length};
 ghost use Rattle.running.specs.State.{State};
 ghost use Rattle.products.specs.Held.{Holds};
 ghost use Rattle.products.specs.Starts.{Blank};
-ghost use Rattle.execution.specs.Begins.{Reads, startOf, playedScript, playedFrom, Comes, Standing, Lent};
+ghost use Rattle.execution.specs.Begins.{Reads, startOf, playedScript, playedFrom, Comes, Standing, Enough, Lent};
 use crate::Point;
 use crate::runs::run;
 use products::Sizes;
 use products::start::start;
-use reading::NumberRead;
-use reading::bytes::refusal;
 use script::moves::count_moves;
 use service::Answer;
 
@@ -23,21 +21,20 @@ fn play_script(
     log: &mut [u8],
     threads: &mut [usize],
     made: &mut [usize],
-    types: &mut [usize],
+    types: &mut [u32],
     known: &mut [bool],
-    cells: &mut [usize],
+    cells: &mut [u32],
 ) -> Answer
     requires { ⌜ Standing (now forms) sizes (now threads) (now types) (now known) (now cells)
-        × Lent (now threads) (now made) (now types) (now known) (now cells) ⌝ }
+        × Lent (now threads) (now made) (now types) (now known) (now cells) × Enough (now script) (now cells) ⌝ }
     ensures { λ r. ⌜ ((state : State)
         → Holds (now (forms .entry)) sizes 1 (now (threads .entry)) (now (types .entry)) (now (known .entry)) (now (cells .entry)) state
         → Comes (playedScript state (now (script .entry)) (now (log .entry))) (now (log .exit)) r) ⌝ }
 {
-    let counted = count_moves(script);
-    let NumberRead::Found(moves) = counted else {
-        return Answer::Refused(refusal(counted).question);
-    };
-    let count = moves.value;
+    let count = count_moves(script);
+    if count == 65535 {
+        return Answer::Refused(21);
+    }
     if log.len() / 8 < count {
         return Answer::Refused(22);
     }
@@ -69,11 +66,12 @@ fn play_with(
     forms: &mut [usize],
     threads: &mut [usize],
     made: &mut [usize],
-    types: &mut [usize],
+    types: &mut [u32],
     known: &mut [bool],
-    cells: &mut [usize],
+    cells: &mut [u32],
 ) -> Answer
-    requires { ⌜ Reads (now s) × Blank (now s) (now forms) (now threads) (now types) (now known) (now cells) × (length (now made) ≡ 128) ⌝ }
+    requires { ⌜ Reads (now s) × Blank (now s) (now forms) (now threads) (now types) (now known) (now cells) × (length (now made) ≡ 128)
+        × Enough (now script) (now cells) ⌝ }
     ensures { λ r. ⌜ Comes (playedFrom (startOf (now (s .entry))) (now (script .entry)) (now (log .entry))) (now (log .exit)) r ⌝ }
 {
     let sizes = start(s, forms, threads, types, known, cells);
@@ -97,15 +95,30 @@ fn play_with(
 }
 
 // Questions 20 to 22, and the run, over a table of forms with a place for each byte of the sheet; the other tables are new.
+// A script of at most 240 bytes has few moves, and so a smaller table of cells to clear.
 fn play_over(s: &[u8], script: &[u8], log: &mut [u8], forms: &mut [usize]) -> Answer
     requires { ⌜ Reads (now s) × (length (now s) ≤ length (now forms)) ⌝ }
     ensures { λ r. ⌜ Comes (playedFrom (startOf (now (s .entry))) (now (script .entry)) (now (log .entry))) (now (log .exit)) r ⌝ }
 {
     let mut threads = [0usize; 128];
     let mut made = [0usize; 128];
-    let mut types = [0usize; 1024];
+    let mut types = [0u32; 1024];
     let mut known = [false; 1024];
-    let mut cells = [0usize; 2304];
+    if script.len() <= 240 {
+        let mut few = [0u32; 1280];
+        return play_with(
+            s,
+            script,
+            log,
+            forms,
+            &mut threads,
+            &mut made,
+            &mut types,
+            &mut known,
+            &mut few,
+        );
+    }
+    let mut cells = [0u32; 2304];
     play_with(
         s,
         script,
@@ -119,14 +132,18 @@ fn play_over(s: &[u8], script: &[u8], log: &mut [u8], forms: &mut [usize]) -> An
     )
 }
 
-// Questions 20 to 22, and the run. A sheet of at most 256 bytes has a small table of forms to clear.
+// Questions 20 to 22, and the run. A sheet of at most 64 bytes has a small table of forms to clear, one of at most 256 a larger one.
 pub fn play_accepted(s: &[u8], script: &[u8], log: &mut [u8]) -> Answer
     requires { ⌜ Reads (now s) ⌝ }
     ensures { λ r. ⌜ Comes (playedFrom (startOf (now (s .entry))) (now (script .entry)) (now (log .entry))) (now (log .exit)) r ⌝ }
 {
-    if s.len() <= 256 {
-        let mut few = [0usize; 256];
+    if s.len() <= 64 {
+        let mut few = [0usize; 64];
         return play_over(s, script, log, &mut few);
+    }
+    if s.len() <= 256 {
+        let mut some = [0usize; 256];
+        return play_over(s, script, log, &mut some);
     }
     let mut forms = [0usize; 4096];
     play_over(s, script, log, &mut forms)

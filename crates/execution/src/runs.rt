@@ -1,7 +1,8 @@
 // A run under a script: a move a turn, and its record of eight bytes.
 ghost use mathlib.Core.Path.{_≡_};
 ghost use mathlib.Core.List.{List};
-ghost use Prim.Native.Nat.{ℕ, _<_};
+ghost use Prim.Native.Nat.{ℕ, _+_, _<_, _≤_};
+ghost use lib.ListN.{length};
 ghost use Rattle.execution.specs.Begins.{ranOver, Lent};
 ghost use Rattle.execution.specs.Runs.{Going, Ongoing, Turned};
 use crate::Point;
@@ -19,12 +20,12 @@ fn turn(
     log: &mut [u8],
     threads: &mut [usize],
     made: &mut [usize],
-    types: &mut [usize],
+    types: &mut [u32],
     known: &mut [bool],
-    cells: &mut [usize],
+    cells: &mut [u32],
 ) -> Point
     requires { ⌜ Ongoing (now forms) (now script) count p (now log) (now threads) (now types) (now known) (now cells)
-        × Lent (now threads) (now made) (now types) (now known) (now cells) × (p .done < count) ⌝ }
+        × Lent (now threads) (now made) (now types) (now known) (now cells) × (p .done < count) × (count + 1029 ≤ length (now cells)) ⌝ }
     ensures { λ r. ⌜ ((run : List ℕ)
         → Going (now (forms .entry)) (now (script .entry)) run count p (now (log .entry))
         (now (threads .entry)) (now (types .entry)) (now (known .entry)) (now (cells .entry))
@@ -58,12 +59,12 @@ pub fn run(
     log: &mut [u8],
     threads: &mut [usize],
     made: &mut [usize],
-    types: &mut [usize],
+    types: &mut [u32],
     known: &mut [bool],
-    cells: &mut [usize],
+    cells: &mut [u32],
 )
     requires { ⌜ Ongoing (now forms) (now script) count begin (now log) (now threads) (now types) (now known) (now cells)
-        × Lent (now threads) (now made) (now types) (now known) (now cells) ⌝ }
+        × Lent (now threads) (now made) (now types) (now known) (now cells) × (count + 1029 ≤ length (now cells)) ⌝ }
     ensures { λ _. ⌜ ((run : List ℕ)
         → Going (now (forms .entry)) (now (script .entry)) run count begin (now (log .entry))
         (now (threads .entry)) (now (types .entry)) (now (known .entry)) (now (cells .entry))

@@ -62,7 +62,7 @@ fn say(
 fn explain_missing(
     names: &[u8],
     charter: &[u8],
-    nodes: &[usize],
+    nodes: &[u16],
     trees: Trees,
     table: &[u16],
     components: usize,
@@ -99,7 +99,7 @@ fn explain_missing(
 fn explain_judged(
     names: &[u8],
     charter: &[u8],
-    nodes: &[usize],
+    nodes: &[u16],
     table: &[u16],
     judged: Judged,
     line: &mut [u8],
@@ -132,7 +132,7 @@ fn examine_read(
     charter: &[u8],
     names: &[u8],
     table: &mut [u16],
-    nodes: &mut [usize],
+    nodes: &mut [u16],
     output: &mut [u8],
     line: &mut [u8],
 ) -> Examined
@@ -167,7 +167,7 @@ pub fn examine(
             explained: Answer::Refused(question),
         };
     };
-    let mut nodes = [0usize; 384];
+    let mut nodes = [0u16; 384];
     if components.value <= 4 {
         let mut few = [0u16; 844];
         return examine_read(sheet, charter, names, &mut few, &mut nodes, output, line);
@@ -182,7 +182,7 @@ fn explain_read(
     charter: &[u8],
     names: &[u8],
     table: &mut [u16],
-    nodes: &mut [usize],
+    nodes: &mut [u16],
     line: &mut [u8],
 ) -> Answer
     requires { ⌜ Ready (now sheet) (now charter) (now table) × (length (now nodes) ≡ 384) ⌝ }
@@ -201,7 +201,7 @@ pub fn explain(sheet: &[u8], charter: &[u8], names: &[u8], line: &mut [u8]) -> A
     let NumberRead::Found(components) = read else {
         return Answer::Refused(refusal(read).question);
     };
-    let mut nodes = [0usize; 384];
+    let mut nodes = [0u16; 384];
     if components.value <= 4 {
         let mut few = [0u16; 844];
         return explain_read(sheet, charter, names, &mut few, &mut nodes, line);

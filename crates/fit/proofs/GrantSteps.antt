@@ -47,13 +47,13 @@ module _ (kind n : ℕ) (l : List ℕ) (i : ℕ) (s : TreeSoFar kind n l i) wher
   unfolding indexOf
   tree-ends h = omega (arith, rw (none-left l n i h) at (s .same))
 
-  pub tree-here : n ≤ 16 → length l ≡ 16 → i < n → getD l i 0 ≡ kind → i ≡ indexOf kind (take n l)
+  pub tree-here : (x : ℕ) → n ≤ 16 → length l ≡ 16 → i < n → x ≡ getD l i 0 → x ≡ kind → i ≡ indexOf kind (take n l)
   unfolding indexOf
-  tree-here j k h q = omega (arith, rw (one-left l n i 0 h (omega arith), eq-eqb (getD l i 0) kind q) at (s .same))
+  tree-here x j k h e q = omega (arith, rw (one-left l n i 0 h (omega arith), ← e, eq-eqb x kind q) at (s .same))
 
-  pub tree-next : n ≤ 16 → length l ≡ 16 → i < n → (getD l i 0 ≡ kind → ⊥) → TreeSoFar kind n l (i + 1)
+  pub tree-next : (x : ℕ) → n ≤ 16 → length l ≡ 16 → i < n → x ≡ getD l i 0 → (x ≡ kind → ⊥) → TreeSoFar kind n l (i + 1)
   unfolding indexOf
-  tree-next j k h q = record { same = omega (arith, rw (one-left l n i 0 h (omega arith), ne-eqb (getD l i 0) kind q) at (s .same)) }
+  tree-next x j k h e q = record { same = omega (arith, rw (one-left l n i 0 h (omega arith), ← e, ne-eqb x kind q) at (s .same)) }
 
 pub ruleset tree-steps = (node-steps, tree-starts, tree-ends, tree-here, tree-next)
 

@@ -50,7 +50,7 @@ use policy::nodes::span_of;
 use sharing::needed_at;
 
 // What is granted of a flag that an entry may need.
-fn flag_of(needed: usize, nodes: &[usize], givers: Givers, value: usize) -> Flag
+fn flag_of(needed: usize, nodes: &[u16], givers: Givers, value: usize) -> Flag
     requires { ⌜ 0 < value ⌝ }
     ensures { λ r. ⌜ ((c : List ℕ) (p : Permission) → flagVerdicts p r ≡ flagAt p value c (now (nodes .entry)) (givenRows givers) needed) ⌝ }
 {
@@ -64,7 +64,7 @@ fn flag_of(needed: usize, nodes: &[usize], givers: Givers, value: usize) -> Flag
 }
 
 // What is granted of the flags of the entry of a component and a kind.
-fn flags_of(table: &[u16], component: usize, kind: usize, nodes: &[usize], givers: Givers) -> Flags
+fn flags_of(table: &[u16], component: usize, kind: usize, nodes: &[u16], givers: Givers) -> Flags
     requires { ⌜ (component < 32) × (kind < 16) ⌝ }
     ensures { λ r. ⌜ ((c : List ℕ) (rest : List Verdict) → flagsThen r rest
         ≡ flagsAt c (now (nodes .entry)) (givenRows givers) (now (table .entry)) component kind rest) ⌝ }
@@ -80,7 +80,7 @@ fn flags_of(table: &[u16], component: usize, kind: usize, nodes: &[usize], giver
 }
 
 // The sums for a group; no matter which, where the component's own count is 0.
-fn sum_of(own: usize, needed: usize, c: &[u8], nodes: &[usize], givers: Givers, group: usize) -> Sum
+fn sum_of(own: usize, needed: usize, c: &[u8], nodes: &[u16], givers: Givers, group: usize) -> Sum
     ensures { λ r. ⌜ ((own ≡ 0 → ⊥) → sumVerdict r ≡ counts group (sumCount needed) (joinedAt group (now (c .entry)) (now (nodes .entry)) (givenRows givers))) ⌝ }
 {
     if own == 0 {
@@ -104,7 +104,7 @@ fn sums_of(
     sums: &[u32],
     component: usize,
     kind: usize,
-    nodes: &[usize],
+    nodes: &[u16],
     givers: Givers,
 ) -> Sums
     requires { ⌜ (component < 32) × (kind < 16) ⌝ }
@@ -155,7 +155,7 @@ fn nothing() -> Covering {
 // for its purpose grant.
 pub fn cover(
     c: &[u8],
-    nodes: &[usize],
+    nodes: &[u16],
     tree: Span,
     table: &[u16],
     sums: &[u32],
@@ -197,7 +197,7 @@ fn rows_of(trees: Trees, kind: usize) -> Span
 // What the entry of a component and a kind comes to in the policy. (`verdicts-for` of proofs/EntryLaws.antt: it is the covering.)
 pub fn entry_covering(
     c: &[u8],
-    nodes: &[usize],
+    nodes: &[u16],
     trees: Trees,
     table: &[u16],
     sums: &[u32],

@@ -36,7 +36,7 @@ use sharing::sum_classes;
 // The first of questions 17 and 18 that the entry of a component and a kind fails in the kind's tree, or 19.
 fn tree_fault(
     c: &[u8],
-    nodes: &[usize],
+    nodes: &[u16],
     tree: Span,
     table: &[u16],
     sums: &[u32],
@@ -73,7 +73,7 @@ pub fn has_entry(table: &[u16], component: usize, kind: usize) -> bool
 // The first of questions 16 to 18 that the entry of a component and a kind fails, or 19.
 fn entry_fault(
     c: &[u8],
-    nodes: &[usize],
+    nodes: &[u16],
     trees: Trees,
     table: &[u16],
     sums: &[u32],
@@ -104,7 +104,7 @@ fn least(a: usize, b: usize) -> usize
 // The first that an entry of a component fails, or 19.
 fn row_fault(
     c: &[u8],
-    nodes: &[usize],
+    nodes: &[u16],
     trees: Trees,
     table: &[u16],
     sums: &[u32],
@@ -130,7 +130,7 @@ fn row_fault(
 // The first that an entry of any component fails, or 19, with the sums of their classes.
 fn rows_fault(
     c: &[u8],
-    nodes: &[usize],
+    nodes: &[u16],
     trees: Trees,
     table: &[u16],
     sums: &[u32],
@@ -152,7 +152,7 @@ fn rows_fault(
 }
 
 // The same with the sums made first, in clear memory.
-fn shared_fault(c: &[u8], nodes: &[usize], trees: Trees, table: &[u16], components: usize) -> usize
+fn shared_fault(c: &[u8], nodes: &[u16], trees: Trees, table: &[u16], components: usize) -> usize
     requires { ⌜ (components ≤ 32) × Bounded trees × (length (now nodes) ≡ 384) ⌝ }
     ensures { λ r. ⌜ ((policy : List Tree) → AllHeld (now (c .entry)) (now (nodes .entry)) trees 0 policy
         → ((n : ℕ) → n < components → Orderly (now (table .entry)) n)
@@ -169,7 +169,7 @@ fn shared_fault(c: &[u8], nodes: &[usize], trees: Trees, table: &[u16], componen
 }
 
 // The first of questions 16 to 18 that any entry fails, or 19. Where no components share a count, no sums are made.
-pub fn fit(c: &[u8], nodes: &[usize], trees: Trees, table: &[u16], components: usize) -> usize
+pub fn fit(c: &[u8], nodes: &[u16], trees: Trees, table: &[u16], components: usize) -> usize
     requires { ⌜ (components ≤ 32) × Bounded trees × (length (now nodes) ≡ 384) ⌝ }
     ensures { λ r. ⌜ ((policy : List Tree) → AllHeld (now (c .entry)) (now (nodes .entry)) trees 0 policy
         → ((n : ℕ) → n < components → Orderly (now (table .entry)) n)

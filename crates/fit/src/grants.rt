@@ -19,6 +19,7 @@ use policy::Trees;
 use policy::nodes::bit_at;
 use policy::nodes::has_bit;
 use policy::nodes::node_at;
+use policy::nodes::wide_byte;
 use policy::nodes::word_in;
 use reading::Path;
 use reading::bytes::byte_in;
@@ -32,7 +33,7 @@ pub fn tree_for(trees: Trees, kind: usize) -> usize
     let kinds = trees.kinds;
     let mut t: usize = 0;
     while t < trees.len {
-        if kinds[t] == kind {
+        if wide_byte(kinds[t]) == kind {
             return t;
         }
         t += 1;
@@ -63,7 +64,7 @@ fn marks(path: Path) -> [u8; 64]
         if len <= i {
             return first;
         }
-        mark(&mut first, groups[i]);
+        mark(&mut first, groups[i] as usize);
         i += 1;
     }
     first
@@ -93,7 +94,7 @@ fn known_after(known: u8, depth: usize, limit: usize, row: usize) -> u8
 }
 
 // The table after the nodes of a tree, in one scan.
-fn first_rows(nodes: &[usize], tree: Span, path: Path) -> [u8; 64]
+fn first_rows(nodes: &[u16], tree: Span, path: Path) -> [u8; 64]
     requires { ⌜ tree .to ≤ 64 ⌝ }
     ensures { λ r. ⌜ ((c : List ℕ) (g : ℕ) → rowIn r g ≡ giverIn (pathOf path) g 0 (tree .from)
         (flats c (now (nodes .entry)) (tree .from) (tree .to - tree .from))) ⌝ }
@@ -138,14 +139,14 @@ fn rows_in(first: &[u8], path: Path) -> Givers
         if len <= i {
             return Givers { rows, len };
         }
-        rows[i] = row_in(first, groups[i]);
+        rows[i] = row_in(first, groups[i] as usize);
         i += 1;
     }
     Givers { rows, len }
 }
 
 // What gives to a path in a tree.
-pub fn givers(nodes: &[usize], tree: Span, path: Path) -> Givers
+pub fn givers(nodes: &[u16], tree: Span, path: Path) -> Givers
     requires { ⌜ tree .to ≤ 64 ⌝ }
     ensures { λ r. ⌜ ((c : List ℕ) → givenRows r
         ≡ map (λ g. giverIn (pathOf path) g 0 (tree .from) (flats c (now (nodes .entry)) (tree .from) (tree .to - tree .from)))
@@ -175,7 +176,7 @@ pub fn all_given(givers: Givers) -> bool
 }
 
 // A row, if it grants for a purpose, else 64.
-fn granting_row(nodes: &[usize], row: usize, purpose: usize) -> usize
+fn granting_row(nodes: &[u16], row: usize, purpose: usize) -> usize
     ensures { λ r. ⌜ r ≡ grantingRow purpose (now (nodes .entry)) row ⌝ }
 {
     if 64 <= row {
@@ -189,7 +190,7 @@ fn granting_row(nodes: &[usize], row: usize, purpose: usize) -> usize
 }
 
 // Of what gives to a path, what grants for a purpose.
-pub fn granting(nodes: &[usize], givers: Givers, purpose: usize) -> Givers
+pub fn granting(nodes: &[u16], givers: Givers, purpose: usize) -> Givers
     ensures { λ r. ⌜ givenRows r ≡ grantingRows purpose (now (nodes .entry)) (givenRows givers) ⌝ }
 {
     let given = givers.rows;
@@ -207,7 +208,7 @@ pub fn granting(nodes: &[usize], givers: Givers, purpose: usize) -> Givers
 }
 
 // What a row gives; nothing at 64.
-fn given_at(nodes: &[usize], row: usize) -> Permissions
+fn given_at(nodes: &[u16], row: usize) -> Permissions
     ensures { λ r. ⌜ ((c : List ℕ) → permissionsOf c r ≡ givenAt c (now (nodes .entry)) row) ⌝ }
     ensures { λ r. ⌜ (r .list < 8192) × (r .count < 128) ⌝ }
 {
@@ -224,7 +225,7 @@ fn given_at(nodes: &[usize], row: usize) -> Permissions
 }
 
 // Does a row give a flag?
-fn flag_at(nodes: &[usize], row: usize, value: usize) -> bool
+fn flag_at(nodes: &[u16], row: usize, value: usize) -> bool
     requires { ⌜ 0 < value ⌝ }
     ensures { λ r. ⌜ ((c : List ℕ) → r ≡ hasBit value (givenAt c (now (nodes .entry)) row .map)) ⌝ }
 {
@@ -232,7 +233,7 @@ fn flag_at(nodes: &[usize], row: usize, value: usize) -> bool
 }
 
 // Is a flag granted?
-pub fn flag_granted(nodes: &[usize], givers: Givers, value: usize) -> bool
+pub fn flag_granted(nodes: &[u16], givers: Givers, value: usize) -> bool
     requires { ⌜ 0 < value ⌝ }
     ensures { λ r. ⌜ ((c : List ℕ) → r ≡ any (λ row. hasBit value (givenAt c (now (nodes .entry)) row .map)) (givenRows givers)) ⌝ }
 {
@@ -268,7 +269,7 @@ fn listed(c: &[u8], p: Permissions, group: usize) -> usize
 }
 
 // The stored count for a group that a row gives.
-fn count_at(c: &[u8], nodes: &[usize], row: usize, group: usize) -> usize
+fn count_at(c: &[u8], nodes: &[u16], row: usize, group: usize) -> usize
     ensures { λ r. ⌜ storedCount r ≡ listedIn group (givenAt (now (c .entry)) (now (nodes .entry)) row .list) ⌝ }
     ensures { λ r. ⌜ r < 65536 ⌝ }
 {
@@ -276,7 +277,7 @@ fn count_at(c: &[u8], nodes: &[usize], row: usize, group: usize) -> usize
 }
 
 // The sum of what the path's groups grant for a group; 4,000,000 is unlimited.
-pub fn count_granted(c: &[u8], nodes: &[usize], givers: Givers, group: usize) -> usize
+pub fn count_granted(c: &[u8], nodes: &[u16], givers: Givers, group: usize) -> usize
     ensures { λ r. ⌜ sumCount r ≡ joinedAt group (now (c .entry)) (now (nodes .entry)) (givenRows givers) ⌝ }
 {
     let rows = givers.rows;

@@ -24,7 +24,7 @@ use sharing::sum_classes;
 // The number of the first permission of an entry that is not covered, or 67; a kind that is not marked has no entry.
 fn entry_missing(
     c: &[u8],
-    nodes: &[usize],
+    nodes: &[u16],
     trees: Trees,
     table: &[u16],
     sums: &[u32],
@@ -46,7 +46,7 @@ fn entry_missing(
 // The first uncovered permission of a component.
 fn row_missing(
     c: &[u8],
-    nodes: &[usize],
+    nodes: &[u16],
     trees: Trees,
     table: &[u16],
     sums: &[u32],
@@ -80,7 +80,7 @@ fn row_missing(
 // The first uncovered permission of all components, with the sums of their classes.
 fn rows_missing(
     c: &[u8],
-    nodes: &[usize],
+    nodes: &[u16],
     trees: Trees,
     table: &[u16],
     sums: &[u32],
@@ -111,7 +111,7 @@ fn rows_missing(
 // The first uncovered permission of the interface that a table holds.
 pub fn first_uncovered(
     c: &[u8],
-    nodes: &[usize],
+    nodes: &[u16],
     trees: Trees,
     table: &[u16],
     components: usize,

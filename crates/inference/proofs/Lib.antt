@@ -4,6 +4,7 @@ pub mod NeedSteps
 pub mod RowSteps
 pub mod PathRows
 pub mod GroupRows
+pub mod ByteLaws
 pub mod WalkLaws
 pub mod WalkSteps
 pub mod SystemSteps

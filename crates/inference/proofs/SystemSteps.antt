@@ -1,6 +1,6 @@
 -- The walk over a system, return by return: what the parts of a form were found to be makes what the form is found to be.
 use Prim.Native.Nat.{ℕ, _+_, _-_, _<_, _≤_, min}
-use mathlib.Core.Bool.{true, false}
+use mathlib.Core.Bool.{true, false, _&&_}
 use mathlib.Core.List.{List, [], _∷_, _++_, map}
 use mathlib.Core.Option.{some}
 use mathlib.Core.Path.{_≡_, refl, sym, _∙_}
@@ -9,6 +9,8 @@ use borrow.Author.Needs.{needs}
 use borrow.Author.Tests.{lt-ltb, ltb-true}
 use lib.Dec.{ltb}
 use lib.ListN.{length, take, set}
+use Rattle.reading.specs.declared.Dialect.the-variants.{Current as current}
+use Rattle.reading.proofs.FormLaws.{GroupNew, system-group}
 use Rattle.reading.proofs.TotalLaws.{system-nest, system-names, group-room, component-room, component-number, system-step, system-stop, both-left, both-right}
 use Rattle.reading.specs.Forms.{systemAt}
 use Rattle.reading.specs.Read.{got}
@@ -48,15 +50,17 @@ module _ (n : ℕ) (s : List ℕ) (names : ℕ) (path : List ℕ) (preceding at 
   nest-left p h = system-nest s at n names path preceding (found p h)
 
   pub room-to-open : (p : Place) → r ≡ form-read.Found p → opens names path preceding (p .form) ≡ true
-  unfolding opens
+  unfolding opens GroupNew
   room-to-open p h = go (p .form) (found p h)
     where
       go : (f : Form) → systemAt s at n names path preceding ≡ got f (p .next) → opens names path preceding f ≡ true
       go Nil q = refl
       go Par q = refl
-      go (Group g) q = group-room s at n names path preceding q
+      go (Group g) q = rw (group-room s at n names path preceding q)
+          (lt-ltb g 65536 (omega (arith, system-group current s at n names path preceding q .small)))
       go (New t) q = lt-ltb names 64 (system-names s at n names path preceding q)
-      go (Head own) q = rw (component-room s at n names path preceding q) (lt-ltb preceding 32 (component-number s at n names path preceding q))
+      go (Head own) q = rw (component-room s at n names path preceding q, lt-ltb preceding 32 (component-number s at n names path preceding q))
+          (lt-ltb (own .group) 65536 (omega (arith, system-group current s at n names path preceding q .0 .small)))
       go (Input a) q = refl
       go (Output a) q = refl
       go Replicate q = refl
@@ -81,15 +85,26 @@ module _ (names : ℕ) (path : List ℕ) (preceding : ℕ) (f : Form) (h : opens
 
   pub group-opens : (g : ℕ) → f ≡ Group g → ltb (length path) 8 ≡ true
   unfolding opens
-  group-opens g e = rw e at h
+  group-opens g e = both-left (ltb (length path) 8) (ltb g 65536) (rw e at h)
+
+  pub group-small : (g : ℕ) → f ≡ Group g → g < 65536
+  unfolding opens
+  group-small g e = ltb-true g 65536 (both-right (ltb (length path) 8) (ltb g 65536) (rw e at h))
+
+  head-room : (own : OwnFields) → f ≡ Head own → (ltb (length path) 8 && ltb preceding 32) ≡ true
+  unfolding opens
+  head-room own e = both-left (ltb (length path) 8 && ltb preceding 32) (ltb (own .group) 65536) (rw e at h)
 
   pub head-opens : (own : OwnFields) → f ≡ Head own → ltb (length path) 8 ≡ true
-  unfolding opens
-  head-opens own e = both-left (ltb (length path) 8) (ltb preceding 32) (rw e at h)
+  head-opens own e = both-left (ltb (length path) 8) (ltb preceding 32) (head-room own e)
 
   pub head-number : (own : OwnFields) → f ≡ Head own → preceding < 32
+  head-number own e = ltb-true preceding 32 (both-right (ltb (length path) 8) (ltb preceding 32) (head-room own e))
+
+  pub head-small : (own : OwnFields) → f ≡ Head own → own .group < 65536
   unfolding opens
-  head-number own e = ltb-true preceding 32 (both-right (ltb (length path) 8) (ltb preceding 32) (rw e at h))
+  head-small own e =
+      ltb-true (own .group) 65536 (both-right (ltb (length path) 8 && ltb preceding 32) (ltb (own .group) 65536) (rw e at h))
 
 module _ (grow : ℕ → List ℕ → ℕ → ℕ → Grown System) (process : ℕ → Grown Process) (at names : ℕ) (path : List ℕ) (preceding : ℕ) (f : Form) (next : ℕ)
     (scope scope′ table table′ : List ℕ) where
@@ -131,10 +146,10 @@ module _ (grow : ℕ → List ℕ → ℕ → ℕ → Grown System) (process : �
     form-head own e h = rw e h
 
     pub form-group : (g : ℕ) (deeper : List ℕ) → f ≡ Group g → opens names path preceding f ≡ true
-        → (ltb (length path) 8 ≡ true → deeper ≡ path ++ (g ∷ []))
+        → (ltb (length path) 8 ≡ true → g < 65536 → deeper ≡ path ++ (g ∷ []))
         → InferredAt preceding deeper (grow names deeper preceding next) names scope scope′ table table′ w → InferredAt preceding path grown names scope scope′ table table′ w
     unfolding systemGrown under locate components
-    form-group g deeper e o d h = let q = d (group-opens names path preceding f o g e) in
+    form-group g deeper e o d h = let q = d (group-opens names path preceding f o g e) (group-small names path preceding f o g e) in
         rw e (record {
           place = rw q at (h .place);
           first = rw q at (h .first);
@@ -160,16 +175,16 @@ module _ (t : Grown System) (names u preceding : ℕ) (path scope scope₁ scope
 
 -- A component.
 module _ (t : Grown Process) (names : ℕ) (own : OwnFields) (preceding : ℕ) (path whole scope scope′ table table₀ table₁ table′ : List ℕ) (w : Walk) where
-  pub component-found : ltb (length path) 8 ≡ true → (ltb (length path) 8 ≡ true → whole ≡ path ++ (own .group ∷ []))
+  pub component-found : ltb (length path) 8 ≡ true → own .group < 65536 → (ltb (length path) 8 ≡ true → own .group < 65536 → whole ≡ path ++ (own .group ∷ []))
       → table₀ ≡ withPurpose table preceding (own .purpose) → table₁ ≡ withPath table₀ preceding whole
       → Inferred t (acts (record { number = preceding; path = whole; purpose = 0 }) false (map some (take names scope)) (t .tree)) names scope scope′ table₁ table′ w
       → InferredAt preceding path (under (compₛ own) t) names scope scope′ table table′ (record { next = w .next; fault = w .fault; components = preceding + 1 })
   unfolding under locate componentAt components worstAll chargedAll actsOf
-  component-found o d p q h = record {
+  component-found o small d p q h = record {
     place = h .place;
-    first = once (rw (d o) at (h .first) ∙ purpose-aside preceding _ 0 (own .purpose) false (map some (take names scope)) (t .tree)) (worst-most _);
+    first = once (rw (d o small) at (h .first) ∙ purpose-aside preceding _ 0 (own .purpose) false (map some (take names scope)) (t .tree)) (worst-most _);
     number = refl;
-    counted = rw (q, p, d o) at (h .counted) ∙ purpose-uncounted preceding _ 0 (own .purpose) _ false (map some (take names scope)) (t .tree);
+    counted = rw (q, p, d o small) at (h .counted) ∙ purpose-uncounted preceding _ 0 (own .purpose) _ false (map some (take names scope)) (t .tree);
     kept = h .kept;
   }
     where
@@ -201,6 +216,8 @@ pub ruleset system-steps = (
   by-form,
   new-opens,
   group-opens,
+  group-small,
+  head-small,
   head-opens,
   head-number,
   form-nil,

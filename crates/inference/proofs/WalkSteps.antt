@@ -1,34 +1,47 @@
 -- The walk over a process, return by return: what the parts of a form were found to be makes what the form is found to be.
-use Prim.Native.Nat.{ℕ, _+_, _-_, _<_, _≤_, min}
+use Prim.Native.Nat.{ℕ, zero, suc, _+_, _-_, _<_, _≤_, min}
 use mathlib.Core.Bool.{Bool, true, false}
 use mathlib.Core.List.{List, [], _∷_, _++_, map}
 use mathlib.Core.Option.{Option, some}
 use mathlib.Core.Path.{_≡_, refl, sym, _∙_}
 use native.Mathlib.Omega.{arith}
 use borrow.Author.Needs.{needs}
-use borrow.Author.Tests.{lt-ltb, ltb-true}
-use lib.ListN.{length, take, set, getElem?}
-use Rattle.reading.proofs.TotalLaws.{process-nest, new-names, input-names, process-step, process-stop}
+use lib.ListN.{length, take, set, getD, getElem?}
+use Rattle.reading.proofs.TotalLaws.{process-step}
 use Rattle.reading.specs.Forms.{processAt}
 use Rattle.reading.specs.Read.{got}
 use Rattle.reading.specs.Syntax.{Process, nil, par, new, input, output}
-use Rattle.reading.specs.Told.{form}
+use Rattle.reading.specs.Told.{number}
 use Rattle.reading.specs.Total.{Grown, under, beside, processGrown, processTree}
-use Rattle.reading.specs.declared.Act.{Act as Fields}
+use Rattle.reading.specs.Types.{typeAt}
 use Rattle.reading.specs.declared.Form.{Form}
-use Rattle.reading.specs.declared.Form.the-variants.{Nil, Par, Group, New, Component as Head, Input, Output, Replicate}
-use Rattle.reading.specs.declared.FormRead.{FormRead}
-use Rattle.reading.specs.declared.FormRead.the-variants as form-read
-use Rattle.reading.specs.declared.OwnFields.{OwnFields}
-use Rattle.reading.specs.declared.Place.{Place}
+use Rattle.reading.specs.declared.Form.the-variants.{Nil, Par, New, Input, Output, Replicate}
+use Rattle.reading.specs.declared.Number.{Number}
+use Rattle.reading.specs.declared.NumberRead.{NumberRead}
+use Rattle.reading.specs.declared.NumberRead.the-variants as number-read
 use Rattle.reading.specs.declared.Refusal.{Refusal}
 use Rattle.needs.specs.declared.Need.{Need}
+use Rattle.inference.proofs.ByteLaws.{
+  past-end,
+  nil-at,
+  par-at,
+  repl-at,
+  new-at,
+  new-full,
+  no-new,
+  input-at,
+  input-full,
+  no-input,
+  output-at,
+  no-output,
+  no-code,
+}
 use Rattle.inference.proofs.WalkLaws.{worst-append, charged-append, some-type, scope-bound, kept-below, min-cong}
 use Rattle.inference.specs.Acts.{Component, Act, typeOf, acts}
 use Rattle.inference.specs.Needs.{needOn, needOf}
 use Rattle.inference.specs.Rows.{charge}
 use Rattle.inference.specs.Told.{known}
-use Rattle.inference.specs.Walks.{fault, faultOf, worst, charged, binds, Inferred}
+use Rattle.inference.specs.Walks.{fault, faultOf, worst, charged, Inferred}
 use Rattle.inference.specs.declared.Known.{Known}
 use Rattle.inference.specs.declared.Walk.{Walk}
 
@@ -40,91 +53,6 @@ nothing : (t : Grown Process) (at : ℕ) (c : Component) (b : Bool) (names : ℕ
     → Finds c b t names scope scope table table (record { next = at; fault = 11 })
 unfolding acts worst charged
 nothing t at c b names scope table e = rw e (record { place = refl; first = refl; counted = refl; kept = refl })
-
--- The form at a place.
-module _ (n : ℕ) (s : List ℕ) (names at : ℕ) (r : FormRead) (e : form r ≡ processAt s at n names) where
-  found : (p : Place) → r ≡ form-read.Found p → processAt s at n names ≡ got (p .form) (p .next)
-  found p h = sym (rw h at e)
-
-  pub nest-left : (p : Place) → r ≡ form-read.Found p → 1 ≤ n
-  nest-left p h = process-nest s at n names (found p h)
-
-  pub room-to-bind : (p : Place) → r ≡ form-read.Found p → binds names (p .form) ≡ true
-  unfolding binds
-  room-to-bind p h = go (p .form) (found p h)
-    where
-      go : (f : Form) → processAt s at n names ≡ got f (p .next) → binds names f ≡ true
-      go Nil q = refl
-      go Par q = refl
-      go (Group g) q = refl
-      go (New t) q = lt-ltb names 64 (new-names s at n names q)
-      go (Head own) q = refl
-      go (Input a) q = lt-ltb names 64 (input-names s at n names q)
-      go (Output a) q = refl
-      go Replicate q = refl
-
-  module _ (c : Component) (b : Bool) (scope scope′ table table′ : List ℕ) where
-    pub no-form : (q : Refusal) → r ≡ form-read.Refused q
-        → Finds c b (processTree n s names at) names scope scope table table (record { next = at; fault = 11 })
-    no-form q h =
-        nothing (processTree n s names at) at c b names scope table (process-stop n s names at (q .question) (q .at) (sym (rw h at e)))
-
-    pub by-form : (p : Place) (w : Walk) → r ≡ form-read.Found p
-        → Finds c b (processGrown (λ ns m. processTree (n - 1) s ns m) at names (p .form) (p .next)) names scope scope′ table table′ w
-        → Finds c b (processTree n s names at) names scope scope′ table table′ w
-    by-form p w h i = rw (process-step n s names at (p .form) (p .next) (found p h)) i
-
--- The arms of the match on a form.
-pub new-binds : (names t : ℕ) (f : Form) → f ≡ New t → binds names f ≡ true → names < 64
-unfolding binds
-new-binds names t f e h = ltb-true names 64 (rw e at h)
-
-pub input-binds : (names : ℕ) (a : Fields) (f : Form) → f ≡ Input a → binds names f ≡ true → names < 64
-unfolding binds
-input-binds names a f e h = ltb-true names 64 (rw e at h)
-
-module _ (grow : ℕ → ℕ → Grown Process) (at names : ℕ) (f : Form) (next : ℕ) (c : Component) (b : Bool) (scope scope′ table table′ : List ℕ) where
-  abbrev grown : Grown Process
-  grown = processGrown grow at names f next
-
-  pub form-nil : f ≡ Nil → Finds c b grown names scope scope table table (record { next = next; fault = 11 })
-  unfolding processGrown
-  form-nil e = nothing grown next c b names scope table (rw e)
-
-  pub form-group : (g : ℕ) → f ≡ Group g → Finds c b grown names scope scope table table (record { next = at; fault = 11 })
-  unfolding processGrown
-  form-group g e = nothing grown at c b names scope table (rw e)
-
-  pub form-head : (own : OwnFields) → f ≡ Head own → Finds c b grown names scope scope table table (record { next = at; fault = 11 })
-  unfolding processGrown
-  form-head own e = nothing grown at c b names scope table (rw e)
-
-  module _ (w : Walk) where
-    pub form-par : f ≡ Par → Finds c b (beside par (grow names next) (λ l m. grow names m)) names scope scope′ table table′ w
-        → Finds c b grown names scope scope′ table table′ w
-    unfolding processGrown
-    form-par e h = rw e h
-
-    pub form-new : (t : ℕ) → f ≡ New t → Finds c b (under (new t) (grow (names + 1) next)) names scope scope′ table table′ w
-        → Finds c b grown names scope scope′ table table′ w
-    unfolding processGrown
-    form-new t e h = rw e h
-
-    pub form-input : (a : Fields) → f ≡ Input a
-        → Finds c b (under (input (a .channel) (a .object)) (grow (names + 1) next)) names scope scope′ table table′ w
-        → Finds c b grown names scope scope′ table table′ w
-    unfolding processGrown
-    form-input a e h = rw e h
-
-    pub form-output : (a : Fields) → f ≡ Output a
-        → Finds c b (under (output (a .channel) (a .object)) (grow names next)) names scope scope′ table table′ w
-        → Finds c b grown names scope scope′ table table′ w
-    unfolding processGrown
-    form-output a e h = rw e h
-
-    pub form-repl : f ≡ Replicate → Finds c true (grow names next) names scope scope′ table table′ w → Finds c b grown names scope scope′ table table′ w
-    unfolding processGrown under acts
-    form-repl e h = rw e (record { place = h .place; first = h .first; counted = h .counted; kept = h .kept })
 
 -- Under one name more.
 module _ (t : Grown Process) (names u : ℕ) (c : Component) (b : Bool) (scope scope₁ scope′ table table′ : List ℕ) (w : Walk) where
@@ -203,24 +131,125 @@ module _ (q : Known) (k : Option ℕ) (e : known q ≡ k) where
 
 pub ruleset act-steps = (needs, with-least, act-need, act-looked-up, input-looked-up, output-looked-up)
 
+-- A type that was read.
+pub type-found : (s : List ℕ) (at : ℕ) (r : NumberRead) (t : Number) → r ≡ number-read.Found t → number r ≡ typeAt s at
+    → typeAt s at ≡ got (t .value) (t .next)
+type-found s at r t f told = sym (rw f at told)
+
+-- The arms of the match on a code byte.
+module _ (s : List ℕ) (c : Component) (b : Bool) (at nest names : ℕ) (scope table : List ℕ) where
+  -- What a walk from here finds.
+  abbrev Here : List ℕ → List ℕ → Walk → Type 0
+  Here scope′ table′ w = Finds c b (processTree nest s names at) names scope scope′ table table′ w
+
+  ends : (k : ℕ) → processTree nest s names at ≡ record { tree = nil; next = k } → Here scope table (record { next = k; fault = 11 })
+  ends k e = nothing (processTree nest s names at) k c b names scope table e
+
+  grown : (f : Form) (k : ℕ) → processAt s at nest names ≡ got f k → (scope′ table′ : List ℕ) (w : Walk)
+      → Finds c b (processGrown (λ ns m. processTree (nest - 1) s ns m) at names f k) names scope scope′ table table′ w → Here scope′ table′ w
+  grown f k e scope′ table′ w h = rw (process-step nest s names at f k e) h
+
+  pub no-nest : nest ≡ 0 → Here scope table (record { next = at; fault = 11 })
+  unfolding processTree
+  no-nest z = ends at (rw z)
+
+  pub no-byte : length s ≤ at → Here scope table (record { next = at; fault = 11 })
+  no-byte past = ends at (past-end s at nest names past)
+
+  module _ (some-left : nest ≡ 0 → ⊥) (here : at < length s) where
+    deep : 0 < nest
+    deep = go nest some-left
+      where
+        go : (n : ℕ) → (n ≡ 0 → ⊥) → 0 < n
+        go zero h = absurd (h refl)
+        go (suc n) h = omega arith
+
+    pub at-nil : getD s at 0 ≡ 0 → Here scope table (record { next = at + 1; fault = 11 })
+    unfolding processGrown
+    at-nil e = ends (at + 1) (process-step nest s names at Nil (at + 1) (nil-at s at nest names deep here e))
+
+    pub at-no-code : (getD s at 0 ≡ 0 → ⊥) → (getD s at 0 ≡ 1 → ⊥) → (getD s at 0 ≡ 3 → ⊥) → (getD s at 0 ≡ 5 → ⊥)
+        → (getD s at 0 ≡ 6 → ⊥) → (getD s at 0 ≡ 7 → ⊥) → Here scope table (record { next = at; fault = 11 })
+    at-no-code h i j k l n = ends at (no-code s at nest names deep here h i j k l n)
+
+    pub new-room : getD s at 0 ≡ 3 → 64 ≤ names → Here scope table (record { next = at; fault = 11 })
+    new-room e full = ends at (new-full s at nest names deep here e full)
+
+    pub input-room : getD s at 0 ≡ 5 → 64 ≤ names → Here scope table (record { next = at; fault = 11 })
+    input-room e full = ends at (input-full s at nest names deep here e full)
+
+    pub short-output : getD s at 0 ≡ 6 → length s ≤ at + 2 → Here scope table (record { next = at; fault = 11 })
+    short-output e past = ends at (no-output s at nest names deep here e past)
+
+    module _ (r : NumberRead) (room : names < 64) (q : Refusal) (f : r ≡ number-read.Refused q) where
+      pub untyped-new : getD s at 0 ≡ 3 → number r ≡ typeAt s (at + 1) → Here scope table (record { next = at; fault = 11 })
+      untyped-new e told = ends at (no-new s at nest names deep here e room (sym (rw f at told)))
+
+      pub untyped-input : getD s at 0 ≡ 5 → number r ≡ typeAt s (at + 2) → Here scope table (record { next = at; fault = 11 })
+      untyped-input e told = ends at (no-input s at nest names deep here e room (sym (rw f at told)))
+
+    module _ (scope′ table′ : List ℕ) (w : Walk) where
+      pub new-walked : (v next : ℕ) → typeAt s (at + 1) ≡ got v next → names < 64 → getD s at 0 ≡ 3 → length scope ≡ 64
+          → (scope₁ : List ℕ) → scope₁ ≡ set scope names v
+          → Finds c b (processTree (nest - 1) s (names + 1) next) (names + 1) scope₁ scope′ table table′ w → Here scope′ table′ w
+      unfolding processGrown
+      new-walked v next found room e wide scope₁ bound-as h =
+          grown (New v) next (new-at s at nest names deep here e room found) scope′ table′ w
+          (under-new (processTree (nest - 1) s (names + 1) next) names v c b scope scope₁ scope′ table table′ w bound-as wide room h)
+
+      pub repl-walked : getD s at 0 ≡ 7
+          → Finds c true (processTree (nest - 1) s names (at + 1)) names scope scope′ table table′ w → Here scope′ table′ w
+      unfolding processGrown under acts
+      repl-walked e h = grown Replicate (at + 1) (repl-at s at nest names deep here e) scope′ table′ w
+          (record { place = h .place; first = h .first; counted = h .counted; kept = h .kept })
+
+      module _ (z : ℕ) (r : Walk) (together : r ≡ record { next = w .next; fault = min z (w .fault) }) where
+        -- After an input that binds a name of type v.
+        pub input-walked : (v next : ℕ) → typeAt s (at + 2) ≡ got v next → names < 64 → getD s at 0 ≡ 5 → length scope ≡ 64
+            → (scope₁ : List ℕ) → scope₁ ≡ set scope names v → (x : ℕ) (table₁ : List ℕ) → x ≡ getD s (at + 1) 0
+            → z ≡ fault (getElem? (take names scope) x) (some v) (c .path)
+            → table₁ ≡ charge table (c .number) (needOn false (getElem? (take names scope) x)) b
+            → Finds c b (processTree (nest - 1) s (names + 1) next) (names + 1) scope₁ scope′ table₁ table′ w → Here scope′ table′ r
+        unfolding processGrown
+        input-walked v next found room e wide scope₁ bound-as x table₁ i p q h =
+            grown (Input (record { channel = x; object = v })) next (rw i (input-at s at nest names deep here e room found)) scope′ table′ r
+            (after-input (processTree (nest - 1) s (names + 1) next) x v names c b scope scope′ table table₁ table′ z w r together p q
+            (under-new (processTree (nest - 1) s (names + 1) next) names v c b scope scope₁ scope′ table₁ table′ w bound-as wide room h))
+
+        pub output-walked : (x o : ℕ) (table₁ : List ℕ) → getD s at 0 ≡ 6 → at + 2 < length s
+            → x ≡ getD s (at + 1) 0 → o ≡ getD s (at + 2) 0
+            → z ≡ fault (getElem? (take names scope) x) (getElem? (take names scope) o) (c .path)
+            → table₁ ≡ charge table (c .number) (needOn true (getElem? (take names scope) x)) b
+            → Finds c b (processTree (nest - 1) s names (at + 3)) names scope scope′ table₁ table′ w → Here scope′ table′ r
+        unfolding processGrown
+        output-walked x o table₁ e l i j p q h =
+            grown (Output (record { channel = x; object = o })) (at + 3) (rw (i, j) (output-at s at nest names deep here e l)) scope′ table′ r
+            (after-output (processTree (nest - 1) s names (at + 3)) x o names c b scope scope′ table table₁ table′ z w r together p q h)
+
+      pub par-walked : (l r : Walk) (scope₁ table₁ : List ℕ) → getD s at 0 ≡ 1
+          → Finds c b (processTree (nest - 1) s names (at + 1)) names scope scope₁ table table₁ l
+          → Finds c b (processTree (nest - 1) s names (l .next)) names scope₁ scope′ table₁ table′ r
+          → w ≡ record { next = r .next; fault = min (l .fault) (r .fault) } → Here scope′ table′ w
+      unfolding processGrown
+      par-walked l r scope₁ table₁ e left right both =
+          grown Par (at + 1) (par-at s at nest names deep here e) scope′ table′ w
+          (after-left (nest - 1) s names (at + 1) c b scope scope₁ scope′ table table₁ table′ l r w left right both)
+
 pub ruleset walk-steps = (
   needs,
-  nest-left,
-  room-to-bind,
-  no-form,
-  by-form,
-  new-binds,
-  input-binds,
-  form-nil,
-  form-group,
-  form-head,
-  form-par,
-  form-new,
-  form-input,
-  form-output,
-  form-repl,
-  under-new,
-  after-input,
-  after-output,
-  after-left,
+  no-nest,
+  no-byte,
+  at-nil,
+  at-no-code,
+  new-room,
+  input-room,
+  short-output,
+  untyped-new,
+  untyped-input,
+  type-found,
+  new-walked,
+  repl-walked,
+  input-walked,
+  output-walked,
+  par-walked,
 )

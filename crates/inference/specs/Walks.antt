@@ -3,22 +3,20 @@ use Prim.Native.Nat.{ℕ, _+_, _≤_, min}
 use mathlib.Core.Path.{_≡_}
 use mathlib.Core.List.{List, [], _∷_, map}
 use mathlib.Core.Bool.{Bool, true, false, cond, _&&_}
-use mathlib.Core.Option.{Option, some, none}
+use mathlib.Core.Option.{Option, some}
 use lib.Dec.{ltb}
 use lib.ListN.{length, take}
 use Rattle.reading.specs.Read.{got}
 use Rattle.reading.specs.Syntax.{Process, System, Sheet, components}
 use Rattle.reading.specs.System.{freeTypes, header}
-use Rattle.reading.specs.Told.{pathOf}
 use Rattle.reading.specs.declared.Form.{Form}
 use Rattle.reading.specs.declared.Form.the-variants.{Nil, Par, Group, New, Component as Head, Input, Output, Replicate}
 use Rattle.reading.specs.declared.Number.{Number}
 use Rattle.reading.specs.Forms.{member}
 use Rattle.reading.specs.Total.{Grown}
-use Rattle.inference.specs.declared.Context.{Context}
 use Rattle.inference.specs.declared.Walk.{Walk}
 use Rattle.inference.specs.declared.SystemWalk.{SystemWalk}
-use Rattle.inference.specs.Acts.{Act, Component, Located, acts, actsOf, locate, located}
+use Rattle.inference.specs.Acts.{Act, Located, actsOf, locate, located}
 use Rattle.inference.specs.Typing.{isKnown, ofChannel, isType}
 use Rattle.inference.specs.Needs.{needOf}
 use Rattle.inference.specs.Rows.{charge, withComponent}
@@ -55,30 +53,13 @@ unfoldable pub worstAll : List Located → ℕ
 worstAll [] = 11
 worstAll (l ∷ rest) = min (worst (actsOf l)) (worstAll rest)
 
--- A walk over a process: `walked` are its acts.
+-- A walk over a process: `walked` are its acts. What is found and counted does not depend on the purpose (`purpose-aside` of
+-- proofs/WalkLaws.antt), so the context has none, and 0 stands where the walk is told.
 pub record Inferred (t : Grown Process) (walked : List Act) (names : ℕ) (scope scope′ table table′ : List ℕ) (r : Walk) : Type 0 where
   pub place : r .next ≡ t .next
   pub first : r .fault ≡ worst walked
   pub counted : table′ ≡ charged table walked
   pub kept : take names scope′ ≡ take names scope
-
--- The same, in a context: whose acts they are, and whether they stand under a repeat. What is found and counted does not depend on the
--- purpose (`purpose-aside` of proofs/WalkLaws.antt), so the context has none, and 0 stands here.
-abbrev pub InferredIn : Context → Grown Process → ℕ → List ℕ → List ℕ → List ℕ → List ℕ → Walk → Type 0
-InferredIn c t names scope scope′ table table′ r =
-    Inferred t (acts (record { number = c .component; path = pathOf (c .path); purpose = 0 }) (c .repeated)
-    (map some (take names scope)) (t .tree)) names scope scope′ table table′ r
-
--- Where a form binds a name, there is room for it.
-unfoldable pub binds : ℕ → Form → Bool
-binds names Nil = true
-binds names Par = true
-binds names (Group g) = true
-binds names (New t) = ltb names 64
-binds names (Head own) = true
-binds names (Input a) = ltb names 64
-binds names (Output a) = true
-binds names Replicate = true
 
 -- A walk over a system: `ls` are its components, `before` the number of those before it.
 pub record InferredSystem (t : Grown System) (ls : List Located) (before names : ℕ) (scope scope′ table table′ : List ℕ)
@@ -98,9 +79,9 @@ InferredAt before path t names scope scope′ table table′ r =
 unfoldable pub opens : ℕ → List ℕ → ℕ → Form → Bool
 opens names path preceding Nil = true
 opens names path preceding Par = true
-opens names path preceding (Group g) = ltb (length path) 8
+opens names path preceding (Group g) = ltb (length path) 8 && ltb g 65536
 opens names path preceding (New t) = ltb names 64
-opens names path preceding (Head own) = ltb (length path) 8 && ltb preceding 32
+opens names path preceding (Head own) = (ltb (length path) 8 && ltb preceding 32) && ltb (own .group) 65536
 opens names path preceding (Input a) = true
 opens names path preceding (Output a) = true
 opens names path preceding Replicate = true

@@ -192,7 +192,7 @@ fn next_group(path: Path, from: usize) -> usize
         if len <= i {
             return best;
         }
-        best = nearer(best, groups[i], from);
+        best = nearer(best, groups[i] as usize, from);
         i += 1;
     }
     best
@@ -225,7 +225,7 @@ fn store_steps(table: &mut [u16], component: usize, path: Path)
     let groups = path.groups;
     let mut i: usize = 0;
     while i < len {
-        put(table, row + 1 + i, groups[i]);
+        put(table, row + 1 + i, groups[i] as usize);
         i += 1;
     }
 }
@@ -256,10 +256,17 @@ pub fn purpose_of(table: &[u16], component: usize) -> usize
 }
 
 // What stands in a cell, 0 past the table's end.
+fn stored_at(table: &[u16], at: usize) -> u16
+    ensures { λ r. ⌜ r ≡ getD (now (table .entry)) at 0 ⌝ }
+{
+    if at < table.len() { table[at] } else { 0 }
+}
+
+// The same as a number of full width.
 pub fn cell_at(table: &[u16], at: usize) -> usize
     ensures { λ r. ⌜ r ≡ getD (now (table .entry)) at 0 ⌝ }
 {
-    if at < table.len() { wide(table[at]) } else { 0 }
+    wide(stored_at(table, at))
 }
 
 fn wide(x: u16) -> usize
@@ -295,10 +302,10 @@ pub fn path_of(table: &[u16], component: usize) -> Path
 {
     let row = component * 211;
     let len = stored_len(table, row);
-    let mut groups = [0usize; 8];
+    let mut groups = [0u16; 8];
     let mut i: usize = 0;
     while i < 8 {
-        groups[i] = cell_at(table, row + (1 + i));
+        groups[i] = stored_at(table, row + (1 + i));
         i += 1;
     }
     Path { groups, len }

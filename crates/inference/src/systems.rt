@@ -48,7 +48,7 @@ fn infer_component(
     scope: &mut [usize],
     table: &mut [u16],
 ) -> SystemWalk
-    requires { ⌜ (length (now scope) ≡ 64) × (ltb (length (pathOf path)) 8 ≡ true) × (component < 32) ⌝ }
+    requires { ⌜ (length (now scope) ≡ 64) × (ltb (length (pathOf path)) 8 ≡ true) × (component < 32) × (own .group < 65536) ⌝ }
     ensures { λ r. ⌜ InferredAt component (pathOf path)
         (under (compₛ own) (processTree (spot .nest) (now (s .entry)) (spot .names) (spot .at)))
         (spot .names) (now (scope .entry)) (now (scope .exit)) (now (table .entry)) (now (table .exit)) r ⌝ }

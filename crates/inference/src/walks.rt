@@ -1,19 +1,18 @@
 // The walk over a process of a sheet that passes questions 1 to 6: typing and inference together. It recurses over nested
-// forms, the permitted nesting falling at each call.
+// forms, the permitted nesting falling at each call, and takes each form from its bytes.
 ghost use mathlib.Core.Path.{_≡_};
 ghost use mathlib.Core.Bool.{true, false};
 ghost use mathlib.Core.List.{map};
 ghost use mathlib.Core.Option.{some};
-ghost use Prim.Native.Nat.{_+_, _<_, min};
+ghost use Prim.Native.Nat.{_<_, min};
 ghost use lib.ListN.{length, take, getElem?};
-ghost use Rattle.inference.specs.Walks.{fault, Inferred, InferredIn, binds};
+ghost use Rattle.inference.specs.Walks.{fault, Inferred};
 ghost use Rattle.inference.specs.Needs.{needOn};
 ghost use Rattle.inference.specs.Rows.{charge};
 ghost use Rattle.inference.specs.Acts.{acts};
 ghost use Rattle.inference.specs.Told.{known};
 ghost use Rattle.reading.specs.Told.{pathOf};
-ghost use Rattle.reading.specs.Syntax.{par, new, input, output};
-ghost use Rattle.reading.specs.Total.{under, beside, processGrown, processTree};
+ghost use Rattle.reading.specs.Total.{processTree};
 use crate::Context;
 use crate::Known;
 use crate::Spot;
@@ -25,9 +24,9 @@ use crate::scope::bind;
 use crate::scope::type_of;
 use reading::Act;
 use reading::Dialect;
-use reading::Form;
-use reading::FormRead;
-use reading::forms::process_at;
+use reading::NumberRead;
+use reading::bytes::byte_in;
+use reading::types::type_at;
 
 pub fn least(a: usize, b: usize) -> usize
     ensures { λ r. ⌜ r ≡ min a b ⌝ }
@@ -103,7 +102,8 @@ fn with_fault(fault: usize, rest: Walk) -> Walk
     }
 }
 
-// The process at a place.
+// The process at a place, by its code byte: nothing (0), two parts in parallel (1), a new name (3), an input (5), an output (6), a
+// repeat (7). What the reader would refuse counts as nothing.
 pub fn infer_process(
     s: &[u8],
     spot: Spot,
@@ -119,49 +119,99 @@ pub fn infer_process(
         (spot .names) (now (scope .entry)) (now (scope .exit)) (now (table .entry)) (now (table .exit)) r ⌝ }
 {
     let at = spot.at;
-    let nest = spot.nest;
     let names = spot.names;
-    let read = process_at(Dialect::Current, s, at, nest, names);
-    let FormRead::Found(place) = read else {
-        return Walk {
-            next: at,
-            fault: 11,
-        };
+    let none = Walk {
+        next: at,
+        fault: 11,
     };
-    let form = place.form;
-    let inner = Spot {
-        at: place.next,
-        nest: nest - 1,
-        names,
-    };
-    infer_form(s, at, inner, form, context, scope, table)
-}
-
-// The process that begins with a form at `at`; `inner` is where its parts begin.
-fn infer_form(
-    s: &[u8],
-    at: usize,
-    inner: Spot,
-    form: Form,
-    context: Context,
-    scope: &mut [usize],
-    table: &mut [u16],
-) -> Walk
-    requires { ⌜ (context .component < 32) × (length (now scope) ≡ 64) × (binds (inner .names) form ≡ true) ⌝ }
-    ensures { λ r. ⌜ InferredIn context (processGrown (λ ns m. processTree (inner .nest) (now (s .entry)) ns m) at (inner .names) form
-        (inner .at))
-        (inner .names) (now (scope .entry)) (now (scope .exit)) (now (table .entry)) (now (table .exit)) r ⌝ }
-{
-    match form {
-        Form::Nil => Walk {
-            next: inner.at,
+    if spot.nest == 0 {
+        return none;
+    }
+    if s.len() <= at {
+        return none;
+    }
+    let nest = spot.nest - 1;
+    match s[at] {
+        0 => Walk {
+            next: at + 1,
             fault: 11,
         },
-        Form::Par => infer_par(s, inner, context, scope, table),
-        Form::New(t) => infer_under(s, inner, t, context, scope, table),
-        Form::Input(act) => infer_input(s, inner, act, context, scope, table),
-        Form::Output(act) => infer_output(s, inner, act, context, scope, table),
-        Form::Replicate => {
+        1 => {
+            let first = Spot {
+                at: at + 1,
+                nest,
+                names,
+            };
+            let left = infer_process(s, first, context, scope, table);
+            let second = Spot {
+                at: left.next,
+                nest,
+                names,
+            };
+            let right = infer_process(s, second, context, scope, table);
+            with_fault(left.fault, right)
+        }
+        3 => {
+            if 64 <= names {
+                return none;
+            }
+            let read = type_at(Dialect::Current, s, at + 1);
+            let NumberRead::Found(t) = read else {
+                return none;
+            };
+            let inner = Spot {
+                at: t.next,
+                nest,
+                names: names + 1,
+            };
+            bind(scope, names, t.value);
+            infer_process(s, inner, context, scope, table)
+        }
+        5 => {
+            if 64 <= names {
+                return none;
+            }
+            let read = type_at(Dialect::Current, s, at + 2);
+            let NumberRead::Found(t) = read else {
+                return none;
+            };
+            let act = Act {
+                channel: byte_in(s, at + 1),
+                object: t.value,
+            };
+            let inner = Spot {
+                at: t.next,
+                nest,
+                names: names + 1,
+            };
+            let fault = input_fault(act, names, context, scope, table);
+            bind(scope, names, t.value);
+            let rest = infer_process(s, inner, context, scope, table);
+            with_fault(fault, rest)
+        }
+        6 => {
+            if s.len() <= at + 2 {
+                return none;
+            }
+            let act = Act {
+                channel: byte_in(s, at + 1),
+                object: byte_in(s, at + 2),
+            };
+            let inner = Spot {
+                at: at + 3,
+                nest,
+                names,
+            };
+            let fault = output_fault(act, names, context, scope, table);
+            let rest = infer_process(s, inner, context, scope, table);
+            with_fault(fault, rest)
+        }
+        7 => {
+            let inner = Spot {
+                at: at + 1,
+                nest,
+                names,
+            };
             let path = context.path;
             let under = Context {
                 component: context.component,
@@ -170,90 +220,6 @@ fn infer_form(
             };
             infer_process(s, inner, under, scope, table)
         }
-        Form::Group(_) => Walk {
-            next: at,
-            fault: 11,
-        },
-        Form::Component(_) => Walk {
-            next: at,
-            fault: 11,
-        },
+        _ => none,
     }
-}
-
-// Two processes, one after the other.
-fn infer_par(s: &[u8], spot: Spot, context: Context, scope: &mut [usize], table: &mut [u16]) -> Walk
-    requires { ⌜ (context .component < 32) × (length (now scope) ≡ 64) ⌝ }
-    ensures { λ r. ⌜ InferredIn context (beside par (processTree (spot .nest) (now (s .entry)) (spot .names) (spot .at))
-        (λ l m. processTree (spot .nest) (now (s .entry)) (spot .names) m))
-        (spot .names) (now (scope .entry)) (now (scope .exit)) (now (table .entry)) (now (table .exit)) r ⌝ }
-{
-    let left = infer_process(s, spot, context, scope, table);
-    let rest = Spot {
-        at: left.next,
-        nest: spot.nest,
-        names: spot.names,
-    };
-    let right = infer_process(s, rest, context, scope, table);
-    with_fault(left.fault, right)
-}
-
-// A process under one more name, of type t.
-fn infer_under(
-    s: &[u8],
-    spot: Spot,
-    t: usize,
-    context: Context,
-    scope: &mut [usize],
-    table: &mut [u16],
-) -> Walk
-    requires { ⌜ (context .component < 32) × (length (now scope) ≡ 64) × (spot .names < 64) ⌝ }
-    ensures { λ r. ⌜ InferredIn context (under (new t) (processTree (spot .nest) (now (s .entry)) (spot .names + 1) (spot .at)))
-        (spot .names) (now (scope .entry)) (now (scope .exit)) (now (table .entry)) (now (table .exit)) r ⌝ }
-{
-    let inner = Spot {
-        at: spot.at,
-        nest: spot.nest,
-        names: spot.names + 1,
-    };
-    bind(scope, spot.names, t);
-    infer_process(s, inner, context, scope, table)
-}
-
-// An input and what follows it.
-fn infer_input(
-    s: &[u8],
-    spot: Spot,
-    act: Act,
-    context: Context,
-    scope: &mut [usize],
-    table: &mut [u16],
-) -> Walk
-    requires { ⌜ (context .component < 32) × (length (now scope) ≡ 64) × (spot .names < 64) ⌝ }
-    ensures { λ r. ⌜ InferredIn context (under (input (act .channel) (act .object))
-        (processTree (spot .nest) (now (s .entry)) (spot .names + 1) (spot .at)))
-        (spot .names) (now (scope .entry)) (now (scope .exit)) (now (table .entry)) (now (table .exit)) r ⌝ }
-{
-    let fault = input_fault(act, spot.names, context, scope, table);
-    let rest = infer_under(s, spot, act.object, context, scope, table);
-    with_fault(fault, rest)
-}
-
-// An output and what follows it.
-fn infer_output(
-    s: &[u8],
-    spot: Spot,
-    act: Act,
-    context: Context,
-    scope: &mut [usize],
-    table: &mut [u16],
-) -> Walk
-    requires { ⌜ (context .component < 32) × (length (now scope) ≡ 64) ⌝ }
-    ensures { λ r. ⌜ InferredIn context (under (output (act .channel) (act .object))
-        (processTree (spot .nest) (now (s .entry)) (spot .names) (spot .at)))
-        (spot .names) (now (scope .entry)) (now (scope .exit)) (now (table .entry)) (now (table .exit)) r ⌝ }
-{
-    let fault = output_fault(act, spot.names, context, scope, table);
-    let rest = infer_process(s, spot, context, scope, table);
-    with_fault(fault, rest)
 }

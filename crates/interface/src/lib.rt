@@ -157,7 +157,7 @@ fn put_groups(path: Path, out: &mut [u8], at: usize) -> usize
     let mut next = at;
     let mut i: usize = 0;
     while i < len {
-        next = put(out, next, groups[i]);
+        next = put(out, next, groups[i] as usize);
         i += 1;
     }
     next

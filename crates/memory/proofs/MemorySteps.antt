@@ -1,7 +1,7 @@
 -- How the tables are read and written: within the table, past its end, and past the count of names.
 use Prim.Native.Nat.{ℕ, _+_, _*_, _/_, _%_, _<_, _≤_}
 use mathlib.Core.List.{List}
-use mathlib.Core.Path.{_≡_, refl, sym}
+use mathlib.Core.Path.{_≡_, refl, sym, _∙_}
 use native.Mathlib.Omega.{arith}
 use borrow.Author.Needs.{needs}
 use borrow.Author.Tests.{lt-ltb, le-ltb}
@@ -26,6 +26,9 @@ past-table l n i d h = sym (List·getD-eq-default (take n l) d (omega (arith, le
 pub within : {A : Type 0} (l : List A) (n i : ℕ) (d : A) → i < n → getD l i d ≡ getD (take n l) i d
 within l n i d h = sym (getD-take n l i d h)
 
+pub within-as : {A : Type 0} (l : List A) (n i : ℕ) (d a : A) → a ≡ getD l i d → i < n → a ≡ getD (take n l) i d
+within-as l n i d a e h = e ∙ within l n i d h
+
 -- a cell that is bound, or stands past the table's end
 pub bound-is : (cells : List ℕ) (cell env name : ℕ) → set cells cell (env % 65536 * 65536 + name % 65536) ≡ bound cells cell env name
 unfolding bound
@@ -44,4 +47,4 @@ pub no-parent : (cells : List ℕ) (cell w : ℕ) → w ≡ getD cells cell 0 �
 unfolding parentOf
 no-parent cells cell w e h = rw (← e, le-ltb (w / 65536) cell h)
 
-pub ruleset memory-steps = (needs, not-set, not-held, past-count, past-table, within, bound-is, not-bound, parent-is, no-parent)
+pub ruleset memory-steps = (needs, not-set, not-held, past-count, past-table, within, within-as, bound-is, not-bound, parent-is, no-parent)

@@ -4,6 +4,8 @@ pub mod chains;
 pub mod names;
 pub mod threads;
 
+ghost use mathlib.Core.Path.{_≡_};
+
 // A thread: its component, the cell of its innermost run name, the number of names in scope, the permitted nesting that is left,
 // and the place of its remaining process.
 pub struct Thread {
@@ -12,4 +14,11 @@ pub struct Thread {
     pub names: usize,
     pub nest: usize,
     pub at: usize,
+}
+
+// A number as a table of 32 binary digits each holds it, at full width.
+pub fn wide(w: u32) -> usize
+    ensures { λ r. ⌜ r ≡ w ⌝ }
+{
+    w as usize
 }

@@ -1,6 +1,6 @@
 // Threads as numbers, each field in digits of its own, and a list of threads of which a part is replaced.
 ghost use mathlib.Core.Path.{_≡_};
-ghost use Prim.Native.Nat.{_+_, _-_, _≤_};
+ghost use Prim.Native.Nat.{_+_, _-_, _<_, _≤_};
 ghost use lib.ListN.{length, take, drop};
 ghost use lib.Seq.{paste};
 ghost use Rattle.memory.specs.Threads.{packed, unpacked, replaced};
@@ -43,22 +43,42 @@ fn copy(dst: &mut [usize], to: usize, src: &[usize], from: usize, count: usize)
     }
 }
 
-// Moves `count` numbers within a table, by way of `room`.
-fn shift_with(threads: &mut [usize], from: usize, to: usize, count: usize, room: &mut [usize])
-    requires { ⌜ (to + count ≤ length (now threads)) × (from + count ≤ length (now threads)) × (count ≤ length (now room)) ⌝ }
+// Moves `count` numbers within a table towards its front: the first goes first, since none is overwritten before it has gone.
+fn shift_down(threads: &mut [usize], from: usize, to: usize, count: usize)
+    requires { ⌜ (to < from) × (from + count ≤ length (now threads)) ⌝ }
     ensures { λ r. ⌜ now (threads .exit) ≡ paste (now (threads .entry)) to (drop from (now (threads .entry))) count ⌝ }
 {
-    copy(room, 0, threads, from, count);
-    copy(threads, to, room, 0, count);
+    let mut i: usize = 0;
+    while i < count {
+        threads[to + i] = threads[from + i];
+        i += 1;
+    }
 }
 
-// Moves `count` numbers, at most 128, within a table.
-fn shift(threads: &mut [usize], from: usize, to: usize, count: usize)
-    requires { ⌜ (to + count ≤ length (now threads)) × (from + count ≤ length (now threads)) × (count ≤ 128) ⌝ }
+// Moves `count` numbers within a table towards its end: the last goes first.
+fn shift_up(threads: &mut [usize], from: usize, to: usize, count: usize)
+    requires { ⌜ (from < to) × (to + count ≤ length (now threads)) ⌝ }
     ensures { λ r. ⌜ now (threads .exit) ≡ paste (now (threads .entry)) to (drop from (now (threads .entry))) count ⌝ }
 {
-    let mut room = [0usize; 128];
-    shift_with(threads, from, to, count, &mut room);
+    let mut i: usize = count;
+    while 0 < i {
+        i -= 1;
+        threads[to + i] = threads[from + i];
+    }
+}
+
+// Moves `count` numbers within a table.
+fn shift(threads: &mut [usize], from: usize, to: usize, count: usize)
+    requires { ⌜ (to + count ≤ length (now threads)) × (from + count ≤ length (now threads)) ⌝ }
+    ensures { λ r. ⌜ now (threads .exit) ≡ paste (now (threads .entry)) to (drop from (now (threads .entry))) count ⌝ }
+{
+    if to < from {
+        shift_down(threads, from, to, count);
+        return;
+    }
+    if from < to {
+        shift_up(threads, from, to, count);
+    }
 }
 
 // Of a list of `len` threads, replaces those from `at` up to `from` by `count` of those made, from `first` on.

@@ -81,7 +81,7 @@ fn put_path(s: &[u8], places: &[u16], path: Path, out: &mut [u8]) -> usize
     let mut next: usize = 0;
     let mut i: usize = 0;
     while i < len {
-        next = put_step(s, places, groups[i], i, out, next);
+        next = put_step(s, places, groups[i] as usize, i, out, next);
         i += 1;
     }
     next

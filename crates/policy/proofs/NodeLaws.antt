@@ -18,9 +18,9 @@ pub six-cells : (l : List ℕ) (row g m k n d p : ℕ) → g ≡ getD l (row * 6
 unfolding nodeAt
 six-cells l row g m k n d p q r s t u v = rw (q, r, s, t, u, v)
 
-pub six-stores : (l l₁ l₂ l₃ l₄ l₅ l₆ : List ℕ) (row : ℕ) (n : Node) → l₁ ≡ set l (row * 6) (n .group) → l₂ ≡ set l₁ (row * 6 + 1) (n .permissions .map)
-    → l₃ ≡ set l₂ (row * 6 + 2) (n .permissions .list) → l₄ ≡ set l₃ (row * 6 + 3) (n .permissions .count) → l₅ ≡ set l₄ (row * 6 + 4) (n .depth)
-    → l₆ ≡ set l₅ (row * 6 + 5) (n .permissions .purposes) → l₆ ≡ withNode l row n
+pub six-stores : (l l₁ l₂ l₃ l₄ l₅ l₆ : List ℕ) (row : ℕ) (n : Node) → l₁ ≡ set l (row * 6) (n .group % 65536) → l₂ ≡ set l₁ (row * 6 + 1) (n .permissions .map % 65536)
+    → l₃ ≡ set l₂ (row * 6 + 2) (n .permissions .list % 65536) → l₄ ≡ set l₃ (row * 6 + 3) (n .permissions .count % 65536) → l₅ ≡ set l₄ (row * 6 + 4) (n .depth % 65536)
+    → l₆ ≡ set l₅ (row * 6 + 5) (n .permissions .purposes % 65536) → l₆ ≡ withNode l row n
 unfolding withNode
 six-stores l l₁ l₂ l₃ l₄ l₅ l₆ row n p q r s t u = rw (u, t, s, r, q, p)
 

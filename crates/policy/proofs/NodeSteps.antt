@@ -115,7 +115,7 @@ module _ (c : List ℕ) (d used v : ℕ) (nodes nodes₁ nodes₂ : List ℕ) (r
   joined (refused q p) l = record { answer = l .answer; rows = λ ns next e. never e }
 
 module _ (level : ℕ) (c : List ℕ) (count used at d : ℕ) where
-  pub no-child : (nodes : List ℕ) → count ≡ 0
+  no-child : (nodes : List ℕ) → count ≡ 0
       → Loaded c (childrenRead level c count used at) d used nodes nodes (number-read.Found (record { value = used; next = at }))
   unfolding childrenRead children rowsOnly headsOf flatten
   no-child nodes e = record {
@@ -127,14 +127,14 @@ module _ (level : ℕ) (c : List ℕ) (count used at d : ℕ) where
       nodes-of k = cc
 
   module _ (h : count ≡ 0 → ⊥) (nodes nodes₁ : List ℕ) (r : NumberRead) (l : Loaded c (nodeRead (readNode level c used at)) d used nodes nodes₁ r) where
-    pub child-refused : (q : Refusal) → r ≡ number-read.Refused q → Loaded c (childrenRead level c count used at) d used nodes nodes₁ r
+    child-refused : (q : Refusal) → r ≡ number-read.Refused q → Loaded c (childrenRead level c count used at) d used nodes nodes₁ r
     unfolding andThen
     child-refused q f =
         not-loaded d used r (q .question) (q .at)
         (children-step level c count used at h ∙ rw (root-not used (readNode level c used at) {q = q .question} {p = q .at} (rw f at (l .answer))))
         (rw f)
 
-    pub then-rest : (n : Number) (nodes₂ : List ℕ) (r₂ : NumberRead) → r ≡ number-read.Found n
+    then-rest : (n : Number) (nodes₂ : List ℕ) (r₂ : NumberRead) → r ≡ number-read.Found n
         → Loaded c (childrenRead level c (count - 1) (n .value) (n .next)) d (n .value) nodes₁ nodes₂ r₂
         → Loaded c (childrenRead level c count used at) d used nodes nodes₂ r₂
     then-rest n nodes₂ r₂ f m =
@@ -144,7 +144,36 @@ module _ (level : ℕ) (c : List ℕ) (count used at d : ℕ) where
         (first-rows level c used at d nodes nodes₁ r l (x .root) (n .value) (n .next) (x .is) (x .count))
         (childrenRead level c (count - 1) (n .value) (n .next)) m)
 
-pub ruleset child-steps = (needs, no-child, child-refused, then-rest)
+-- Where the loop over children stands: once those that are left are loaded, all are.
+pub record Loading (level : ℕ) (c : List ℕ) (count used at d : ℕ) (nodes₀ : List ℕ) (left rows next : ℕ) (nodes : List ℕ) : Type 0 where
+  pub whole : (nodes₂ : List ℕ) (r : NumberRead) → Loaded c (childrenRead level c left rows next) d rows nodes nodes₂ r
+      → Loaded c (childrenRead level c count used at) d used nodes₀ nodes₂ r
+  pub same : length nodes ≡ 384
+
+pub all-left : (level : ℕ) (c : List ℕ) (count used at d : ℕ) (nodes : List ℕ) → length nodes ≡ 384
+    → Loading level c count used at d nodes count used at nodes
+all-left level c count used at d nodes l = record { whole = λ nodes₂ r h. h; same = l }
+
+module _ (level : ℕ) (c : List ℕ) (count used at d : ℕ) (nodes₀ : List ℕ) (left rows next : ℕ) (nodes : List ℕ)
+    (s : Loading level c count used at d nodes₀ left rows next nodes) where
+  pub none-left : left ≤ 0 → Loaded c (childrenRead level c count used at) d used nodes₀ nodes (number-read.Found (record { value = rows; next = next }))
+  none-left h = s .whole nodes _ (no-child level c left rows next d nodes (omega arith))
+
+  module _ (h : 0 < left) (nodes₁ : List ℕ) (r : NumberRead) (l : Loaded c (nodeRead (readNode level c rows next)) d rows nodes nodes₁ r) where
+    some-left : left ≡ 0 → ⊥
+    some-left e = omega arith
+
+    pub one-refused : (q : Refusal) → r ≡ number-read.Refused q → Loaded c (childrenRead level c count used at) d used nodes₀ nodes₁ r
+    one-refused q f = s .whole nodes₁ r (child-refused level c left rows next d some-left nodes nodes₁ r l q f)
+
+    pub one-loaded : (n : Number) → r ≡ number-read.Found n → length nodes₁ ≡ length nodes
+        → Loading level c count used at d nodes₀ (left - 1) (n .value) (n .next) nodes₁
+    one-loaded n f k = record {
+      whole = λ nodes₂ r₂ m. s .whole nodes₂ r₂ (then-rest level c left rows next d some-left nodes nodes₁ r l n nodes₂ r₂ f m);
+      same = k ∙ s .same;
+    }
+
+pub ruleset child-steps = (needs, all-left, none-left, one-refused, one-loaded)
 
 -- A node: without its children first.
 abbrev opened : ℕ → Permissions → ℕ → Opened

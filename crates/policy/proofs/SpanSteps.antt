@@ -13,12 +13,12 @@ pub starts-first : (trees : Trees) (t : ℕ) → t ≡ 0 → 0 ≡ startOf trees
 unfolding startOf
 starts-first trees t e = rw e
 
-pub starts-later : (trees : Trees) (t : ℕ) → (t ≡ 0 → ⊥) → getD (trees .ends) (t - 1) 0 ≡ startOf trees t
+pub starts-later : (trees : Trees) (t r : ℕ) → (t ≡ 0 → ⊥) → r ≡ getD (trees .ends) (t - 1) 0 → r ≡ startOf trees t
 unfolding startOf
-starts-later trees zero h = absurd (h refl)
-starts-later trees (suc t) h = rw (sub-one (suc t))
+starts-later trees zero r h e = absurd (h refl)
+starts-later trees (suc t) r h e = rw (sub-one (suc t)) at e
 
-pub first-end : (ends : List ℕ) (t : ℕ) → t ≡ 0 → getD ends 0 0 ≡ getD ends t 0
-first-end ends t e = rw e
+pub first-end : (ends : List ℕ) (t r : ℕ) → t ≡ 0 → r ≡ getD ends 0 0 → r ≡ getD ends t 0
+first-end ends t r e h = rw (e, h)
 
 pub ruleset span-steps = (node-steps, starts-first, starts-later, first-end)

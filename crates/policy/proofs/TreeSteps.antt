@@ -1,8 +1,9 @@
 -- Reading a whole policy, tree by tree, to its end: where it reads, the table holds its trees.
-use Prim.Native.Nat.{ℕ, zero, suc, _+_, _-_, _<_, _≤_}
+use Prim.Native.Nat.{ℕ, zero, suc, _+_, _-_, _%_, _<_, _≤_}
 use mathlib.Core.List.{List, [], _∷_, _++_, append-assoc, append-nil}
 use mathlib.Core.Path.{_≡_, refl, sym, ap, _∙_}
 use native.Mathlib.Numerals.{add-one, sub-one}
+use native.Mathlib.Nat.{mod-eq-of-lt}
 use native.Mathlib.Omega.{arith}
 use borrow.Author.Needs.{needs}
 use borrow.Author.Tests.{eq-eqb, ne-eqb}
@@ -156,9 +157,19 @@ module _ (c : List ℕ) (at count : ℕ) (nodes : List ℕ) (trees : Trees) (nex
         rw (add-one (trees .len), ends-of-end t 0 (s .policy), ← s .ends-are, x)
         (take-suc-set (trees .ends) (trees .len) v (omega (arith, s .long-ends)))
 
+    -- The kind and the end are bytes.
+    kind-is-byte : t .kind % 256 ≡ t .kind
+    kind-is-byte = mod-eq-of-lt (omega (arith, below-found 16 c next {b = t .kind} {k = m} z))
+
+    end-low : v ≤ 64
+    end-low = omega (arith, node-room 8 c used m (t .root) j y, u)
+
+    end-is-byte : v % 256 ≡ v
+    end-is-byte = mod-eq-of-lt (omega (arith, end-low))
+
     with-one : (nodes₁ : List ℕ) → flats c nodes₁ 0 v ≡ flats c nodes 0 used ++ flatten 0 (alone (t .root)) → TreesRead c at count nodes₁ (withTree trees (t .kind) v) j v
     unfolding withTree
-    with-one nodes₁ r = record {
+    with-one nodes₁ r = rw (kind-is-byte, end-is-byte) (record {
       policy = s .policy ++ (t ∷ []);
       whole = s .whole ∙ rest-is;
       many = omega (arith, s .many, length-append (s .policy) (t ∷ []));
@@ -169,8 +180,8 @@ module _ (c : List ℕ) (at count : ℕ) (nodes : List ℕ) (trees : Trees) (nex
       ends-are = ends-with;
       used-is = omega (arith, s .used-is, as-sized, rows-of-end t (s .policy));
       rows-are = r ∙ rw (s .rows-are) (sym (all-rows-end t (s .policy)));
-      high = still-high (trees .ends) (trees .len) v (omega (arith, node-room 8 c used m (t .root) j y, u)) (s .high);
-    }
+      high = still-high (trees .ends) (trees .len) v end-low (s .high);
+    })
 
   -- One tree more is to be read.
   module _ (h : trees .len < count) (r : NumberRead) (e : number r ≡ below 16 c next) where

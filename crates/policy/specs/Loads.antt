@@ -1,5 +1,5 @@
 -- What the policy's reader answers and what it leaves in the table of nodes.
-use Prim.Native.Nat.{ℕ, zero, suc, _+_, _-_, _<_, _≤_, min}
+use Prim.Native.Nat.{ℕ, zero, suc, _+_, _-_, _%_, _<_, _≤_, min}
 use mathlib.Core.Path.{_≡_}
 use mathlib.Core.List.{List, [], _∷_, _++_}
 use lib.ListN.{length, getD, set, replicate}
@@ -107,15 +107,15 @@ pub record Loaded (c : List ℕ) (read : Read Nodes) (depth used : ℕ) (nodes n
   pub rows : (ns : Nodes) (next : ℕ) → read ≡ got ns next
       → flats c nodes′ 0 (used + length (headsOf ns)) ≡ flats c nodes 0 used ++ flatten depth ns
 
--- No trees, and one tree more: its kind, and the row after its last node.
+-- No trees, and one tree more: its kind, and the row after its last node, each cut to a byte.
 unfoldable pub noTrees : Trees
 noTrees = record { len = 0; kinds = replicate 16 0; ends = replicate 16 0 }
 
 unfoldable pub withTree : Trees → ℕ → ℕ → Trees
 withTree trees kind end = record {
   len = trees .len + 1;
-  kinds = set (trees .kinds) (trees .len) kind;
-  ends = set (trees .ends) (trees .len) end;
+  kinds = set (trees .kinds) (trees .len) (kind % 256);
+  ends = set (trees .ends) (trees .len) (end % 256);
 }
 
 -- `count` trees, to the end of the policy

@@ -21,10 +21,12 @@ nodeAt nodes row = record {
   depth = getD nodes (row * 6 + 4) 0 % 8;
 }
 
+-- The table with a node in a row, each cell cut to two bytes.
 unfoldable pub withNode : List ℕ → ℕ → Node → List ℕ
 withNode nodes row n =
-    set (set (set (set (set (set nodes (row * 6) (n .group)) (row * 6 + 1) (n .permissions .map)) (row * 6 + 2) (n .permissions .list))
-    (row * 6 + 3) (n .permissions .count)) (row * 6 + 4) (n .depth)) (row * 6 + 5) (n .permissions .purposes)
+    set (set (set (set (set (set nodes (row * 6) (n .group % 65536)) (row * 6 + 1) (n .permissions .map % 65536))
+    (row * 6 + 2) (n .permissions .list % 65536)) (row * 6 + 3) (n .permissions .count % 65536)) (row * 6 + 4) (n .depth % 65536))
+    (row * 6 + 5) (n .permissions .purposes % 65536)
 
 -- the two-byte number at a place
 unfoldable pub wordIn : List ℕ → ℕ → ℕ

@@ -48,8 +48,8 @@ pub enum OpeningRead {
 // The trees of a policy: how many, and for each its kind and the table's row after its last node.
 pub struct Trees {
     pub len: usize,
-    pub kinds: [usize; 16],
-    pub ends: [usize; 16],
+    pub kinds: [u8; 16],
+    pub ends: [u8; 16],
 }
 
 // What the reading of a policy answers: the place after it, or its refusal; and its trees, which are nothing where it is refused. (An

@@ -1,6 +1,6 @@
-// The table of a policy's nodes, in lent memory: a row of six cells for each node, at most 64 rows.
+// The table of a policy's nodes, in lent memory: a row of six cells of two bytes for each node, at most 64 rows.
 ghost use mathlib.Core.Path.{_≡_};
-ghost use Prim.Native.Nat.{_<_, _≤_};
+ghost use Prim.Native.Nat.{_<_, _≤_, _%_};
 ghost use lib.ListN.{getD, set};
 ghost use Rattle.policy.specs.Syntax.{hasBit, bitAt};
 ghost use Rattle.policy.specs.Rows.{nodeAt, withNode, wordIn};
@@ -11,14 +11,20 @@ use crate::Span;
 use crate::Trees;
 use reading::bytes::byte_in;
 
-fn cell(nodes: &[usize], at: usize) -> usize
+fn wide(x: u16) -> usize
+    ensures { λ r. ⌜ r ≡ x ⌝ }
+{
+    x as usize
+}
+
+fn cell(nodes: &[u16], at: usize) -> usize
     ensures { λ r. ⌜ r ≡ getD (now (nodes .entry)) at 0 ⌝ }
 {
-    if at < nodes.len() { nodes[at] } else { 0 }
+    if at < nodes.len() { wide(nodes[at]) } else { 0 }
 }
 
 // The node in a row, each cell within its range.
-pub fn node_at(nodes: &[usize], row: usize) -> Node
+pub fn node_at(nodes: &[u16], row: usize) -> Node
     requires { ⌜ row ≤ 64 ⌝ }
     ensures { λ r. ⌜ r ≡ nodeAt (now (nodes .entry)) row ⌝ }
 {
@@ -36,16 +42,16 @@ pub fn node_at(nodes: &[usize], row: usize) -> Node
     }
 }
 
-fn put(nodes: &mut [usize], at: usize, value: usize)
-    ensures { λ r. ⌜ now (nodes .exit) ≡ set (now (nodes .entry)) at value ⌝ }
+fn put(nodes: &mut [u16], at: usize, value: usize)
+    ensures { λ r. ⌜ now (nodes .exit) ≡ set (now (nodes .entry)) at (value % 65536) ⌝ }
 {
     if at < nodes.len() {
-        nodes[at] = value;
+        nodes[at] = (value % 65536) as u16;
     }
 }
 
 // Stores a node in a row.
-pub fn store_node(nodes: &mut [usize], row: usize, node: Node)
+pub fn store_node(nodes: &mut [u16], row: usize, node: Node)
     requires { ⌜ row < 64 ⌝ }
     ensures { λ r. ⌜ now (nodes .exit) ≡ withNode (now (nodes .entry)) row node ⌝ }
 {
@@ -89,6 +95,13 @@ pub fn bit_at(map: usize, place: usize) -> bool
     rest % 2 != 0
 }
 
+// A kind or an end of the trees, at full width.
+pub fn wide_byte(b: u8) -> usize
+    ensures { λ r. ⌜ r ≡ b ⌝ }
+{
+    b as usize
+}
+
 // The rows of the t-th tree.
 pub fn span_of(trees: Trees, t: usize) -> Span
     requires { ⌜ t < 16 ⌝ }
@@ -98,12 +111,12 @@ pub fn span_of(trees: Trees, t: usize) -> Span
     if t == 0 {
         Span {
             from: 0,
-            to: ends[0],
+            to: wide_byte(ends[0]),
         }
     } else {
         Span {
-            from: ends[t - 1],
-            to: ends[t],
+            from: wide_byte(ends[t - 1]),
+            to: wide_byte(ends[t]),
         }
     }
 }

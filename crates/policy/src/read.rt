@@ -259,7 +259,7 @@ fn why_not(read: OpeningRead) -> Refusal
 
 // Reads a node and the nodes below it into the table from row `used` on; the number found is that of the rows then used.
 // `level` more nodes may be nested.
-fn read_node(c: &[u8], at: usize, level: usize, used: usize, nodes: &mut [usize]) -> NumberRead
+fn read_node(c: &[u8], at: usize, level: usize, used: usize, nodes: &mut [u16]) -> NumberRead
     requires { ⌜ (level ≤ 8) × (length (now nodes) ≡ 384) × (length (now c) ≤ 4096) ⌝ }
     ensures { λ r. ⌜ Loaded (now (c .entry)) (nodeRead (readNode level (now (c .entry)) used at)) (8 - level) used (now (nodes .entry))
         (now (nodes .exit)) r ⌝ }
@@ -293,23 +293,25 @@ fn read_children(
     count: usize,
     level: usize,
     used: usize,
-    nodes: &mut [usize],
+    nodes: &mut [u16],
 ) -> NumberRead
     requires { ⌜ (level < 8) × (count < 256) × (length (now nodes) ≡ 384) × (length (now c) ≤ 4096) ⌝ }
     ensures { λ r. ⌜ Loaded (now (c .entry)) (childrenRead level (now (c .entry)) count used at) (8 - level) used (now (nodes .entry))
         (now (nodes .exit)) r ⌝ }
 {
-    if count == 0 {
-        return NumberRead::Found(Number {
-            value: used,
-            next: at,
-        });
+    let mut next = at;
+    let mut rows = used;
+    let mut left = count;
+    while 0 < left {
+        let read = read_node(c, next, level, rows, nodes);
+        let NumberRead::Found(child) = read else {
+            return read;
+        };
+        next = child.next;
+        rows = child.value;
+        left -= 1;
     }
-    let read = read_node(c, at, level, used, nodes);
-    let NumberRead::Found(first) = read else {
-        return read;
-    };
-    read_children(c, first.next, count - 1, level, first.value, nodes)
+    NumberRead::Found(Number { value: rows, next })
 }
 
 // A policy that does not read, by a fault at a place.
@@ -337,8 +339,8 @@ fn with_tree(trees: Trees, kind: usize, end: usize) -> Trees
     let at = trees.len;
     let mut kinds = trees.kinds;
     let mut ends = trees.ends;
-    kinds[at] = kind;
-    ends[at] = end;
+    kinds[at] = (kind % 256) as u8;
+    ends[at] = (end % 256) as u8;
     Trees {
         len: at + 1,
         kinds,
@@ -357,7 +359,7 @@ pub fn no_trees() -> Trees
 }
 
 // Reads `count` trees, one after another, to the end of the policy.
-fn read_trees(c: &[u8], at: usize, count: usize, nodes: &mut [usize]) -> PolicyRead
+fn read_trees(c: &[u8], at: usize, count: usize, nodes: &mut [u16]) -> PolicyRead
     requires { ⌜ (count ≤ 16) × (length (now nodes) ≡ 384) × (length (now c) ≤ 4096) ⌝ }
     ensures { λ r. ⌜ LoadedPolicy (now (c .entry)) (treesToEnd count (now (c .entry)) at) (now (nodes .exit)) r ⌝ }
 {
@@ -388,7 +390,7 @@ fn read_trees(c: &[u8], at: usize, count: usize, nodes: &mut [usize]) -> PolicyR
 }
 
 // Reads a policy to its end.
-pub fn read_policy(c: &[u8], nodes: &mut [usize]) -> PolicyRead
+pub fn read_policy(c: &[u8], nodes: &mut [u16]) -> PolicyRead
     requires { ⌜ (length (now nodes) ≡ 384) × (length (now c) ≤ 4096) ⌝ }
     ensures { λ r. ⌜ LoadedPolicy (now (c .entry)) (readPolicy (now (c .entry))) (now (nodes .exit)) r ⌝ }
 {

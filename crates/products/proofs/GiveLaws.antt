@@ -108,7 +108,7 @@ module _ (t : Place) (u : ℕ) (z z₁ : Sizes) (env : ℕ) (made types types₁
     one-bound : chain cells₁ (t .names + 1) env ≡ chain cells (t .names) (t .env) ++ (z .names ∷ [])
     one-bound =
         rw (ic, env-is) (chain-bound cells (t .names) (z .cells) (t .env) (z .names) (ready .env)
-        (omega (arith, ready .slack, ready .cells-room)) (omega (arith, ready .slack)) (omega arith))
+        (omega (arith, ready .slack)) (omega (arith, ready .slack, ready .cells-room)) (omega arith))
 
     ready-given : Ready (record { component = t .component; env = env; names = t .names + 1; nest = t .nest; at = t .at }) z₁ made types₁ cells₁
     ready-given = rw (iz, it, ic, env-is) (record {
@@ -119,7 +119,7 @@ module _ (t : Place) (u : ℕ) (z z₁ : Sizes) (env : ℕ) (made types types₁
       env = omega arith;
       few = ready .few;
       given = omega arith;
-      slack = omega (arith, ready .slack);
+      slack = omega (arith, ready .slack, bound-length cells (z .cells) (t .env) (z .names));
       made-room = ready .made-room;
       types-room = rw (length-set types (z .names) u) (ready .types-room);
       cells-room = rw (bound-length cells (z .cells) (t .env) (z .names)) (ready .cells-room);
@@ -187,7 +187,7 @@ module _ (t : Place) (u : ℕ) (z z₁ : Sizes) (env : ℕ) (made types types₁
       go : (b : Bool) → ltb (z .names) 1024 ≡ b → Given t u z z₁ env made types types₁ cells cells₁
       go true h =
           let small : z .names < 1024 = ltb-true (z .names) 1024 h in
-          let k = given-small z z₁ u (t .env) types types₁ cells cells₁ small (omega (arith, ready .slack)) g in
+          let k = given-small z z₁ u (t .env) types types₁ cells cells₁ small (omega (arith, ready .slack, ready .cells-room)) g in
           given-next small (k .0) (k .1) (k .2)
       go false h =
           let large : 1024 ≤ z .names = ltb-false (z .names) 1024 h in

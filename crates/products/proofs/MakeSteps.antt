@@ -17,7 +17,7 @@ use Rattle.reading.specs.declared.OwnFields.{OwnFields}
 use Rattle.decoding.specs.declared.Item.{Item}
 use Rattle.decoding.specs.Words.{itemAt}
 use Rattle.decoding.specs.Tables.{processOf, processIn}
-use Rattle.decoding.proofs.TableLaws.{process-formed, next-near, second-near}
+use Rattle.decoding.proofs.TableLaws.{process-formed, next-near, second-near, new-small}
 use Rattle.inference.specs.Acts.{Component}
 use Rattle.running.specs.Products.{news, threadsOf}
 use Rattle.memory.specs.Threads.{packed, unpacked}
@@ -82,7 +82,7 @@ module _ (forms : List ℕ) (t : Place) (z : Sizes) (made types cells : List ℕ
       → Runs forms cells (z .cells) (packed t) (record { component = c; names = chain cells (t .names) (t .env); process = here })
   pushed-runs c number left r =
       let e : unpacked (packed t) ≡ t
-      = unpack-pack t (r .component) (omega (arith, r .env, r .slack, r .given)) (omega (arith, r .scope)) (omega (arith, r .deep)) (r .place) in
+      = unpack-pack t (r .component) (omega (arith, r .env, r .slack, r .given, r .cells-room)) (omega (arith, r .scope)) (omega (arith, r .deep)) (r .place) in
       record { env = rw e (r .env); component = rw e number; names = rw e refl; process = rw e refl; scope = rw e (r .scope); deep = rw e (r .deep) }
 
   pushed : (made′ : List ℕ) (r : Sizes) → IsThread here → 0 < t .nest → Pushes z t made made′ r
@@ -130,6 +130,10 @@ module _ (forms : List ℕ) (t : Place) (z : Sizes) (made types cells : List ℕ
             given = λ few. rw (st .quiet) (sym (append-nil (take (z .names) types)));
             products = λ few given c number ts p. absurd (omega arith);
           })
+
+-- The type of a new name has few digits.
+pub new-fits : (forms : List ℕ) (at : ℕ) (item : Item) (u : ℕ) → item ≡ itemAt forms at → item .form ≡ New u → u < 4294967296
+new-fits forms at item u e h = let k = new-small forms at (rw e at h) in omega arith
 
 -- The arms of the match on a form.
 module _ (forms : List ℕ) (t : Place) (item : Item) (e : item ≡ itemAt forms (t .at)) (left : 0 < t .nest)
@@ -266,6 +270,7 @@ pub ruleset make-steps = (
   no-nest,
   nest-left,
   falls,
+  new-fits,
   no-scope,
   form-nil,
   form-group,

@@ -23,6 +23,7 @@ use Rattle.reading.specs.declared.NumberRead.the-variants as number-read
 use Rattle.reading.specs.declared.Refusal.{Refusal}
 use Rattle.decoding.specs.Notes.{SystemNoted}
 use Rattle.decoding.specs.Tables.{systemIn}
+use Rattle.decoding.proofs.FormFacts.{small-type}
 use Rattle.decoding.proofs.NoteSteps.{system-in}
 use Rattle.inference.specs.Lists.{rising}
 use Rattle.inference.proofs.SheetSteps.{SheetParts, sheet-parts}
@@ -173,10 +174,14 @@ module _ (given u : ℕ) (types types₁ cells cells₁ : List ℕ) (z z₁ : Si
       let types-are : types₁ ≡ set types given u = rw names-are at (k .1) in
       let bound-are : cells₁ ≡ bound cells (given + 1) given given = rw (names-are, cells-are) at (k .2) in
       let length-types : length types₁ ≡ 1024 = rw types-are (length-set types given u ∙ n .room .type-room) in
-      let length-cells : length cells₁ ≡ 2304 = rw bound-are (bound-length cells (given + 1) given given ∙ n .room .cell-room) in (
+      let length-cells : length cells₁ ≡ length cells = rw bound-are (bound-length cells (given + 1) given given) in (
         rw (types-are, add-one given) (take-suc-set types given u (omega (arith, n .room .type-room))),
         record {
-          room = record { type-room = length-types; cell-room = length-cells };
+          room = record {
+            type-room = length-types;
+            cell-room = omega (arith, length-cells, n .room .cell-room);
+            cell-few = omega (arith, length-cells, n .room .cell-few);
+          };
           sizes = k .0 ∙ rw (n .sizes) refl;
           typed = refl;
           chained =
@@ -187,6 +192,9 @@ module _ (given u : ℕ) (types types₁ cells cells₁ : List ℕ) (z z₁ : Si
 
 module _ (count : ℕ) (s : List ℕ) (at : ℕ) (types₀ cells₀ : List ℕ) (next given : ℕ) (types cells : List ℕ) (z : Sizes)
     (o : Giving count s at types₀ cells₀ next given types cells z) (r : NumberRead) (e : number r ≡ typeAt s next) (h : given < count) where
+  pub type-fits : (t : Number) → r ≡ number-read.Found t → t .value < 4294967296
+  type-fits t f = let k = small-type s next (sym e ∙ ap number f) in omega arith
+
   pub give-next : (t : Number) (types₁ cells₁ : List ℕ) (z₁ : Sizes) → r ≡ number-read.Found t → length types₁ ≡ length types → length cells₁ ≡ length cells
       → Gives z (t .value) given types types₁ cells cells₁ z₁ → Giving count s at types₀ cells₀ (t .next) (given + 1) types₁ cells₁ z₁
   give-next t types₁ cells₁ z₁ f i j g = record {
@@ -279,10 +287,10 @@ module _ (s forms₀ forms threads threads′ types types₁ types′ cells cell
         env = omega (arith, names-are, cells-are);
         few = omega (arith, threads-are);
         given = omega (arith, names-are);
-        slack = omega (arith, names-are, cells-are);
+        slack = omega (arith, names-are, cells-are, n .room .cell-room);
         made-room = long;
         types-room = n .room .type-room;
-        cells-room = n .room .cell-room;
+        cells-room = n .room .cell-few;
       } in
       let n-forms = notes (record { short = short; long = wide }) count [] 0 (sheet .system) (p .end) body in
       let tree : systemIn 64 forms (g .next) ≡ sheet .system = n-forms .decoded forms (λ i h k. refl) in
@@ -309,7 +317,7 @@ pub started : (s forms₀ forms threads threads′ types types′ : List ℕ) (k
 unfolding start
 started s forms₀ forms threads threads′ types types′ known known′ cells cells′ c z blank e f makes sheet end short read =
     let count = free-counted s sheet (sheet-parts s sheet end read) in
-    let m = makes (blank .form-room) (omega (arith, blank .thread-room)) (record { type-room = blank .type-room; cell-room = blank .cell-room }) sheet end short read in
+    let m = makes (blank .form-room) (omega (arith, blank .thread-room)) (record { type-room = blank .type-room; cell-room = blank .cell-room; cell-few = blank .cell-few }) sheet end short read in
     let known-are : known′ ≡ firstKnown (length (sheet .free)) known = rw (e, count .0) at f in
     record {
       crowded = m .crowded;
@@ -337,6 +345,7 @@ pub ruleset start-steps = (
   know-next,
   know-last,
   give-first,
+  type-fits,
   give-next,
   give-stop,
   give-last,

@@ -23,7 +23,7 @@ use Rattle.products.specs.declared.MadeSystem.{MadeSystem}
 use Rattle.products.specs.Makes.{Ready, Makes, MakesSystem, Gives, systemCrowd}
 use Rattle.products.proofs.GrowLaws.{grows-then, grows-cong, all-kept}
 use Rattle.products.proofs.GiveLaws.{grows-none, ready-deeper, ready-after, name-given}
-use Rattle.products.proofs.MakeSteps.{nest-left, falls}
+use Rattle.products.proofs.MakeSteps.{nest-left, falls, new-fits}
 
 -- Nothing is made.
 nothing : (forms : List ℕ) (t : Place) (p : System) (z : Sizes) (made types cells : List ℕ) → p ≡ nilₛ → Ready t z made types cells
@@ -239,6 +239,7 @@ pub ruleset system-steps = (
   nest-left,
   falls,
   falls-group,
+  new-fits,
   no-number,
   no-scope,
   form-nil,

@@ -34,7 +34,8 @@ firstKnown (suc n) (k ∷ known) = true ∷ firstKnown n known
 -- Tables of names and cells that are long enough.
 pub record Room (types cells : List ℕ) : Type 0 where
   pub type-room : length types ≡ 1024
-  pub cell-room : length cells ≡ 2304
+  pub cell-room : 1029 ≤ length cells
+  pub cell-few : length cells ≤ 2304
 
 -- Memory in which the first names are given, of types `ts`: the cell of each comes after that of the one before, the first is
 -- cell 1, and there are no threads.

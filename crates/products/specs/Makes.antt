@@ -76,10 +76,10 @@ pub record Ready (t : Place) (z : Sizes) (made types cells : List ℕ) : Type 0 
   pub env : t .env < z .cells
   pub few : z .threads ≤ 65
   pub given : z .names ≤ 1025
-  pub slack : z .cells ≤ z .names + 1276
+  pub slack : z .cells + 1028 ≤ z .names + length cells
   pub made-room : 64 ≤ length made
   pub types-room : length types ≡ 1024
-  pub cells-room : length cells ≡ 2304
+  pub cells-room : length cells ≤ 2304
 
 -- What holds of the sizes and cells after any walk.
 pub record Grows (z : Sizes) (more new : ℕ) (before after : List ℕ) (z′ : Sizes) : Type 0 where

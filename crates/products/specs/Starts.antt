@@ -15,7 +15,8 @@ pub record Blank (s forms threads types : List ℕ) (known : List Bool) (cells :
   pub thread-room : length threads ≡ 128
   pub type-room : length types ≡ 1024
   pub known-room : length known ≡ 1024
-  pub cell-room : length cells ≡ 2304
+  pub cell-room : 1029 ≤ length cells
+  pub cell-few : length cells ≤ 2304
   pub unknown : (i : ℕ) → getD known i false ≡ false
 
 -- What a start leaves: how many threads and names there are, and the state where all fit.

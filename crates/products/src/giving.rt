@@ -1,11 +1,12 @@
 // One name given, one thread made.
 ghost use mathlib.Core.Path.{_≡_};
-ghost use Prim.Native.Nat.{_-_};
+ghost use Prim.Native.Nat.{_-_, _<_};
 ghost use Rattle.products.specs.Makes.{Gives, Pushes};
 use crate::Sizes;
 use memory::Thread;
 use memory::chains::bind;
 use memory::names::store;
+use memory::names::store_type;
 use memory::threads::pack;
 
 // The sizes where no name is left.
@@ -20,7 +21,8 @@ fn too_many(sizes: Sizes) -> Sizes
 }
 
 // A new name of type t takes the next number; its cell comes after `env`.
-pub fn give(sizes: Sizes, t: usize, env: usize, types: &mut [usize], cells: &mut [usize]) -> Sizes
+pub fn give(sizes: Sizes, t: usize, env: usize, types: &mut [u32], cells: &mut [u32]) -> Sizes
+    requires { ⌜ t < 4294967296 ⌝ }
     ensures { λ r. ⌜ Gives sizes t env (now (types .entry)) (now (types .exit)) (now (cells .entry)) (now (cells .exit)) r ⌝ }
 {
     let name = sizes.names;
@@ -36,7 +38,7 @@ pub fn give(sizes: Sizes, t: usize, env: usize, types: &mut [usize], cells: &mut
         names: name + 1,
         cells: cell + 1,
     };
-    store(types, name, t);
+    store_type(types, name, t);
     bind(cells, cell, env, name);
     given
 }

@@ -21,8 +21,8 @@ pub fn make_process(
     t: Thread,
     sizes: Sizes,
     made: &mut [usize],
-    types: &mut [usize],
-    cells: &mut [usize],
+    types: &mut [u32],
+    cells: &mut [u32],
 ) -> Sizes
     ensures { λ r. ⌜ (Ready t sizes (now (made .entry)) (now (types .entry)) (now (cells .entry))
         → Makes (now (forms .entry)) t (processIn (t .nest) (now (forms .entry)) (t .at)) sizes
@@ -42,8 +42,8 @@ fn make_form(
     item: Item,
     sizes: Sizes,
     made: &mut [usize],
-    types: &mut [usize],
-    cells: &mut [usize],
+    types: &mut [u32],
+    cells: &mut [u32],
 ) -> Sizes
     requires { ⌜ (item ≡ itemAt (now forms) (t .at)) × (0 < t .nest) ⌝ }
     ensures { λ r. ⌜ (Ready t sizes (now (made .entry)) (now (types .entry)) (now (cells .entry))
@@ -77,8 +77,8 @@ fn make_par(
     second: usize,
     sizes: Sizes,
     made: &mut [usize],
-    types: &mut [usize],
-    cells: &mut [usize],
+    types: &mut [u32],
+    cells: &mut [u32],
 ) -> Sizes
     ensures { λ r. ⌜ (second < 8192 → Ready t sizes (now (made .entry)) (now (types .entry)) (now (cells .entry))
         → Makes (now (forms .entry)) t
@@ -103,9 +103,10 @@ fn make_under(
     u: usize,
     sizes: Sizes,
     made: &mut [usize],
-    types: &mut [usize],
-    cells: &mut [usize],
+    types: &mut [u32],
+    cells: &mut [u32],
 ) -> Sizes
+    requires { ⌜ u < 4294967296 ⌝ }
     ensures { λ r. ⌜ (t .names + t .nest < 128 → Ready t sizes (now (made .entry)) (now (types .entry)) (now (cells .entry))
         → Makes (now (forms .entry)) t (new u (processIn (t .nest) (now (forms .entry)) (t .at))) sizes
         (now (made .entry)) (now (made .exit)) (now (types .entry)) (now (types .exit)) (now (cells .entry)) (now (cells .exit)) r) ⌝ }
@@ -122,4 +123,34 @@ fn make_under(
         at: t.at,
     };
     make_process(forms, inner, given, made, types, cells)
+}
+
+// What the process at a thread's place makes, asked at its first form: only a parallel form and a new name want the walk.
+pub fn make(
+    forms: &[usize],
+    t: Thread,
+    sizes: Sizes,
+    made: &mut [usize],
+    types: &mut [u32],
+    cells: &mut [u32],
+) -> Sizes
+    ensures { λ r. ⌜ (Ready t sizes (now (made .entry)) (now (types .entry)) (now (cells .entry))
+        → Makes (now (forms .entry)) t (processIn (t .nest) (now (forms .entry)) (t .at)) sizes
+        (now (made .entry)) (now (made .exit)) (now (types .entry)) (now (types .exit)) (now (cells .entry)) (now (cells .exit)) r) ⌝ }
+{
+    if t.nest == 0 {
+        return sizes;
+    }
+    let item = item_at(forms, t.at);
+    let form = item.form;
+    match form {
+        Form::Nil => sizes,
+        Form::Par => make_process(forms, t, sizes, made, types, cells),
+        Form::New(_) => make_process(forms, t, sizes, made, types, cells),
+        Form::Input(_) => push(sizes, t, made),
+        Form::Output(_) => push(sizes, t, made),
+        Form::Replicate => push(sizes, t, made),
+        Form::Group(_) => sizes,
+        Form::Component(_) => sizes,
+    }
 }

@@ -44,7 +44,7 @@ fn know_first(known: &mut [bool], count: usize)
 
 // Gives the first names, one after another, their types standing from a place on; the place after these types. Cell 0 is no
 // name's, so that the cell of name i is i + 1.
-fn give_types(s: &[u8], at: usize, count: usize, types: &mut [usize], cells: &mut [usize]) -> Made
+fn give_types(s: &[u8], at: usize, count: usize, types: &mut [u32], cells: &mut [u32]) -> Made
     ensures { λ r. ⌜ GivenTypes count (now (s .entry)) at (now (types .entry)) (now (types .exit))
         (now (cells .entry)) (now (cells .exit)) r ⌝ }
 {
@@ -68,7 +68,7 @@ fn give_types(s: &[u8], at: usize, count: usize, types: &mut [usize], cells: &mu
 }
 
 // Gives the free names of a sheet.
-fn give_free(s: &[u8], types: &mut [usize], cells: &mut [usize]) -> Made
+fn give_free(s: &[u8], types: &mut [u32], cells: &mut [u32]) -> Made
     ensures { λ r. ⌜ GivenFree (now (s .entry)) (now (types .entry)) (now (types .exit))
         (now (cells .entry)) (now (cells .exit)) r ⌝ }
 {
@@ -81,8 +81,8 @@ fn make_sheet(
     s: &[u8],
     forms: &mut [usize],
     threads: &mut [usize],
-    types: &mut [usize],
-    cells: &mut [usize],
+    types: &mut [u32],
+    cells: &mut [u32],
 ) -> Sizes
     ensures { λ r. ⌜ (length (now (s .entry)) ≤ length (now (forms .entry)) → 64 ≤ length (now (threads .entry))
         → Room (now (types .entry)) (now (cells .entry))
@@ -108,9 +108,9 @@ pub fn start(
     s: &[u8],
     forms: &mut [usize],
     threads: &mut [usize],
-    types: &mut [usize],
+    types: &mut [u32],
     known: &mut [bool],
-    cells: &mut [usize],
+    cells: &mut [u32],
 ) -> Sizes
     requires { ⌜ Blank (now s) (now forms) (now threads) (now types) (now known) (now cells) ⌝ }
     ensures { λ r. ⌜ ((sheet : Sheet) (end : ℕ) → length (now (s .entry)) ≤ 4096 → readSheet (now (s .entry)) ≡ got sheet end

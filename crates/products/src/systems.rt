@@ -23,8 +23,8 @@ pub fn make_system(
     t: Thread,
     sizes: Sizes,
     made: &mut [usize],
-    types: &mut [usize],
-    cells: &mut [usize],
+    types: &mut [u32],
+    cells: &mut [u32],
 ) -> MadeSystem
     ensures { λ r. ⌜ (t .component + components (systemIn (t .nest) (now (forms .entry)) (t .at)) ≤ 32
         → Ready t sizes (now (made .entry)) (now (types .entry)) (now (cells .entry))
@@ -48,8 +48,8 @@ fn make_form(
     item: Item,
     sizes: Sizes,
     made: &mut [usize],
-    types: &mut [usize],
-    cells: &mut [usize],
+    types: &mut [u32],
+    cells: &mut [u32],
 ) -> MadeSystem
     requires { ⌜ (item ≡ itemAt (now forms) (t .at)) × (0 < t .nest) ⌝ }
     ensures { λ r. ⌜ (t .component + components (systemIn (t .nest) (now (forms .entry)) (t .at)) ≤ 32
@@ -87,8 +87,8 @@ fn make_component(
     t: Thread,
     sizes: Sizes,
     made: &mut [usize],
-    types: &mut [usize],
-    cells: &mut [usize],
+    types: &mut [u32],
+    cells: &mut [u32],
 ) -> MadeSystem
     ensures { λ r. ⌜ (t .component < 32 → (own : OwnFields) → Ready t sizes (now (made .entry)) (now (types .entry)) (now (cells .entry))
         → MakesSystem (now (forms .entry)) t (compₛ own (processIn (t .nest) (now (forms .entry)) (t .at))) sizes
@@ -114,8 +114,8 @@ fn make_par(
     second: usize,
     sizes: Sizes,
     made: &mut [usize],
-    types: &mut [usize],
-    cells: &mut [usize],
+    types: &mut [u32],
+    cells: &mut [u32],
 ) -> MadeSystem
     ensures { λ r. ⌜ (second < 8192
         → t .component + components (parₛ (systemIn (t .nest) (now (forms .entry)) (t .at)) (systemIn (t .nest) (now (forms .entry)) second)) ≤ 32
@@ -143,9 +143,10 @@ fn make_under(
     u: usize,
     sizes: Sizes,
     made: &mut [usize],
-    types: &mut [usize],
-    cells: &mut [usize],
+    types: &mut [u32],
+    cells: &mut [u32],
 ) -> MadeSystem
+    requires { ⌜ u < 4294967296 ⌝ }
     ensures { λ r. ⌜ (t .names + t .nest < 128 → t .component + components (systemIn (t .nest) (now (forms .entry)) (t .at)) ≤ 32
         → Ready t sizes (now (made .entry)) (now (types .entry)) (now (cells .entry))
         → MakesSystem (now (forms .entry)) t (newₛ u (systemIn (t .nest) (now (forms .entry)) (t .at))) sizes

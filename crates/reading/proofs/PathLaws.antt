@@ -1,9 +1,10 @@
 -- Group paths as the code keeps them, the first `len` of eight groups: how long such a path is, whether it has a group, and
 -- what it is with one group more.
-use Prim.Native.Nat.{ℕ, _+_, _<_, _≤_}
+use Prim.Native.Nat.{ℕ, _+_, _%_, _<_, _≤_}
 use mathlib.Core.Bool.{Bool, true, false}
 use mathlib.Core.List.{List, [], _∷_, _++_}
 use mathlib.Core.Path.{_≡_, refl, sym, _∙_}
+use native.Mathlib.Nat.{mod-eq-of-lt}
 use native.Mathlib.Numerals.{add-one}
 use native.Mathlib.Omega.{arith}
 use borrow.Author.Needs.{needs}
@@ -26,6 +27,10 @@ room-for-one p h = go (ltb (p .len) 8) refl
 -- With one group more at its end.
 pub one-more : (l : List ℕ) (n g : ℕ) → length l ≡ 8 → n < 8 → take (n + 1) (set l n g) ≡ take n l ++ (g ∷ [])
 one-more l n g h k = rw add-one (take-suc-set l n g (omega arith))
+
+-- The same of a group, which is stored in two bytes.
+pub group-more : (l : List ℕ) (n g : ℕ) → length l ≡ 8 → n < 8 → g < 65536 → take (n + 1) (set l n (g % 65536)) ≡ take n l ++ (g ∷ [])
+group-more l n g h k small = rw (mod-eq-of-lt small) (one-more l n g h k)
 
 pub no-more : (p : Path) (q : List ℕ) → length (p .groups) ≡ 8 → 8 ≤ p .len → ltb (length (pathOf p)) 8 ≡ true
     → pathOf p ≡ q
@@ -61,4 +66,4 @@ module _ (g : ℕ) (p : Path) (i : ℕ) (s : SoFar g p i) where
   unfolding member
   past-it k j h q = record { same = rw (here h (omega arith), ne-eqb (getD (p .groups) i 0) g q) at (s .same) }
 
-pub ruleset path-steps = (needs, room-for-one, one-more, no-more, at-first, at-end, at-eight, at-it, past-it)
+pub ruleset path-steps = (needs, room-for-one, group-more, no-more, at-first, at-end, at-eight, at-it, past-it)

@@ -12,7 +12,7 @@ use lib.Dec.{ltb}
 use lib.ListN.{length}
 use mir.Syntax.{w64}
 use mir.Val.{Fits}
-use Rattle.reading.proofs.FormLaws.{FitsSystem, system-room, system-level}
+use Rattle.reading.proofs.FormLaws.{FitsSystem, GroupNew, system-room, system-level, system-group}
 use Rattle.reading.proofs.Parts.{never}
 use Rattle.reading.proofs.TreeLaws.{system-step, system-stop}
 use Rattle.reading.specs.Read.{Read, got, refused, andThen}
@@ -184,12 +184,13 @@ module _ (d : Dialect) (s : List ℕ) (from levels bound : ℕ) (above : List �
         goes (New t) (names + 1) path so-far (p .next) h
         (counted-map so-far (deeper (names + 1) path so-far (p .next)) (λ q. newₛ t q) (λ q. refl))
 
-    pub at-group : (g : ℕ) (q : List ℕ) → p .form ≡ Group g → (ltb (length path) 8 ≡ true → q ≡ path ++ (g ∷ []))
+    pub at-group : (g : ℕ) (q : List ℕ) → p .form ≡ Group g → (ltb (length path) 8 ≡ true → g < 65536 → q ≡ path ++ (g ∷ []))
         → SystemLeft d s from levels bound above preceding (p .next) (nest - 1) names q so-far
-    unfolding systemFrom components FitsSystem
+    unfolding systemFrom components FitsSystem GroupNew
     at-group g q h i =
         let k = rw h at (system-room d s at nest names path so-far found) in
-        let z = i (lt-ltb (length path) 8 (k .1)) in
+        let n = rw h at (system-group d s at nest names path so-far found) in
+        let z = i (lt-ltb (length path) 8 (k .1)) (omega (arith, n .small)) in
         goes (Group g) names q so-far (p .next) h
         (rw (← z) (counted-map so-far (deeper names q so-far (p .next)) (λ q. groupₛ g q) (λ q. refl)))
 

@@ -80,6 +80,6 @@ pub enum FormRead {
 
 // A group path: the groups passed on the way in, the innermost last. Those past `len` count for nothing.
 pub struct Path {
-    pub groups: [usize; 8],
+    pub groups: [u16; 8],
     pub len: usize,
 }

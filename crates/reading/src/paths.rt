@@ -2,6 +2,7 @@
 ghost use mathlib.Core.Path.{_≡_};
 ghost use mathlib.Core.Bool.{true};
 ghost use mathlib.Core.List.{[], _∷_, _++_};
+ghost use Prim.Native.Nat.{_<_};
 ghost use lib.Dec.{ltb};
 ghost use lib.ListN.{length};
 ghost use Rattle.reading.specs.Forms.{member};
@@ -28,7 +29,7 @@ pub fn has(path: Path, group: usize) -> bool
         if len <= i {
             return false;
         }
-        if groups[i] == group {
+        if groups[i] as usize == group {
             return true;
         }
         i += 1;
@@ -43,14 +44,14 @@ pub fn room(path: Path) -> bool
     path.len < 8
 }
 
-// The path with one group more at its end, where there is room.
+// The path with one group more at its end, where there is room. Groups are below 64.
 pub fn with(path: Path, group: usize) -> Path
-    ensures { λ r. ⌜ (ltb (length (pathOf path)) 8 ≡ true → pathOf r ≡ pathOf path ++ (group ∷ [])) ⌝ }
+    ensures { λ r. ⌜ (ltb (length (pathOf path)) 8 ≡ true → group < 65536 → pathOf r ≡ pathOf path ++ (group ∷ [])) ⌝ }
 {
     let len = path.len;
     if len < 8 {
         let mut groups = path.groups;
-        groups[len] = group;
+        groups[len] = (group % 65536) as u16;
         Path {
             groups,
             len: len + 1,

@@ -1,29 +1,22 @@
 -- Writing a record: bytes stored one after another are a cut of the log with those bytes in it.
 use Prim.Native.Nat.{ℕ, suc, _+_, _/_, _%_, _≤_}
 use mathlib.Core.List.{List, [], _∷_, _++_, append-assoc}
-use mathlib.Core.Path.{_≡_, sym, _∙_}
+use mathlib.Core.Path.{_≡_, _∙_}
 use native.Mathlib.Numerals.{add-one}
 use native.Mathlib.Omega.{arith}
 use borrow.Author.Needs.{needs}
 use lib.ListN.{length, set, take, drop}
-use lib.Seq.{set-out, sets, sets-eq}
+use lib.Seq.{sets, sets-eq}
 use Rattle.running.specs.Moves.{word}
 use Rattle.script.specs.Told.{bytesOf, twoStored}
 use Rattle.script.specs.declared.Record.{Record}
 
--- Past the end nothing is stored.
-pub store-out : (l : List ℕ) (at v : ℕ) → length l ≤ at → l ≡ set l at v
-store-out l at v h = sym (set-out l at v h)
-
-pub two-out : (l : List ℕ) (at a b : ℕ) → length l ≤ at → l ≡ twoStored l at a b
-unfolding twoStored
-two-out l at a b h = rw (set-out l at (a % 256) h, set-out l (at + 1) (b % 256) (omega arith))
-
+-- Two stores, one after the other.
 pub two-in : (l m k : List ℕ) (at a b : ℕ) → m ≡ set l at (a % 256) → k ≡ set m (at + 1) (b % 256) → k ≡ twoStored l at a b
 unfolding twoStored
 two-in l m k at a b e f = rw (f, e)
 
-pub ruleset store-steps = (needs, store-out, two-out, two-in)
+pub ruleset store-steps = (needs, two-in)
 
 -- Two bytes, and what stands around them.
 two-eq : (l : List ℕ) (at a b : ℕ) → twoStored l at a b ≡ sets l at (a % 256 ∷ b % 256 ∷ [])

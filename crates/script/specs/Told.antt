@@ -1,5 +1,6 @@
 -- Which move and which answer of document 01 each value of the code is, and which bytes a record is.
-use Prim.Native.Nat.{ℕ, _+_, _%_}
+use Prim.Native.Nat.{ℕ, _+_, _%_, _<_}
+use mathlib.Core.Path.{_≡_}
 use mathlib.Core.List.{List, [], _∷_, _++_}
 use lib.ListN.{length, set}
 use Rattle.reading.specs.Read.{Read, got, refused}
@@ -21,15 +22,15 @@ abbrev pub moveRead : MoveRead → Read Transition
 moveRead (move-read.Found p) = got (moveOf (p .step)) (p .next)
 moveRead (move-read.Refused r) = refused (r .question) (r .at)
 
--- where a move could not be read
-abbrev pub placeOf : MoveRead → ℕ
-placeOf (move-read.Found p) = 0
-placeOf (move-read.Refused r) = r .at
+-- n is how many bytes a move has that was read from a place on; 0 where none was read
+unfoldable pub Spans : ℕ → Read Transition → ℕ → Type 0
+Spans at (got m next) n = (next ≡ at + n) × (0 < n)
+Spans at (refused question place) n = n ≡ 0
 
--- a script of which only the number of moves is kept
-unfoldable pub countedMoves : Read (List Transition) → Read ℕ
-countedMoves (got ms e) = got (length ms) e
-countedMoves (refused question at) = refused question at
+-- how many moves a script has that was read; 65,535, which none has, where question 21 fails
+unfoldable pub movesIn : Read (List Transition) → ℕ
+movesIn (got ms e) = length ms
+movesIn (refused question at) = 65535
 
 -- "A record: 00; label; channel and name, two bytes each; acting post, receiver's post." "A refused move: its number, seven zeros."
 unfoldable pub bytesOf : Record → List ℕ

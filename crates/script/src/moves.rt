@@ -1,10 +1,14 @@
 // Reads a script (question 21 of document 01): the move that stands at a place, and how many moves there are to the end.
 ghost use mathlib.Core.Path.{_≡_};
+ghost use mathlib.Core.Bool.{cond};
+ghost use Prim.Native.Nat.{_+_, _-_, _<_, _≤_};
+ghost use lib.Dec.{leb};
+ghost use lib.ListN.{length};
 ghost use Rattle.reading.specs.Read.{refused};
-ghost use Rattle.reading.specs.Told.{number, refusalOf};
+ghost use Rattle.reading.specs.Told.{refusalOf};
 ghost use Rattle.running.specs.Script.{moveAt, readScript};
 ghost use Rattle.script.specs.Fields.{unfoldAt, sendAt, receiptAt, communicationAt, environmentNameAt};
-ghost use Rattle.script.specs.Told.{moveRead, placeOf, countedMoves};
+ghost use Rattle.script.specs.Told.{moveRead, Spans, movesIn};
 use crate::Communication;
 use crate::Move;
 use crate::MovePlace;
@@ -12,7 +16,6 @@ use crate::MoveRead;
 use crate::Receipt;
 use policy::read::two_bytes;
 use reading::Dialect;
-use reading::Number;
 use reading::NumberRead;
 use reading::Refusal;
 use reading::bytes::byte_at;
@@ -138,39 +141,63 @@ pub fn move_at(s: &[u8], at: usize) -> MoveRead
     }
 }
 
-// Question 21 fails at a place.
-fn not_script(at: usize) -> NumberRead
-    ensures { λ r. ⌜ number r ≡ refused 21 at ⌝ }
+// The bytes of a move that has `len` of them; 0 where fewer are left.
+fn span(left: usize, len: usize) -> usize
+    ensures { λ r. ⌜ r ≡ cond (leb len left) len 0 ⌝ }
 {
-    NumberRead::Refused(Refusal { question: 21, at })
+    if len <= left { len } else { 0 }
 }
 
-// Where a move could not be read.
-fn stopped_at(read: MoveRead) -> usize
-    ensures { λ r. ⌜ r ≡ placeOf read ⌝ }
+// The bytes of a move whose field is a type: its code and the type; 0 where no type can be read.
+fn environment_name_span(s: &[u8], at: usize) -> usize
+    requires { ⌜ at < length (now s) ⌝ }
+    ensures { λ r. ⌜ Spans at (environmentNameAt (now (s .entry)) (at + 1)) r ⌝ }
+    ensures { λ r. ⌜ r ≤ length (now (s .entry)) - at ⌝ }
 {
-    match read {
-        MoveRead::Found(_) => 0,
-        MoveRead::Refused(r) => r.at,
+    let read = type_at(Dialect::Current, s, at + 1);
+    let NumberRead::Found(t) = read else {
+        return 0;
+    };
+    t.next - at
+}
+
+// How many bytes the move at a place has; 0 where none can be read.
+fn move_span(s: &[u8], at: usize) -> usize
+    ensures { λ r. ⌜ Spans at (moveAt (now (s .entry)) at) r ⌝ }
+    ensures { λ r. ⌜ r ≤ length (now (s .entry)) - at ⌝ }
+{
+    if s.len() <= at {
+        return 0;
+    }
+    let left = s.len() - at;
+    match s[at] {
+        1 => span(left, 2),
+        2 => span(left, 2),
+        3 => span(left, 4),
+        4 => span(left, 3),
+        5 => environment_name_span(s, at),
+        _ => 0,
     }
 }
 
-// Question 21: how many moves the script is made of, at most 1,024.
-pub fn count_moves(s: &[u8]) -> NumberRead
-    ensures { λ r. ⌜ number r ≡ countedMoves (readScript (now (s .entry))) ⌝ }
+// Question 21: how many moves the script is made of, at most 1,024; 65,535 where it fails. The bytes of each move are counted, its
+// fields are not read.
+pub fn count_moves(s: &[u8]) -> usize
+    ensures { λ r. ⌜ r ≡ movesIn (readScript (now (s .entry))) ⌝ }
+    ensures { λ r. ⌜ ((r ≡ 65535 → ⊥) → (r ≤ 1024) × (r ≤ length (now (s .entry)))) ⌝ }
 {
     let mut at: usize = 0;
     let mut n: usize = 0;
     while at != s.len() {
         if 1024 <= n {
-            return not_script(at);
+            return 65535;
         }
-        let read = move_at(s, at);
-        let MoveRead::Found(place) = read else {
-            return not_script(stopped_at(read));
-        };
-        at = place.next;
+        let len = move_span(s, at);
+        if len == 0 {
+            return 65535;
+        }
+        at += len;
         n += 1;
     }
-    NumberRead::Found(Number { value: n, next: at })
+    n
 }

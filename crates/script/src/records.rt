@@ -1,28 +1,26 @@
 // Writes a record of eight bytes into the lent log.
 ghost use mathlib.Core.Path.{_≡_};
 ghost use mathlib.Core.List.{_++_};
-ghost use Prim.Native.Nat.{_+_, _≤_, _%_};
+ghost use Prim.Native.Nat.{_+_, _<_, _≤_, _%_};
 ghost use lib.ListN.{length, set, take, drop};
 ghost use Rattle.script.specs.Told.{bytesOf, twoStored};
 use crate::Record;
 
-// Stores a byte, where there is room.
+// Stores a byte.
 fn store(log: &mut [u8], at: usize, value: usize)
+    requires { ⌜ at < length (now log) ⌝ }
     ensures { λ r. ⌜ now (log .exit) ≡ set (now (log .entry)) at (value % 256) ⌝ }
 {
-    if at < log.len() {
-        log[at] = (value % 256) as u8;
-    }
+    log[at] = (value % 256) as u8;
 }
 
-// Stores two bytes, where there is room.
+// Stores two bytes.
 fn store_two(log: &mut [u8], at: usize, first: usize, second: usize)
+    requires { ⌜ at + 1 < length (now log) ⌝ }
     ensures { λ r. ⌜ now (log .exit) ≡ twoStored (now (log .entry)) at first second ⌝ }
 {
-    if at < log.len() {
-        store(log, at, first);
-        store(log, at + 1, second);
-    }
+    store(log, at, first);
+    store(log, at + 1, second);
 }
 
 // Writes a record from a place on: its number and label, its channel, its name, its two components.

@@ -31,7 +31,7 @@ fn check_read(sheet: &[u8], charter: &[u8], table: &mut [u16], output: &mut [u8]
     requires { ⌜ Ready (now sheet) (now charter) (now table) ⌝ }
     ensures { λ r. ⌜ Checked (now (sheet .entry)) (now (charter .entry)) (now (output .entry)) (now (output .exit)) r ⌝ }
 {
-    let mut nodes = [0usize; 384];
+    let mut nodes = [0u16; 384];
     let judged = judge_read(sheet, charter, table, &mut nodes);
     if judged.fault < 64 {
         return Answer::Refused(judged.fault);

@@ -18,7 +18,7 @@ use reading::system::why_none;
 use wellformed::questions::policy_fault;
 
 // Questions 11 to 18 of a charter and a table of components whose groups are in order, with a table for the charter's nodes: the first that fails, or 64.
-fn judge_with(charter: &[u8], table: &[u16], components: usize, nodes: &mut [usize]) -> Judged
+fn judge_with(charter: &[u8], table: &[u16], components: usize, nodes: &mut [u16]) -> Judged
     requires { ⌜ (components ≤ 32) × (length (now charter) ≤ 4096) × (length (now nodes) ≡ 384) ⌝ }
     ensures { λ r. ⌜ (((n : ℕ) → n < components → Orderly (now (table .entry)) n)
         → JudgesLater (now (charter .entry)) (now (nodes .exit)) (tableRequired (now (table .entry)) components) components r) ⌝ }
@@ -65,7 +65,7 @@ fn judge_with(charter: &[u8], table: &[u16], components: usize, nodes: &mut [usi
 }
 
 // Questions 7 to 18 of a sheet that reads, with a clear table for its components and a table for the charter's nodes.
-pub fn judge_read(sheet: &[u8], charter: &[u8], table: &mut [u16], nodes: &mut [usize]) -> Judged
+pub fn judge_read(sheet: &[u8], charter: &[u8], table: &mut [u16], nodes: &mut [u16]) -> Judged
     requires { ⌜ Ready (now sheet) (now charter) (now table) × (length (now nodes) ≡ 384) ⌝ }
     ensures { λ r. ⌜ Judges (now (sheet .entry)) (now (charter .entry)) (now (table .exit)) (now (nodes .exit)) r ⌝ }
 {
@@ -89,7 +89,7 @@ pub fn first_failed(sheet: &[u8], charter: &[u8]) -> usize
     let NumberRead::Found(components) = read else {
         return refusal(read).question;
     };
-    let mut nodes = [0usize; 384];
+    let mut nodes = [0u16; 384];
     if components.value <= 4 {
         let mut few = [0u16; 844];
         let judged = judge_read(sheet, charter, &mut few, &mut nodes);

@@ -3,6 +3,7 @@ pub mod Cases
 pub mod SlackLaws
 pub mod SlackBytes
 pub mod SlackSteps
+pub mod LengthSteps
 pub mod TellSteps
 pub mod SlackSizes
 pub mod SlackCounts

@@ -1,18 +1,18 @@
--- Laws of the stored slack: how long its parts are at most, and that what is written from the tables is the definition's, since the verdicts
+-- Laws of the stored slack: how long its parts are, and that what is written from the tables is the definition's, since the verdicts
 -- found in the tables are the covering (`verdicts-for` of the crate fit).
 use Prim.Native.Nat.{ℕ, zero, suc, _+_, _-_, _*_, _<_, _≤_}
 use mathlib.Core.Path.{_≡_, refl, sym, ap, _∙_}
 use mathlib.Core.List.{List, [], _∷_, _++_, map}
-use mathlib.Core.Bool.{Bool, true, false, cond}
+use mathlib.Core.Bool.{Bool, true, false, cond, not}
 use native.Mathlib.Omega.{arith}
-use lib.ListN.{length, take, drop, getD, length-append, length-map}
+use lib.ListN.{length, take, drop, getD, length-append}
 use lib.Seq.{drop-cons}
 use Rattle.inference.specs.Lists.{only, gather, rising}
-use Rattle.inference.specs.Interface.{Permission, reading, writing, accessing, headThen, holdsAny, Required}
-use Rattle.inference.specs.Rows.{Orderly, isSet, cell, groupCount, entryAt, rowEntries, tableEntries}
+use Rattle.inference.specs.Counts.{isZero}
+use Rattle.inference.specs.Interface.{Disclosure, Permission, reading, writing, accessing, headThen, holdsAny, Required}
+use Rattle.inference.specs.Rows.{Orderly, isSet, cell, countOf, groupCount, groupAt, pathAt, disclosuresAt, entryAt, rowEntries, tableEntries}
 use Rattle.interface.proofs.WriteLaws.{partsFrom}
-use Rattle.interface.proofs.InterfaceLaws.{cond-few, head-length, path-few, parts-few, row-parts, table-parts}
-use Rattle.interface.proofs.CellLaws.{count-few}
+use Rattle.interface.proofs.InterfaceLaws.{cond-few, set-count, disclosures-few, head-length, path-few, parts-few, row-parts, table-parts}
 use Rattle.sharing.specs.Sums.{Summed}
 use Rattle.policy.specs.Syntax.{Tree}
 use Rattle.policy.specs.Loads.{AllHeld}
@@ -48,15 +48,21 @@ unfolding verdictBytes countBytes
 verdict-few (flag p granted) = omega arith
 verdict-few (counts h needed granted) = omega arith
 
-verdicts-few : (vs : List Verdict) → length (gather verdictBytes vs) ≤ 5 * length vs
-unfolding gather
-verdicts-few [] = omega arith
-verdicts-few (v ∷ vs) = omega (arith, length-append (verdictBytes v) (gather verdictBytes vs), verdict-few v, verdicts-few vs)
+-- Verdicts on so many groups.
+unfoldable pub sumsLength : ℕ → ℕ
+sumsLength zero = 0
+sumsLength (suc n) = 1 + 5 * suc n
 
-sums-few : (vs : List Verdict) → length (sumsBytes vs) ≤ 1 + 5 * length vs
-unfolding sumsBytes
-sums-few [] = omega arith
-sums-few (v ∷ vs) = omega (arith, verdicts-few (v ∷ vs))
+module _ {A : Type 0} (f : A → Verdict) (five : (x : A) → length (verdictBytes (f x)) ≡ 5) where
+  pub five-each : (l : List A) → length (gather verdictBytes (map f l)) ≡ 5 * length l
+  unfolding gather
+  five-each [] = refl
+  five-each (x ∷ l) = omega (arith, length-append (verdictBytes (f x)) (gather verdictBytes (map f l)), five x, five-each l)
+
+  sums-length : (l : List A) → length (sumsBytes (map f l)) ≡ sumsLength (length l)
+  unfolding sumsBytes sumsLength
+  sums-length [] = refl
+  sums-length (x ∷ l) = omega (arith, five-each (x ∷ l))
 
 -- Verdicts on groups are what is left without those on flags.
 flag-left-out : (p : Permission) (f : Flag) (rest : List Verdict) → only onGroup (flagVerdicts p f ++ rest) ≡ only onGroup rest
@@ -92,51 +98,45 @@ places-only c nodes rows table sums n k =
     ∙ flag-at-left-out accessing 4 c nodes rows (cell table n k 10) _
     ∙ all-on-groups (placeVerdict c nodes rows table sums n k) (λ i. unfold placeVerdict onGroup in refl) (only (λ i. isSet (cell table n k i)) (rising 0 (groupCount table n)))
 
--- An entry has at most eight of them.
-only-few : (p : ℕ → Bool) (start m : ℕ) → length (only p (rising start m)) ≤ m
-unfolding only rising
-only-few p start zero = omega arith
-only-few p start (suc m) = go (p start) (only-few p (suc start) m)
+-- An entry has one for each group that it discloses to.
+as-many : {A : Type 0} (p : ℕ → Bool) (q : A → Bool) (f : ℕ → A) → ((i : ℕ) → q (f i) ≡ p i) → (l : List ℕ) → length (only p l) ≡ length (only q (map f l))
+unfolding only
+as-many p q f h [] = refl
+as-many {A} p q f h (i ∷ l) = rw (h i) (go (p i) (only p l) (only q (map f l)) (as-many p q f h l))
   where
-    go : (b : Bool) → length (only p (rising (suc start) m)) ≤ m → length (cond b (start ∷ only p (rising (suc start) m)) (only p (rising (suc start) m))) ≤ suc m
-    go true h = omega arith
-    go false h = omega arith
+    go : (b : Bool) (xs : List ℕ) (ys : List A) → length xs ≡ length ys → length (cond b (i ∷ xs) xs) ≡ length (cond b (f i ∷ ys) ys)
+    go true xs ys e = ap suc e
+    go false xs ys e = e
 
-places-few : (c nodes rows table sums : List ℕ) (n k : ℕ) → length (only onGroup (verdictsAt c nodes rows table sums n k)) ≤ 8
-unfolding placesFrom
-places-few c nodes rows table sums n k =
+groups-length : (c nodes rows table sums : List ℕ) (n k : ℕ)
+    → length (sumsBytes (only onGroup (verdictsAt c nodes rows table sums n k))) ≡ sumsLength (length (disclosuresAt table n k))
+unfolding placesFrom disclosuresAt
+groups-length c nodes rows table sums n k =
     rw (places-only c nodes rows table sums n k)
-    (omega (
-      arith,
-      length-map (only (λ i. isSet (cell table n k i)) (rising 0 (groupCount table n))) (placeVerdict c nodes rows table sums n k),
-      only-few (λ i. isSet (cell table n k i)) 0 (groupCount table n),
-      count-few table n,
-    ))
+    (sums-length (placeVerdict c nodes rows table sums n k) (λ i. unfold placeVerdict verdictBytes countBytes in refl)
+    (only (λ i. isSet (cell table n k i)) (rising 0 (groupCount table n)))
+    ∙ ap sumsLength (as-many (λ i. isSet (cell table n k i)) (λ (d : Disclosure). not (isZero (d .count))) _ (λ i. set-count (cell table n k i)) (rising 0 (groupCount table n))))
 
-groups-few : (c nodes : List ℕ) (trees : Trees) (table sums : List ℕ) (n k : ℕ) → length (only onGroup (verdictsFor c nodes trees table sums n k)) ≤ 8
-unfolding verdictsFor
-groups-few c nodes trees table sums n k = places-few c nodes _ table sums n k
+sums-few : (n : ℕ) → n ≤ 8 → sumsLength n ≤ 41
+unfolding sumsLength
+sums-few zero h = omega arith
+sums-few (suc n) h = omega arith
 
 module _ (c nodes : List ℕ) (trees : Trees) (table sums : List ℕ) where
+  -- The length of an entry with its slack.
+  pub whole-length : (n k : ℕ) → length (headThen (entryAt table n k) (sumsBytes (only onGroup (verdictsFor c nodes trees table sums n k))))
+      ≡ 4 + (length (pathAt table n) + sumsLength (length (disclosuresAt table n k)))
+  unfolding verdictsFor
+  whole-length n k =
+      head-length (entryAt table n k) _
+      ∙ unfold entryAt in ap (λ (m : ℕ). 4 + (length (pathAt table n) + m)) (groups-length c nodes _ table sums n k)
+
   pub at-few : (n k : ℕ) → length (slackAt c nodes trees table sums n k) ≤ 53
-  unfolding slackAt entryAt
+  unfolding slackAt
   at-few n k =
-      cond-few (isSet (cell table n k 11)) (cond (holdsAny (entryAt table n k)) whole []) 53 (cond-few (holdsAny (entryAt table n k)) whole 53 few)
-    where
-      list : List ℕ
-      list = sumsBytes (only onGroup (verdictsFor c nodes trees table sums n k))
-
-      whole : List ℕ
-      whole = headThen (entryAt table n k) list
-
-      few : length whole ≤ 53
-      few = omega (
-        arith,
-        head-length (entryAt table n k) list,
-        path-few table n,
-        sums-few (only onGroup (verdictsFor c nodes trees table sums n k)),
-        groups-few c nodes trees table sums n k,
-      )
+      cond-few (isSet (cell table n k 11)) _ 53
+      (cond-few (holdsAny (entryAt table n k)) _ 53
+      (omega (arith, whole-length n k, path-few table n, sums-few (length (disclosuresAt table n k)) (disclosures-few table n k))))
 
   pub row-is : (n : ℕ) → slackRow c nodes trees table sums n ≡ partsFrom (slackAt c nodes trees table sums n) 16 0
   unfolding slackRow partsFrom

@@ -20,19 +20,15 @@ use Rattle.service.proofs.FirstLaws.{passed-reads, failed-below}
 use Rattle.service.proofs.RoomLaws.{accepted-short}
 use Rattle.slack.specs.Slack.{countBytes, verdictBytes, sumsBytes, slackEntry, slackBytes, slackFor, slackTold}
 use Rattle.slack.proofs.SlackBytes.{sumOf, group-sums}
+use Rattle.slack.proofs.SlackLaws.{five-each}
 
 module _ (policy : List Tree) (required : Required) where
   -- The sums of an entry, and the entry.
   module _ (e : Entry) where
-    five-each : (ds : List Disclosure) → length (gather verdictBytes (map (sumOf policy required e) ds)) ≡ 5 * length ds
-    unfolding gather verdictBytes countBytes sumOf
-    five-each [] = refl
-    five-each (d ∷ ds) = omega (arith, five-each ds)
-
     sums-length : (ds : List Disclosure) → length (sumsBytes (map (sumOf policy required e) ds)) ≡ length (listBytes ds) + 2 * length ds
     unfolding sumsBytes
     sums-length [] = unfold listBytes in refl
-    sums-length (d ∷ ds) = omega (arith, five-each (d ∷ ds), list-length (d ∷ ds) (λ z. absurd (omega arith)))
+    sums-length (d ∷ ds) = omega (arith, five-each (sumOf policy required e) (λ x. unfold sumOf verdictBytes countBytes in refl) (d ∷ ds), list-length (d ∷ ds) (λ z. absurd (omega arith)))
 
     slack-entry-length : length (slackEntry policy required e) ≡ length (entryBytes e) + 2 * length (e .disclose)
     unfolding slackEntry

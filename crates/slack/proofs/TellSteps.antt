@@ -2,7 +2,8 @@
 -- definition, from what questions 1 to 18 came to and the tables that they left.
 use Prim.Native.Nat.{ℕ, _<_, _≤_}
 use mathlib.Core.Path.{_≡_, refl, sym, ap, _∙_}
-use mathlib.Core.List.{List}
+use mathlib.Core.List.{List, []}
+use mathlib.Core.Bool.{Bool, false}
 use native.Mathlib.Omega.{arith}
 use lib.ListN.{length, replicate}
 use borrow.Author.Needs.{needs}
@@ -14,10 +15,12 @@ use Rattle.reading.specs.declared.NumberRead.the-variants as number-read
 use Rattle.reading.specs.declared.Refusal.{Refusal}
 use Rattle.inference.specs.Interface.{Entry, requiredOf}
 use Rattle.inference.specs.Rows.{tableEntries, tableRequired}
-use Rattle.sharing.specs.Sums.{addRows}
+use Rattle.sharing.specs.Sums.{addRows, anyShared}
+use Rattle.sharing.proofs.SharingLaws.{lone-sums}
 use Rattle.policy.specs.Loads.{Bounded}
 use Rattle.policy.specs.Syntax.{Tree}
-use Rattle.fit.proofs.EntryLaws.{all-sums}
+use Rattle.policy.specs.declared.Trees.{Trees}
+use Rattle.fit.proofs.EntryLaws.{few-sums, all-sums}
 use Rattle.service.specs.Questions.{failed, judged}
 use Rattle.service.specs.Check.{written}
 use Rattle.service.specs.Told.{HoldsPolicy, Delivered, Judges}
@@ -30,7 +33,7 @@ use Rattle.service.proofs.JudgeSteps.{unread-failed, few-ready, all-ready}
 use Rattle.service.proofs.CheckSteps.{each-byte}
 use Rattle.slack.specs.Slack.{slackBytes, slackFor, slackTold}
 use Rattle.slack.specs.Rows.{slackRows}
-use Rattle.slack.specs.Told.{Tells}
+use Rattle.slack.specs.Told.{Tells, DeliveredSlack, by-sums}
 use Rattle.slack.proofs.SlackLaws.{slack-rows}
 use Rattle.slack.proofs.SlackBytes.{slack-bytes}
 
@@ -42,17 +45,33 @@ refused-leaves s c output n e = record { answer = rw e refl; lent = rw e refl }
 same-policy : {p q : List Tree} {m n : ℕ} → got p m ≡ got q n → p ≡ q
 same-policy e = cc
 
+-- The sums that the slack is delivered by: none where no components share, else those of the classes.
+module _ (c nodes : List ℕ) (trees : Trees) (table : List ℕ) (components : ℕ) (output output′ : List ℕ) (answer : Answer) where
+  abbrev By : List ℕ → Type 0
+  By sums = Delivered (slackRows c nodes trees table sums components) output output′ answer
+
+  pub by-own : (u : Bool) → u ≡ anyShared table 0 components → u ≡ false → components ≤ 32 → By []
+      → DeliveredSlack c nodes trees table components output output′ answer
+  by-own u is off few d = by-sums [] (lone-sums table components few (sym is ∙ off)) d
+
+  pub by-few : (sums : List ℕ) → components ≤ 4 → sums ≡ addRows (replicate 516 0) table 0 components → By sums
+      → DeliveredSlack c nodes trees table components output output′ answer
+  by-few sums h made d = by-sums sums (few-sums table sums components h made) d
+
+  pub by-all : (sums : List ℕ) → components ≤ 32 → sums ≡ addRows (replicate 4128 0) table 0 components → By sums
+      → DeliveredSlack c nodes trees table components output output′ answer
+  by-all sums h made d = by-sums sums (all-sums table sums components h made) d
+
 module _ (charter table nodes : List ℕ) (r : Judged) where
   pub refuses : (output : List ℕ) → r .fault < 64 → (s : List ℕ) → Judges s charter table nodes r → Tells s charter output output (answer-case.Refused (r .fault))
   refuses output h s j = refused-leaves s charter output (r .fault) (first-fails s charter (omega (arith, j .first)) ∙ ap failed (sym (j .first)))
 
   -- What is delivered is the slack, since the tables hold the sheet's interface and the charter's trees.
-  pub delivers : (output output′ sums : List ℕ) (answer : Answer) → 64 ≤ r .fault → length (r .trees .kinds) ≡ 16
-      → sums ≡ addRows (replicate 4128 0) table 0 (r .components)
-      → Delivered (slackRows charter nodes (r .trees) table sums (r .components)) output output′ answer
+  pub delivers : (output output′ : List ℕ) (answer : Answer) → 64 ≤ r .fault → length (r .trees .kinds) ≡ 16
+      → DeliveredSlack charter nodes (r .trees) table (r .components) output output′ answer
       → (s : List ℕ) → Judges s charter table nodes r → Tells s charter output output′ answer
   unfolding slackTold slackFor
-  delivers output output′ sums answer h kinds made d s j = record {
+  delivers output output′ answer h kinds (by-sums sums summed d) s j = record {
     answer = rw (p .passes) (here .answer);
     lent = rw (p .passes) (here .lent (each-byte (slack-bytes s charter (p .accepted) (p .passes))));
   }
@@ -75,7 +94,7 @@ module _ (charter table nodes : List ℕ) (r : Judged) where
       written-is : slackRows charter nodes (r .trees) table sums (r .components) ≡ slackBytes (p .accepted .policy) (requiredOf (p .accepted .sheet))
       written-is = unfold slackBytes in
           slack-rows charter nodes (r .trees) (trees .policy) (trees .held) (trees .bounded .few) kinds table sums (tableRequired table (r .components)) (r .components)
-          (j .orderly (omega arith)) (all-sums table sums (r .components) (j .few) made (j .orderly (omega arith)))
+          (j .orderly (omega arith)) (summed (j .orderly (omega arith)))
           ∙ rw (policy-is, required-is, entries-are) refl
 
       here : Delivered (slackBytes (p .accepted .policy) (requiredOf (p .accepted .sheet))) output output′ answer
@@ -93,4 +112,4 @@ pub unread-refused : (s c output : List ℕ) (r : NumberRead) (q w : Refusal) �
     → w ≡ refusalOf r → Tells s c output output (answer-case.Refused (w .question))
 unread-refused s c output r q w e f h = refused-leaves s c output (w .question) (unread-failed s c r e q w f h)
 
-pub ruleset telling = (needs, refuses, delivers, trees-bounded, read-tells, unread-refused, few-ready, all-ready)
+pub ruleset telling = (needs, by-own, by-few, by-all, refuses, delivers, trees-bounded, read-tells, unread-refused, few-ready, all-ready)

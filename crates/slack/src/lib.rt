@@ -15,7 +15,11 @@ ghost use Rattle.fit.specs.Covers.{sumVerdict, sumVerdicts, verdictsOf};
 ghost use Rattle.service.specs.Told.{Ready, Delivered, Judges};
 ghost use Rattle.slack.specs.Slack.{countBytes, verdictBytes, onGroup, sumsBytes};
 ghost use Rattle.slack.specs.Rows.{slackAt, slackRow, slackRows};
-ghost use Rattle.slack.specs.Told.{Tells};
+ghost use Rattle.slack.specs.Told.{Tells, DeliveredSlack};
+
+pub mod lengths;
+
+use crate::lengths::slack_len;
 use fit::Covering;
 use fit::Sum;
 use fit::Sums;
@@ -32,6 +36,7 @@ use reading::system::read;
 use service::Answer;
 use service::Judged;
 use service::judging::judge_read;
+use sharing::any_shared;
 use sharing::sum_classes;
 
 // A sum as it is stored: 65,535 is unlimited.
@@ -113,7 +118,7 @@ fn put_entry(
 // Writes the entry of a component and a kind, where there is one.
 fn put_kind(
     c: &[u8],
-    nodes: &[usize],
+    nodes: &[u16],
     trees: Trees,
     table: &[u16],
     sums: &[u32],
@@ -136,7 +141,7 @@ fn put_kind(
 // Writes the entries of a component.
 fn put_row(
     c: &[u8],
-    nodes: &[usize],
+    nodes: &[u16],
     trees: Trees,
     table: &[u16],
     sums: &[u32],
@@ -157,11 +162,10 @@ fn put_row(
     next
 }
 
-// Writes the slack from the output's first byte on; the number of bytes written. Into no memory at all nothing is stored: that tells how
-// many there are.
+// Writes the slack from the output's first byte on; the number of bytes written.
 fn write_slack(
     c: &[u8],
-    nodes: &[usize],
+    nodes: &[u16],
     trees: Trees,
     table: &[u16],
     sums: &[u32],
@@ -181,10 +185,10 @@ fn write_slack(
     next
 }
 
-// Question 19, and the slack.
+// Question 19, and the slack, by the sums of the classes.
 fn deliver(
     c: &[u8],
-    nodes: &[usize],
+    nodes: &[u16],
     trees: Trees,
     table: &[u16],
     sums: &[u32],
@@ -195,8 +199,7 @@ fn deliver(
     ensures { λ r. ⌜ Delivered (slackRows (now (c .entry)) (now (nodes .entry)) trees (now (table .entry)) (now (sums .entry)) components)
         (now (output .entry)) (now (output .exit)) r ⌝ }
 {
-    let mut nowhere = [0u8; 0];
-    let len = write_slack(c, nodes, trees, table, sums, components, &mut nowhere);
+    let len = slack_len(table, components);
     if output.len() < len {
         return Answer::Refused(19);
     }
@@ -204,10 +207,53 @@ fn deliver(
     Answer::Accepted(len)
 }
 
+// The same with the sums made first, in clear memory.
+fn deliver_shared(
+    c: &[u8],
+    nodes: &[u16],
+    trees: Trees,
+    table: &[u16],
+    components: usize,
+    output: &mut [u8],
+) -> Answer
+    requires { ⌜ (components ≤ 32) × Bounded trees × (length (now nodes) ≡ 384) ⌝ }
+    ensures { λ r. ⌜ DeliveredSlack (now (c .entry)) (now (nodes .entry)) trees (now (table .entry)) components
+        (now (output .entry)) (now (output .exit)) r ⌝ }
+{
+    if components <= 4 {
+        let mut few = [0u32; 516];
+        sum_classes(table, components, &mut few);
+        return deliver(c, nodes, trees, table, &few, components, output);
+    }
+    let mut sums = [0u32; 4128];
+    sum_classes(table, components, &mut sums);
+    deliver(c, nodes, trees, table, &sums, components, output)
+}
+
+// The same for any components. Where none of them share a count, no sums are made.
+fn deliver_slack(
+    c: &[u8],
+    nodes: &[u16],
+    trees: Trees,
+    table: &[u16],
+    components: usize,
+    output: &mut [u8],
+) -> Answer
+    requires { ⌜ (components ≤ 32) × Bounded trees × (length (now nodes) ≡ 384) ⌝ }
+    ensures { λ r. ⌜ DeliveredSlack (now (c .entry)) (now (nodes .entry)) trees (now (table .entry)) components
+        (now (output .entry)) (now (output .exit)) r ⌝ }
+{
+    if any_shared(table, components) {
+        return deliver_shared(c, nodes, trees, table, components, output);
+    }
+    let none = [0u32; 0];
+    deliver(c, nodes, trees, table, &none, components, output)
+}
+
 // What `slack` answers, from what questions 1 to 18 came to and the tables that they left.
 pub fn slack_judged(
     charter: &[u8],
-    nodes: &[usize],
+    nodes: &[u16],
     table: &[u16],
     judged: Judged,
     output: &mut [u8],
@@ -219,14 +265,11 @@ pub fn slack_judged(
     if judged.fault < 64 {
         return Answer::Refused(judged.fault);
     }
-    let mut sums = [0u32; 4128];
-    sum_classes(table, judged.components, &mut sums);
-    deliver(
+    deliver_slack(
         charter,
         nodes,
         judged.trees,
         table,
-        &sums,
         judged.components,
         output,
     )
@@ -237,7 +280,7 @@ fn slack_read(sheet: &[u8], charter: &[u8], table: &mut [u16], output: &mut [u8]
     requires { ⌜ Ready (now sheet) (now charter) (now table) ⌝ }
     ensures { λ r. ⌜ Tells (now (sheet .entry)) (now (charter .entry)) (now (output .entry)) (now (output .exit)) r ⌝ }
 {
-    let mut nodes = [0usize; 384];
+    let mut nodes = [0u16; 384];
     let judged = judge_read(sheet, charter, table, &mut nodes);
     slack_judged(charter, &nodes, table, judged, output)
 }

@@ -53,14 +53,15 @@ wider-tables w z threads made types cells cells₁ cell env name e f t = record 
   thread-room = t .thread-room;
   made-room = t .made-room;
   type-room = t .type-room;
-  cell-room = ap length f ∙ bound-length cells cell env name ∙ t .cell-room;
+  cell-room = omega (arith, ap length f, bound-length cells cell env name, t .cell-room);
 }
 
 -- A cell more in use.
-pub holds-cell : (forms : List ℕ) (z : Sizes) (turns : ℕ) (threads types : List ℕ) (known : List Bool) (cells : List ℕ) (state : State) (env name : ℕ) → turns ≤ 1275
+pub holds-cell : (forms : List ℕ) (z : Sizes) (turns : ℕ) (threads types : List ℕ) (known : List Bool) (cells : List ℕ) (state : State) (env name : ℕ)
+    → length cells ≤ 2304 → turns + 1029 ≤ length cells
     → Holds forms z turns threads types known cells state → Holds forms (withCell z) (turns + 1) threads types known (bound cells (z .cells) env name) state
 unfolding withCell
-holds-cell forms z turns threads types known cells state env name few h =
+holds-cell forms z turns threads types known cells state env name room few h =
     rw (lt-ltb (z .cells) 2304 (omega (arith, h .slack, h .given))) (record {
       few = h .few;
       given = h .given;
@@ -78,7 +79,7 @@ module _ (forms : List ℕ) (t : Place) (act : Action) (m : Receipt) (z : Sizes)
   abbrev process : Place
   process = record { component = t .component; env = z .cells; names = t .names + 1; nest = t .nest - 1; at = act .next % 8192 }
 
-  pub receive-on-step : length cells ≡ 2304 → follows ≡ continuationOf t (act .next) → body ≡ underCell follows (z .cells)
+  pub receive-on-step : length cells ≤ 2304 → follows ≡ continuationOf t (act .next) → body ≡ underCell follows (z .cells)
       → wider ≡ withCell z → cells₁ ≡ bound cells (z .cells) (t .env) (m .name)
       → Replacing forms body (m .thread) (m .thread + 1) wider threads types cells₁ threads′ types′ cells′ placed
       → r ≡ outcomeOf placed (record { number = 0; label = 2; channel = act .channel; name = m .name; actor = t .component; receiver = 255 })
@@ -89,9 +90,9 @@ module _ (forms : List ℕ) (t : Place) (act : Action) (m : Receipt) (z : Sizes)
       let wider-is : wider ≡ record { threads = z .threads; names = z .names; cells = z .cells + 1 }
       = unfold withCell in rw (ew, lt-ltb (z .cells) 2304 (omega (arith, holds .slack, holds .given))) refl in
       let fits : Ranged process (wider .cells) = rw wider-is (record { component = a .small; scope = omega arith; deep = omega (arith, a .deep); place = mod-lt (act .next) (lit< tt); env = omega arith }) in
-      let held : Holds forms wider (turns + 1) threads types known cells₁ state = rw (ew, ec) (holds-cell forms z turns threads types known cells state (t .env) (m .name) few holds) in
+      let held : Holds forms wider (turns + 1) threads types known cells₁ state = rw (ew, ec) (holds-cell forms z turns threads types known cells state (t .env) (m .name) cells-room few holds) in
       let rs : Replaces forms process (m .thread) (m .thread + 1) wider (turns + 1) threads′ types′ known cells₁ cells′ state (u .component) placed
-      = rw process-is at (replacing state (u .component) (turns + 1) known (omega arith) room (a .component ∙ ap (λ p. p .component) (sym process-is)) (rw process-is fits) held) in
+      = rw process-is at (replacing state (u .component) (turns + 1) known (omega (arith, ap length ec, bound-length cells (z .cells) (t .env) (m .name))) room (a .component ∙ ap (λ p. p .component) (sym process-is)) (rw process-is fits) held) in
       let names-are : chain cells₁ (t .names + 1) (z .cells) ≡ u .names ++ (m .name ∷ [])
       = rw ec (chain-bound cells (t .names) (z .cells) (t .env) (m .name) (a .env) (omega (arith, holds .slack, holds .given)) (omega (arith, holds .slack, holds .given)) small)
       ∙ ap (λ ns. ns ++ (m .name ∷ [])) (sym (a .names)) in

@@ -1,5 +1,5 @@
 -- The move that a code names, return by return.
-use Prim.Native.Nat.{ℕ, _+_}
+use Prim.Native.Nat.{ℕ, _+_, _<_}
 use mathlib.Core.Path.{_≡_}
 use mathlib.Core.List.{List}
 use mathlib.Core.Bool.{Bool}
@@ -15,7 +15,7 @@ use Rattle.script.specs.declared.Receipt.{Receipt}
 use Rattle.products.specs.declared.Sizes.{Sizes}
 use Rattle.products.specs.Held.{Holds}
 use Rattle.transitions.specs.declared.Moved.{Moved}
-use Rattle.transitions.specs.Steps.{Answers, Stepped, SteppedAny}
+use Rattle.transitions.specs.Steps.{TypeFits, Answers, Stepped, SteppedAny}
 
 module _ (forms : List ℕ) (m : Move) (z : Sizes) (threads types : List ℕ) (known : List Bool) (cells : List ℕ) where
   abbrev Told : List ℕ → List ℕ → List Bool → List ℕ → Moved → Type 0
@@ -51,4 +51,8 @@ module _ (forms : List ℕ) (m : Move) (z : Sizes) (threads types : List ℕ) (k
   unfolding step moveOf
   step-environment types′ known′ r t e room f state turns few h = rw e (f forms threads cells state turns room h)
 
-pub ruleset step-steps = (needs, step-unfold, step-send, step-receive, step-communicate, step-environment)
+pub brought-fits : (m : Move) (t : ℕ) → TypeFits m → m ≡ move.EnvironmentName t → t < 4294967296
+unfolding TypeFits
+brought-fits m t h e = rw e at h
+
+pub ruleset step-steps = (needs, brought-fits, step-unfold, step-send, step-receive, step-communicate, step-environment)

@@ -1,4 +1,4 @@
--- A move's answer: the state that memory holds afterwards, and the record.
+-- What a move asks, and its answer: the state that memory holds afterwards, and the record.
 use Prim.Native.Nat.{ℕ, _+_, _-_, _%_, _<_, _≤_}
 use mathlib.Core.Path.{_≡_}
 use mathlib.Core.List.{List, [], _∷_, _++_}
@@ -15,12 +15,22 @@ use Rattle.memory.specs.declared.Thread.{Thread as Place}
 use Rattle.script.specs.Told.{bytesOf}
 use Rattle.script.specs.declared.Record.{Record}
 use Rattle.script.specs.declared.Communication.{Communication}
+use Rattle.script.specs.declared.Move.{Move}
+use Rattle.script.specs.declared.Move.the-variants as move
 use Rattle.script.specs.declared.Receipt.{Receipt}
 use Rattle.products.specs.declared.Sizes.{Sizes}
 use Rattle.products.specs.Held.{Holds}
 use Rattle.continuations.specs.declared.Action.{Action}
 use Rattle.transitions.specs.declared.Moved.{Moved}
 use Rattle.continuations.specs.declared.Placed.{Placed}
+
+-- A type that a move brings fits the table of types.
+unfoldable pub TypeFits : Move → Type 0
+TypeFits (move.Unfold i) = Unit {0}
+TypeFits (move.SendOut i) = Unit {0}
+TypeFits (move.ReceiveIn p) = Unit {0}
+TypeFits (move.Communicate p) = Unit {0}
+TypeFits (move.EnvironmentName t) = t < 4294967296
 
 pub record Answers (forms : List ℕ) (turns : ℕ) (threads types : List ℕ) (known : List Bool) (cells : List ℕ) (state : State)
     (result : Result) (r : Moved) : Type 0 where
@@ -52,31 +62,31 @@ pub record Acts (forms cells : List ℕ) (top : ℕ) (p : Place) (u : Thread) : 
   pub names : u .names ≡ chain cells (p .names) (p .env)
   pub process : u .process ≡ processIn (p .nest) forms (p .at)
 
--- What a move promises: from every state that memory holds, at most 1,275 turns into a run, it answers `f` of that state. Memory
+-- What a move promises: from every state that memory holds, with cells for one turn more, it answers `f` of that state. Memory
 -- is the tables of threads, types, known names and cells, first before the move and then after it.
 abbrev pub Stepped : List ℕ → Sizes → List ℕ → List ℕ → List Bool → List ℕ → List ℕ → List ℕ → List Bool → List ℕ → (State → Result)
     → Moved → Type 0
 Stepped forms z threads types known cells threads′ types′ known′ cells′ f r =
-    (state : State) (turns : ℕ) → turns ≤ 1275 → Holds forms z turns threads types known cells state
+    (state : State) (turns : ℕ) → turns + 1029 ≤ length cells → Holds forms z turns threads types known cells state
     → Answers forms (turns + 1) threads′ types′ known′ cells′ state (f state) r
 
 -- The same of a move that is not lent what is known, whatever that is.
 abbrev pub SteppedAny : List ℕ → Sizes → List ℕ → List ℕ → List ℕ → List ℕ → List ℕ → List ℕ → (State → Result) → Moved → Type 0
 SteppedAny forms z threads types cells threads′ types′ cells′ f r =
-    (state : State) (turns : ℕ) (known : List Bool) → turns ≤ 1275 → length known ≡ 1024
+    (state : State) (turns : ℕ) (known : List Bool) → turns + 1029 ≤ length cells → length known ≡ 1024
     → Holds forms z turns threads types known cells state → Answers forms (turns + 1) threads′ types′ known cells′ state (f state) r
 
 -- The same two, where the thread `u` at index i stands at a place.
 abbrev pub Acted : List ℕ → Sizes → Place → ℕ → Thread → List ℕ → List ℕ → List Bool → List ℕ → List ℕ → List ℕ → List Bool → List ℕ
     → (State → Result) → Moved → Type 0
 Acted forms z t i u threads types known cells threads′ types′ known′ cells′ f r =
-    (state : State) (turns : ℕ) → turns ≤ 1275 → Acts forms cells (z .cells) t u → getElem? (state .threads) i ≡ some u
+    (state : State) (turns : ℕ) → turns + 1029 ≤ length cells → Acts forms cells (z .cells) t u → getElem? (state .threads) i ≡ some u
     → Holds forms z turns threads types known cells state → Answers forms (turns + 1) threads′ types′ known′ cells′ state (f state) r
 
 abbrev pub ActedAny : List ℕ → Sizes → Place → ℕ → Thread → List ℕ → List ℕ → List ℕ → List ℕ → List ℕ → List ℕ → (State → Result)
     → Moved → Type 0
 ActedAny forms z t i u threads types cells threads′ types′ cells′ f r =
-    (state : State) (turns : ℕ) (known : List Bool) → turns ≤ 1275 → length known ≡ 1024
+    (state : State) (turns : ℕ) (known : List Bool) → turns + 1029 ≤ length cells → length known ≡ 1024
     → Acts forms cells (z .cells) t u → getElem? (state .threads) i ≡ some u
     → Holds forms z turns threads types known cells state → Answers forms (turns + 1) threads′ types′ known cells′ state (f state) r
 
@@ -84,7 +94,7 @@ ActedAny forms z t i u threads types cells threads′ types′ cells′ f r =
 abbrev pub Met : List ℕ → Sizes → Communication → Place → Place → Thread → Thread → List ℕ → List ℕ → List ℕ → List ℕ → List ℕ → List ℕ
     → Moved → Type 0
 Met forms z m t u v w threads types cells threads′ types′ cells′ r =
-    (state : State) (turns : ℕ) (known : List Bool) → turns ≤ 1275 → length known ≡ 1024
+    (state : State) (turns : ℕ) (known : List Bool) → turns + 1029 ≤ length cells → length known ≡ 1024
     → Acts forms cells (z .cells) t v → Acts forms cells (z .cells) u w
     → getElem? (state .threads) (m .sender) ≡ some v → getElem? (state .threads) (m .receiver) ≡ some w
     → Holds forms z turns threads types known cells state

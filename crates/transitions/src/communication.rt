@@ -30,8 +30,8 @@ fn communicate_both(
     sizes: Sizes,
     threads: &mut [usize],
     made: &mut [usize],
-    types: &mut [usize],
-    cells: &mut [usize],
+    types: &mut [u32],
+    cells: &mut [u32],
 ) -> Moved
     requires { ⌜ (m .sender < sizes .threads) × (m .receiver < sizes .threads)
         × Tables sizes (now threads) (now made) (now types) (now cells) ⌝ }
@@ -78,8 +78,8 @@ fn communicate_sender(
     sizes: Sizes,
     threads: &mut [usize],
     made: &mut [usize],
-    types: &mut [usize],
-    cells: &mut [usize],
+    types: &mut [u32],
+    cells: &mut [u32],
 ) -> Moved
     requires { ⌜ (m .sender < sizes .threads) × (m .receiver < sizes .threads)
         × Tables sizes (now threads) (now made) (now types) (now cells) ⌝ }
@@ -117,8 +117,8 @@ fn communicate_threads(
     sizes: Sizes,
     threads: &mut [usize],
     made: &mut [usize],
-    types: &mut [usize],
-    cells: &mut [usize],
+    types: &mut [u32],
+    cells: &mut [u32],
 ) -> Moved
     requires { ⌜ (m .sender < sizes .threads) × (m .receiver < sizes .threads)
         × Tables sizes (now threads) (now made) (now types) (now cells) ⌝ }
@@ -152,8 +152,8 @@ pub fn communicate(
     sizes: Sizes,
     threads: &mut [usize],
     made: &mut [usize],
-    types: &mut [usize],
-    cells: &mut [usize],
+    types: &mut [u32],
+    cells: &mut [u32],
 ) -> Moved
     requires { ⌜ Tables sizes (now threads) (now made) (now types) (now cells) ⌝ }
     ensures { λ r. ⌜ SteppedAny (now (forms .entry)) sizes (now (threads .entry)) (now (types .entry)) (now (cells .entry))

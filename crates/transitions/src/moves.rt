@@ -4,7 +4,7 @@ ghost use lib.ListN.{length};
 ghost use Rattle.running.specs.Moves.{step as stepOf};
 ghost use Rattle.script.specs.Told.{moveOf};
 ghost use Rattle.continuations.specs.Places.{Tables};
-ghost use Rattle.transitions.specs.Steps.{Stepped};
+ghost use Rattle.transitions.specs.Steps.{TypeFits, Stepped};
 use crate::Moved;
 use crate::communication::communicate;
 use crate::environment::environment_name;
@@ -21,11 +21,11 @@ pub fn step(
     sizes: Sizes,
     threads: &mut [usize],
     made: &mut [usize],
-    types: &mut [usize],
+    types: &mut [u32],
     known: &mut [bool],
-    cells: &mut [usize],
+    cells: &mut [u32],
 ) -> Moved
-    requires { ⌜ Tables sizes (now threads) (now made) (now types) (now cells) × (length (now known) ≡ 1024) ⌝ }
+    requires { ⌜ Tables sizes (now threads) (now made) (now types) (now cells) × (length (now known) ≡ 1024) × TypeFits m ⌝ }
     ensures { λ r. ⌜ Stepped (now (forms .entry)) sizes
         (now (threads .entry)) (now (types .entry)) (now (known .entry)) (now (cells .entry))
         (now (threads .exit)) (now (types .exit)) (now (known .exit)) (now (cells .exit)) (λ state. stepOf state (moveOf m)) r ⌝ }

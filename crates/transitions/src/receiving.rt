@@ -35,8 +35,8 @@ fn receive_on(
     sizes: Sizes,
     threads: &mut [usize],
     made: &mut [usize],
-    types: &mut [usize],
-    cells: &mut [usize],
+    types: &mut [u32],
+    cells: &mut [u32],
 ) -> Moved
     requires { ⌜ (m .thread < sizes .threads) × Tables sizes (now threads) (now made) (now types) (now cells) ⌝ }
     ensures { λ r. ⌜ ((u : Running) → t .names + (t .nest - 1) < 128 → m .name < 65536
@@ -80,9 +80,9 @@ fn receive_at(
     sizes: Sizes,
     threads: &mut [usize],
     made: &mut [usize],
-    types: &mut [usize],
+    types: &mut [u32],
     known: &[bool],
-    cells: &mut [usize],
+    cells: &mut [u32],
 ) -> Moved
     requires { ⌜ (m .thread < sizes .threads)
         × Tables sizes (now threads) (now made) (now types) (now cells) × (length (now known) ≡ 1024) ⌝ }
@@ -112,9 +112,9 @@ pub fn receive_in(
     sizes: Sizes,
     threads: &mut [usize],
     made: &mut [usize],
-    types: &mut [usize],
+    types: &mut [u32],
     known: &[bool],
-    cells: &mut [usize],
+    cells: &mut [u32],
 ) -> Moved
     requires { ⌜ Tables sizes (now threads) (now made) (now types) (now cells) × (length (now known) ≡ 1024) ⌝ }
     ensures { λ r. ⌜ Stepped (now (forms .entry)) sizes

@@ -53,9 +53,9 @@ fn send_at(
     sizes: Sizes,
     threads: &mut [usize],
     made: &mut [usize],
-    types: &mut [usize],
+    types: &mut [u32],
     known: &mut [bool],
-    cells: &mut [usize],
+    cells: &mut [u32],
 ) -> Moved
     requires { ⌜ (i < sizes .threads)
         × Tables sizes (now threads) (now made) (now types) (now cells) × (length (now known) ≡ 1024) ⌝ }
@@ -89,9 +89,9 @@ pub fn send_out(
     sizes: Sizes,
     threads: &mut [usize],
     made: &mut [usize],
-    types: &mut [usize],
+    types: &mut [u32],
     known: &mut [bool],
-    cells: &mut [usize],
+    cells: &mut [u32],
 ) -> Moved
     requires { ⌜ Tables sizes (now threads) (now made) (now types) (now cells) × (length (now known) ≡ 1024) ⌝ }
     ensures { λ r. ⌜ Stepped (now (forms .entry)) sizes

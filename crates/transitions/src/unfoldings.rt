@@ -27,8 +27,8 @@ fn unfold_at(
     sizes: Sizes,
     threads: &mut [usize],
     made: &mut [usize],
-    types: &mut [usize],
-    cells: &mut [usize],
+    types: &mut [u32],
+    cells: &mut [u32],
 ) -> Moved
     requires { ⌜ (i < sizes .threads) × Tables sizes (now threads) (now made) (now types) (now cells) ⌝ }
     ensures { λ r. ⌜ ((u : Running) → asRepeat (u .process) ≡ repeatOf (now (forms .entry)) t (Prefix.Repeats next)
@@ -66,8 +66,8 @@ pub fn unfold_replication(
     sizes: Sizes,
     threads: &mut [usize],
     made: &mut [usize],
-    types: &mut [usize],
-    cells: &mut [usize],
+    types: &mut [u32],
+    cells: &mut [u32],
 ) -> Moved
     requires { ⌜ Tables sizes (now threads) (now made) (now types) (now cells) ⌝ }
     ensures { λ r. ⌜ SteppedAny (now (forms .entry)) sizes (now (threads .entry)) (now (types .entry)) (now (cells .entry))

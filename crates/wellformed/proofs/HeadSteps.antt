@@ -1,9 +1,10 @@
 -- Questions 13 and 14 over the rows of a tree, row by row: the groups on the way down are kept by depth, and for each group the row
 -- after its last node. To compare a node with the last of its group is to compare it with all before it, since those are all the same.
-use Prim.Native.Nat.{ℕ, zero, suc, _+_, _-_, _<_, _≤_}
+use Prim.Native.Nat.{ℕ, zero, suc, _+_, _-_, _%_, _<_, _≤_}
 use mathlib.Core.Bool.{Bool, true, false, cond, not, _&&_, _||_, and-true}
 use mathlib.Core.List.{List, [], _∷_, _++_}
 use mathlib.Core.Path.{_≡_, refl, sym, _∙_}
+use native.Mathlib.Nat.{mod-eq-of-lt}
 use native.Mathlib.Numerals.{add-one, sub-one}
 use native.Mathlib.Omega.{arith}
 use borrow.Author.Tests.{not-true, not-false, eq-eqb, ne-eqb, eqb-true, eqb-false}
@@ -138,13 +139,17 @@ module _ (c nodes : List ℕ) (start to : ℕ) (last groups : List ℕ) (i : ℕ
           go true z = rw (← eqb-true (n .group) g z, getD-set-same last (n .group) (i + 1) 0 (omega (arith, group-small nodes i n e, s .long))) (omega arith)
           go false z = rw (getD-set-other last (n .group) g (i + 1) 0 (λ y. eqb-false (n .group) g z (sym y))) (omega (arith, s .rows g x))
 
-      pub heads-next : fault ≡ 0 → HeadsLeft c nodes start to (set last (n .group) (i + 1)) (set groups (n .depth) (n .group)) (i + 1)
-      heads-next k = record {
+      pub heads-next : fault ≡ 0
+          → HeadsLeft c nodes start to (set last (n .group) (i + 1)) (set groups (n .depth) (n .group % 65536)) (i + 1)
+      heads-next k = rw (mod-eq-of-lt small) (record {
         long = length-set last (n .group) (i + 1) ∙ s .long;
         earlier = s .earlier ++ (flatOf c n .head ∷ []);
         answers = rw e (answers-next c nodes (s .earlier) last i (s .long) (s .answers) (same-is ∙ same-here r f k));
         rows = rows-next;
         same = rw (eq-eqb fault 0 k) at fault-is;
-      }
+      })
+        where
+          small : n .group < 65536
+          small = omega (arith, group-small nodes i n e)
 
 pub ruleset head-steps = (node-steps, none-before, one-before, heads-start, heads-end, last-row, fault-14, fault-none, fault-13, heads-fail, heads-next)

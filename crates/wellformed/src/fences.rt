@@ -13,7 +13,7 @@ use policy::nodes::node_at;
 use reading::bytes::byte_in;
 
 // The groups of a node and of the nodes below it, marked by 1.
-fn marked(nodes: &[usize], row: usize, to: usize) -> [usize; 64]
+fn marked(nodes: &[u16], row: usize, to: usize) -> [usize; 64]
     requires { ⌜ (row < to) × (to ≤ 64) ⌝ }
     ensures { λ r. ⌜ ((c : List ℕ) (h : ℕ) → h < 64 → isMarked r h ≡ member h (fenceOf (flats c (now (nodes .entry)) row (to - row)))) ⌝ }
 {
@@ -54,7 +54,7 @@ fn list_marked(c: &[u8], p: Permissions, marks: [usize; 64]) -> bool
 }
 
 // Is every group disclosed to by the nodes below a row marked?
-fn kept_below(c: &[u8], nodes: &[usize], row: usize, to: usize, marks: [usize; 64]) -> bool
+fn kept_below(c: &[u8], nodes: &[u16], row: usize, to: usize, marks: [usize; 64]) -> bool
     requires { ⌜ (row < to) × (to ≤ 64) ⌝ }
     ensures { λ r. ⌜ r ≡ allMarked marks
         (disclosedTo (headsIn (belowIn (nodeAt (now (nodes .entry)) row .depth)
@@ -76,7 +76,7 @@ fn kept_below(c: &[u8], nodes: &[usize], row: usize, to: usize, marks: [usize; 6
 }
 
 // Where a row's node has nondisclose: is every group disclosed to below it a group of it or of a node below it?
-fn keeps_within(c: &[u8], nodes: &[usize], row: usize, to: usize) -> bool
+fn keeps_within(c: &[u8], nodes: &[u16], row: usize, to: usize) -> bool
     requires { ⌜ (row < to) × (to ≤ 64) ⌝ }
     ensures { λ r. ⌜ r ≡ keptIn (flatOf (now (c .entry)) (nodeAt (now (nodes .entry)) row))
         (belowIn (nodeAt (now (nodes .entry)) row .depth) (flats (now (c .entry)) (now (nodes .entry)) (row + 1) (to - (row + 1)))) ⌝ }
@@ -89,7 +89,7 @@ fn keeps_within(c: &[u8], nodes: &[usize], row: usize, to: usize) -> bool
 }
 
 // 15 in one tree.
-pub fn fenced(c: &[u8], nodes: &[usize], tree: Span) -> bool
+pub fn fenced(c: &[u8], nodes: &[u16], tree: Span) -> bool
     requires { ⌜ tree .to ≤ 64 ⌝ }
     ensures { λ r. ⌜ r ≡ allKept (flats (now (c .entry)) (now (nodes .entry)) (tree .from) (tree .to - tree .from)) ⌝ }
 {

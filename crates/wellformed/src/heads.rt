@@ -64,7 +64,7 @@ fn same_permissions(c: &[u8], p: Permissions, q: Permissions) -> bool
 
 // 14 at one node: the same map, list and purposes as at the last node of its group before it, whose row is the one before
 // `next`? Where `next` is 0 there is no such node.
-fn same_as_last(c: &[u8], nodes: &[usize], next: usize, node: Node) -> bool
+fn same_as_last(c: &[u8], nodes: &[u16], next: usize, node: Node) -> bool
     requires { ⌜ (next ≤ 64) × (node .permissions .list < 8192) ⌝ }
     ensures { λ r. ⌜ r ≡ sameAsLast (now (c .entry)) (now (nodes .entry)) next (permissionsOf (now (c .entry)) (node .permissions)) ⌝ }
 {
@@ -85,14 +85,14 @@ fn node_fault(same: bool, fresh: bool) -> usize
 }
 
 // 13 and 14 in one tree, node after node: the question that the first node with a fault fails, or 0.
-pub fn heads_fault(c: &[u8], nodes: &[usize], tree: Span) -> usize
+pub fn heads_fault(c: &[u8], nodes: &[u16], tree: Span) -> usize
     requires { ⌜ tree .to ≤ 64 ⌝ }
     ensures { λ r. ⌜ r ≡ headsFault (replicate 8 0) [] (flats (now (c .entry)) (now (nodes .entry)) (tree .from) (tree .to - tree .from)) ⌝ }
 {
     // by group, the row after its last node
     let mut last = [0usize; 64];
     // by depth, the groups on the way down
-    let mut groups = [0usize; 8];
+    let mut groups = [0u16; 8];
     let mut i = tree.from;
     while i < tree.to {
         let node = node_at(nodes, i);
@@ -105,7 +105,7 @@ pub fn heads_fault(c: &[u8], nodes: &[usize], tree: Span) -> usize
             return fault;
         }
         last[group] = i + 1;
-        groups[depth] = group;
+        groups[depth] = (group % 65536) as u16;
         i += 1;
     }
     0

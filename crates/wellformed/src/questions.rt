@@ -15,7 +15,7 @@ use policy::Trees;
 use policy::nodes::span_of;
 
 // The question that a tree fails, or 0. Asked 15, its fences decide, otherwise its first node that fails 13 or 14.
-fn tree_fault(question: usize, c: &[u8], nodes: &[usize], tree: Span) -> usize
+fn tree_fault(question: usize, c: &[u8], nodes: &[u16], tree: Span) -> usize
     requires { ⌜ tree .to ≤ 64 ⌝ }
     ensures { λ r. ⌜ r ≡ faultIn question (flats (now (c .entry)) (now (nodes .entry)) (tree .from) (tree .to - tree .from)) ⌝ }
 {
@@ -26,7 +26,7 @@ fn tree_fault(question: usize, c: &[u8], nodes: &[usize], tree: Span) -> usize
 }
 
 // The question that the first tree with a fault fails, or 0.
-fn trees_fault(question: usize, c: &[u8], nodes: &[usize], trees: Trees) -> usize
+fn trees_fault(question: usize, c: &[u8], nodes: &[u16], trees: Trees) -> usize
     requires { ⌜ Bounded trees ⌝ }
     ensures { λ r. ⌜ ((policy : List Tree) → AllHeld (now (c .entry)) (now (nodes .entry)) trees 0 policy
         → r ≡ treesFault question policy) ⌝ }
@@ -43,7 +43,7 @@ fn trees_fault(question: usize, c: &[u8], nodes: &[usize], trees: Trees) -> usiz
 }
 
 // The first of questions 12 to 15 that a policy fails, or 16.
-pub fn policy_fault(c: &[u8], nodes: &[usize], trees: Trees) -> usize
+pub fn policy_fault(c: &[u8], nodes: &[u16], trees: Trees) -> usize
     requires { ⌜ Bounded trees ⌝ }
     ensures { λ r. ⌜ ((policy : List Tree) → AllHeld (now (c .entry)) (now (nodes .entry)) trees 0 policy → r ≡ policyFault policy) ⌝ }
 {

@@ -24,6 +24,7 @@ put-groups-spec =
     (λ c. search interface-steps)
     (λ c. search needs)
     (λ c. search needs)
+    (λ c. search needs)
     (λ c κs. search needs)
     (λ c. search needs)
     (λ c. search needs)

@@ -6,10 +6,10 @@ use Rattle.comparing.proofs.rows.rows_within.Statement.{statement}
 use Rattle.comparing.proofs.rows.rows_within.Tie as tie
 
 abbrev Inv-loop : tie.InvT-loop
-Inv-loop a nodes tree b others other i₀ j₀ i j = RowsLeft a nodes (tree .from) (tree .to) b others (other .from) (other .to) i j
+Inv-loop answers a nodes tree b others other i₀ j₀ i j = RowsLeft a nodes (tree .from) (tree .to) b others (other .from) (other .to) i j
 
 abbrev μ-loop : tie.MeasureT-loop
-μ-loop a nodes tree b others other i₀ j₀ i j = tree .to - i
+μ-loop answers a nodes tree b others other i₀ j₀ i j = tree .to - i
 
 loop-again : tie.Need-loop-again Inv-loop μ-loop
 loop-again c =

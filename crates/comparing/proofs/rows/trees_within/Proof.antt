@@ -6,21 +6,21 @@ use Rattle.comparing.proofs.rows.trees_within.Statement.{statement}
 use Rattle.comparing.proofs.rows.trees_within.Tie as tie
 
 abbrev Inv-loop : tie.InvT-loop
-Inv-loop a nodes trees b others choice kinds t₀ t = TreesLeft a nodes trees b others choice t
+Inv-loop answers a nodes trees b others choice kinds t₀ t = TreesLeft a nodes trees b others choice t
 
 abbrev μ-loop : tie.MeasureT-loop
-μ-loop a nodes trees b others choice kinds t₀ t = trees .len - t
+μ-loop answers a nodes trees b others choice kinds t₀ t = trees .len - t
 
 returns-2 : tie.Need-returns-2 Inv-loop μ-loop
 returns-2 c =
-    trees-differ _ _ _ _ _ _ _ (c .before .before .before .before .before .before .before .before .before .loop .inv) (search needs) (search needs) (search (needs, c .before .before .before .before .before .before .before .before .before .before .before .before .before .before .before .good .1 .1 .1 .1 .1 .0))
-    _ (c .before .before .before .before .before .before .tree-for .ensures) (search needs) _ _ (c .before .before .before .span-of .ensures .0) (c .before .before .before .span-of .ensures .1)
+    trees-differ _ _ _ _ _ _ _ (c .before .before .before .before .before .before .before .before .before .before .loop .inv) (search needs) (search needs) (search (needs, c .before .before .before .before .before .before .before .before .before .before .before .before .before .before .before .before .before .good .1 .1 .1 .1 .1 .1 .0))
+    _ _ (c .before .before .before .before .before .before .before .wide-byte .ensures) (c .before .before .before .before .before .before .tree-for .ensures) (search needs) _ _ (c .before .before .before .span-of .ensures .0) (c .before .before .before .span-of .ensures .1)
     (c .before .before .span-of2 .ensures .0) (c .before .before .span-of2 .ensures .1) _ (c .before .rows-within .ensures) (search needs)
 
 loop-again : tie.Need-loop-again Inv-loop μ-loop
 loop-again c =
-    trees-next _ _ _ _ _ _ _ (c .before .before .before .before .before .before .before .before .before .loop .inv) (search needs) (search needs) (search (needs, c .before .before .before .before .before .before .before .before .before .before .before .before .before .before .before .good .1 .1 .1 .1 .1 .0))
-    _ (c .before .before .before .before .before .before .tree-for .ensures) (search needs) _ _ (c .before .before .before .span-of .ensures .0) (c .before .before .before .span-of .ensures .1)
+    trees-next _ _ _ _ _ _ _ (c .before .before .before .before .before .before .before .before .before .before .loop .inv) (search needs) (search needs) (search (needs, c .before .before .before .before .before .before .before .before .before .before .before .before .before .before .before .before .before .good .1 .1 .1 .1 .1 .1 .0))
+    _ _ (c .before .before .before .before .before .before .before .wide-byte .ensures) (c .before .before .before .before .before .before .tree-for .ensures) (search needs) _ _ (c .before .before .before .span-of .ensures .0) (c .before .before .before .span-of .ensures .1)
     (c .before .before .span-of2 .ensures .0) (c .before .before .span-of2 .ensures .1) _ (c .before .rows-within .ensures) (search needs)
 
 pub trees-within-spec : {M : Type 1} → statement M
@@ -31,7 +31,7 @@ trees-within-spec =
     μ-loop
     (λ c. search tree-steps)
     (λ c. search tree-steps)
-    (λ c. search tree-steps)
+    (λ c κs. search tree-steps)
     (λ c κs. search tree-steps)
     (λ c. search tree-steps)
     (λ c κs. search tree-steps)

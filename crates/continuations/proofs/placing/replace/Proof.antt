@@ -11,7 +11,7 @@ returns c =
     (c .before .before .before .before .before .before .before .before .before .before .before .before .before .before .before .before .before .before .before .before .before .pre .1)
     (c .before .before .before .before .before .before .before .before .before .before .before .before .before .before .before .before .before .before .before .before .before .pre .2)
     (c .before .before .before .before .before .before .before .before .before .before .before .before .before .before .before .none-made .ensures)
-    (c .before .before .before .before .before .before .before .before .before .before .before .make-process .ensures)
+    (c .before .before .before .before .before .before .before .before .before .before .before .make .ensures)
     (c .before .before .put .ensures)
 
 pub replace-spec : {M : Type 1} → statement M

@@ -11,7 +11,7 @@ returns-2 : tie.Need-returns-2
 returns-2 c = overnamed _ _ _ (c .before .before .before .before .before .before .before .before .before .before .before .before .before .before .before .before .before .before .before .before .before .before .before .before .before .before .before .before .before .pre .0) _ _ _ _ _ _ (c .before .before .before .before .before .before .before .before .before .before .before .before .before .before .start .ensures) (c .if2 .taken)
 
 play-script-requires : tie.Need-play-script-requires
-play-script-requires c κs = (search start-steps, search start-steps)
+play-script-requires c κs = (search start-steps, search start-steps, search start-steps)
 
 returns-3 : tie.Need-returns-3
 returns-3 c =

@@ -14,7 +14,7 @@ abbrev μ-loop : tie.MeasureT-loop
     count - p .done
 
 turn-requires : tie.Need-turn-requires Inv-loop μ-loop
-turn-requires c κs = (search run-steps, search run-steps, search run-steps)
+turn-requires c κs = (search run-steps, search run-steps, search run-steps, search run-steps)
 
 loop-less : tie.Need-loop-less Inv-loop μ-loop
 loop-less c =

@@ -21,6 +21,7 @@ marks-spec =
     (λ c. search mark-steps)
     (λ c. search mark-steps)
     (λ c. search mark-steps)
+    (λ c. search mark-steps)
     (λ c κs. search mark-steps)
     (λ c. search mark-steps)
     (λ c. search mark-steps)

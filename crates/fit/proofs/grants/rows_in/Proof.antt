@@ -21,6 +21,7 @@ rows-in-spec =
     (λ c. search givers-steps)
     (λ c. search givers-steps)
     (λ c. search givers-steps)
+    (λ c. search givers-steps)
     (λ c κs. search givers-steps)
     (λ c. search givers-steps)
     (λ c. search givers-steps)

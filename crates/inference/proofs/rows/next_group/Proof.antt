@@ -22,6 +22,7 @@ next-group-spec =
     (λ c. search near-steps)
     (λ c. search needs)
     (λ c. search needs)
+    (λ c. search needs)
     (λ c κs. search needs)
     (λ c. search needs)
     (λ c. search needs)

@@ -8,6 +8,7 @@ returns : tie.Need-returns
 returns c =
     component-found _ _ _ _ _ _ _ _ _ _ _ _ _
     (search needs)
+    (search needs)
     (c .before .before .before .before .before .before .before .before .before .before .before .before .before .before .before .with .ensures)
     (c .before .before .before .before .before .before .before .before .before .before .before .before .before .store-purpose .ensures)
     (c .before .before .before .before .before .before .before .before .before .store-path .ensures)

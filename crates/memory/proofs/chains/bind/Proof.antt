@@ -7,4 +7,4 @@ use Rattle.memory.proofs.chains.bind.Tie as tie
 pub bind-spec : {M : Type 1} → statement M
 bind-spec =
     tie.close
-    (tie.spec (λ c. search needs) (λ c. search needs) (λ c. search needs) (λ c. search needs) (λ c. search needs) (λ c. search memory-steps) (λ c. search memory-steps))
+    (tie.spec (λ c. search needs) (λ c. search needs) (λ c. search needs) (λ c. search needs) (λ c. search needs) (λ c. search needs) (λ c. search memory-steps) (λ c. search memory-steps))

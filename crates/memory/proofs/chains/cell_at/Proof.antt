@@ -5,4 +5,4 @@ use Rattle.memory.proofs.chains.cell_at.Statement.{statement}
 use Rattle.memory.proofs.chains.cell_at.Tie as tie
 
 pub cell-at-spec : {M : Type 1} → statement M
-cell-at-spec = tie.close (tie.spec (λ c. search needs) (λ c. search needs) (λ c. search needs) (λ c. search memory-steps))
+cell-at-spec = tie.close (tie.spec (λ c. search needs) (λ c. search needs) (λ c κs. search needs) (λ c. search needs) (λ c. search memory-steps))

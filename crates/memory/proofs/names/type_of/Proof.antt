@@ -5,4 +5,4 @@ use Rattle.memory.proofs.names.type_of.Statement.{statement}
 use Rattle.memory.proofs.names.type_of.Tie as tie
 
 pub type-of-spec : {M : Type 1} → statement M
-type-of-spec = tie.close (tie.spec (λ c. search needs) (λ c. search needs) (λ c. search memory-steps) (λ c. search memory-steps) (λ c. search memory-steps))
+type-of-spec = tie.close (tie.spec (λ c. search needs) (λ c. search needs) (λ c κs. search needs) (λ c. search memory-steps) (λ c. search memory-steps) (λ c. search memory-steps))

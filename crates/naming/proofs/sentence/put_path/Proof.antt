@@ -24,6 +24,7 @@ put-path-spec =
     (λ c. search sentence-steps)
     (λ c. search sentence-steps)
     (λ c. search sentence-steps)
+    (λ c. search sentence-steps)
     (λ c κs. search sentence-steps)
     (λ c. search sentence-steps)
     (λ c. search sentence-steps)

@@ -1,10 +1,9 @@
--- `read_node` and `read_children` call each other. The nesting that is left falls from a node to its children (300 for each level,
--- which is more than the 255 children there can be), and the count of children from one child to the next.
-use Rattle.policy.proofs.NodeSteps.{child-steps, root-steps}
-use Prim.Native.Nat.{ℕ, _+_, _*_, _<_}
+-- `read_node` and `read_children` call each other: the nesting that is left falls from a node to its children. Children are read in a loop:
+-- once those that are left are loaded, all are (`Loading` of NodeSteps).
+use Rattle.policy.proofs.NodeSteps.{Loading, child-steps, root-steps}
+use Prim.Native.Nat.{ℕ, _+_, _-_, _*_, _<_}
 use borrow.Fn.Kinds.{In}
 use borrow.Fn.PlainCycle.{Measures, is, falls, and}
-use Rattle.policy.proofs.read.+read_children+read_node.{statement}
 use Rattle.policy.proofs.read.read_children.Reads as read-children
 use Rattle.policy.proofs.read.read_children.Kinds as read-children-kinds
 use Rattle.policy.proofs.read.+read_children+read_node.Lts-read_children as read-children-lts
@@ -15,13 +14,14 @@ use Rattle.policy.proofs.nodes.store_node.Reads as store-node-reads
 use Rattle.policy.proofs.read.fault.Reads as fault-reads
 use Rattle.policy.proofs.read.read_opening.Reads as read-opening-reads
 use Rattle.policy.proofs.read.why_not.Reads as why-not-reads
+use Rattle.policy.proofs.read.+read_children+read_node.{statement}
 use Rattle.policy.proofs.read.+read_children+read_node.Tie.{close}
 
 abbrev μ-read-children : Measures 2 read-children-kinds.ps ℕ
-μ-read-children κs a = a .1 .1 .1 .0 * 300 + a .1 .1 .0 + 1
+μ-read-children κs a = a .1 .1 .1 .0 * 2 + 1
 
 abbrev μ-read-node : Measures 2 read-node-kinds.ps ℕ
-μ-read-node κs a = a .1 .1 .0 * 300
+μ-read-node κs a = a .1 .1 .0 * 2
 
 abbrev read-children-at : ℕ → In 2 read-children-kinds.ps
 read-children-at t =
@@ -42,6 +42,13 @@ abbrev read-node-below : ℕ → In 2 read-node-kinds.ps
 read-node-below t =
     and 2 read-node-kinds.ps (falls 2 read-node-kinds.ps _<_ μ-read-node t) read-node.Pre
 
+abbrev read-children-Inv-loop : read-children-lts.InvT-loop
+read-children-Inv-loop c at count level used nodes₀ next₀ rows₀ left₀ nodes next rows left =
+    Loading level c count used at (8 - level) nodes₀ left rows next nodes
+
+abbrev read-children-μ-loop : read-children-lts.MeasureT-loop
+read-children-μ-loop c at count level used nodes₀ next₀ rows₀ left₀ nodes next rows left = left
+
 read-node-read-children-requires : (t : ℕ) → read-node-lts.Need-read-children-requires (
   fault-reads.Asked,
   fault-reads.Learnt,
@@ -60,11 +67,11 @@ pub +read-children+read-node-spec : {M : Type 1} → statement M
 +read-children+read-node-spec = close μ-read-children μ-read-node (λ t. read-children-lts.spec (
   read-node-below t,
   read-node.Post,
-  read-children-below t,
-  read-children.Post,
 )
     (read-children-at t)
     read-children.Post
+    read-children-Inv-loop
+    read-children-μ-loop
     (λ c. search child-steps)
     (λ c κs. search child-steps)
     (λ c. search child-steps)
@@ -72,7 +79,8 @@ pub +read-children+read-node-spec : {M : Type 1} → statement M
     (λ c. search child-steps)
     (λ c. search child-steps)
     (λ c. search child-steps)
-    (λ c κs. search child-steps)
+    (λ c. search child-steps)
+    (λ c. search child-steps)
     (λ c. search child-steps)
     (λ c. search child-steps))
     λ t. read-node-lts.spec (
@@ -89,19 +97,19 @@ pub +read-children+read-node-spec : {M : Type 1} → statement M
     )
     (read-node-at t)
     read-node.Post
-    (λ c κs. search root-steps)
+    (λ c κs. search child-steps)
     (λ c. search root-steps)
-    (λ c κs. search root-steps)
+    (λ c κs. search child-steps)
     (λ c. search root-steps)
+    (λ c. search child-steps)
+    (λ c κs. search child-steps)
+    (λ c. search child-steps)
+    (λ c. search child-steps)
+    (λ c κs. search child-steps)
     (λ c. search root-steps)
-    (λ c κs. search root-steps)
-    (λ c. search root-steps)
-    (λ c. search root-steps)
-    (λ c κs. search root-steps)
-    (λ c. search root-steps)
-    (λ c κs. search root-steps)
-    (λ c. search root-steps)
-    (λ c. search root-steps)
+    (λ c κs. search child-steps)
+    (λ c. search child-steps)
+    (λ c. search child-steps)
     (read-node-read-children-requires t)
-    (λ c. search root-steps)
+    (λ c. search child-steps)
     (λ c. search root-steps)

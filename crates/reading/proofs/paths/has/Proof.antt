@@ -25,4 +25,5 @@ has-spec =
     (λ c. search path-steps)
     (λ c. search path-steps)
     (λ c. search path-steps)
+    (λ c. search path-steps)
     (λ c. search path-steps))

@@ -5,4 +5,4 @@ use Rattle.reading.proofs.paths.with.Statement.{statement}
 use Rattle.reading.proofs.paths.with.Tie as tie
 
 pub with-spec : {M : Type 1} → statement M
-with-spec = tie.close (tie.spec (λ c. search needs) (λ c. search needs) (λ c. search needs) (λ c. search path-steps) (λ c. search path-steps))
+with-spec = tie.close (tie.spec (λ c. search needs) (λ c. search needs) (λ c. search needs) (λ c. search needs) (λ c. search path-steps) (λ c. search path-steps))

@@ -1,4 +1,4 @@
--- `count_moves` reads a move a turn. The invariant: the moves counted and those from the place reached on are all of them
+-- `count_moves` passes a move a turn. The invariant: the moves counted and those from the place reached on are all of them
 -- (CountSteps.antt). The measure: how many more may be counted.
 use Rattle.script.proofs.CountSteps.{count-steps, Turn}
 use Prim.Native.Nat.{_-_}
@@ -18,13 +18,9 @@ count-moves-spec =
     Inv-loop
     μ-loop
     (λ c. search count-steps)
-    (λ c κs. search count-steps)
     (λ c. search count-steps)
     (λ c κs. search count-steps)
     (λ c. search count-steps)
-    (λ c. search count-steps)
-    (λ c κs. search count-steps)
-    (λ c κs. search count-steps)
     (λ c. search count-steps)
     (λ c. search count-steps)
     (λ c. search count-steps)

@@ -23,7 +23,7 @@ step-spec =
     (λ c. search needs)
     (λ c κs. search needs)
     (λ c. search needs)
-    (λ c κs. search needs)
+    (λ c κs. (search needs, search needs, search step-steps))
     (λ c. search needs)
     (λ c. search needs)
     (λ c. search needs)

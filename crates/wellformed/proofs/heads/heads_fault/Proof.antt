@@ -40,6 +40,7 @@ heads-fault-spec =
     (λ c. search needs)
     mul-last
     (λ c. search head-steps)
+    (λ c. search needs)
     mul-groups
     (λ c. search head-steps)
     (λ c. search needs)

@@ -24,6 +24,4 @@ kind-after-spec =
     (λ c. search kind-steps)
     (λ c. search kind-steps)
     (λ c. search kind-steps)
-    (λ c. search kind-steps)
-    (λ c. search kind-steps)
     (λ c. search kind-steps))
