@@ -1,5 +1,7 @@
 // Runs document 01's table, and both sides of each limit, through the service `check`. Each line shows a label, the answer, and
 // the sixteen bytes lent, which were all AA before the call. What is printed is compared with the file stdout.
+#![tactic(auto)]
+
 use files::first;
 use fixtures::{put, put_chain, put_times, say_line};
 use service::checking::check;

@@ -1,5 +1,7 @@
 // What the programs `list`, `run`, `upgrade`, `downgrade` and `stricter` do, each on the files of the folder it is run in (an absent file
 // as empty).
+#![tactic(auto)]
+
 use comparing::no_looser;
 use execution::play;
 use explaining::examine;

@@ -1,4 +1,6 @@
 // The service `no_looser` (document 02, Q-8): is a charter no looser than another?
+#![tactic(auto)]
+
 ghost use Rattle.std.specs.Prelude.{◌≡◌, false, length};
 ghost use Rattle.comparing.specs.NoLooser.{no_looser};
 ghost use Rattle.comparing.specs.Told.{LoadedAs};
@@ -15,7 +17,7 @@ use wellformed::questions::policy_fault;
 
 // What the reading of a charter comes to: does it have at most 4,096 bytes and pass questions 11 to 15? And its trees, which are nothing
 // where it does not.
-#[derive(Drop)]
+#[derive(Clone, Copy)]
 pub struct Loaded {
     pub passes: bool,
     pub trees: Trees,

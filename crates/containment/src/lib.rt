@@ -1,4 +1,6 @@
 // Which bits of a map stand in another: one constant table of 256 answers, and maps of any number of four-bit digits by it.
+#![tactic(auto)]
+
 ghost use Rattle.std.specs.Prelude.{◌≡◌, ◌*◌, ◌<◌};
 ghost use Rattle.containment.specs.Bits.{bits_among};
 ghost use Rattle.containment.specs.Answers.{Answers};

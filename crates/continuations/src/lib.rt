@@ -2,6 +2,8 @@
 //
 // Four tables are lent: `threads`, the threads in order; `made`, room for what a move makes; `types`, the type of each name
 // given so far; and `cells`, the run names of the binders passed.
+#![tactic(auto)]
+
 pub mod exchanging;
 pub mod placing;
 pub mod prefixes;
@@ -11,7 +13,7 @@ use memory::Thread;
 use products::Sizes;
 
 // A send or receive in front of a thread: its channel, what it sends or the type that it binds, and the place of its continuation.
-#[derive(Drop)]
+#[derive(Clone, Copy)]
 pub struct Action {
     pub channel: usize,
     pub object: usize,
@@ -19,7 +21,7 @@ pub struct Action {
 }
 
 // The prefix of a thread (document 01: the form it stands at).
-#[derive(Drop)]
+#[derive(Clone, Copy)]
 pub enum Prefix {
     Nothing,
     Repeats(usize),
@@ -28,7 +30,7 @@ pub enum Prefix {
 }
 
 // Whether a move's products have room, and the sizes afterwards.
-#[derive(Drop)]
+#[derive(Clone, Copy)]
 pub struct Placed {
     pub fits: bool,
     pub sizes: Sizes,
@@ -36,7 +38,7 @@ pub struct Placed {
 
 // Two threads that communicate: their indices, the continuations of both, and the name disclosed. The receiver's continuation does not yet
 // have that name in scope.
-#[derive(Drop)]
+#[derive(Clone, Copy)]
 pub struct Exchange {
     pub sender: usize,
     pub receiver: usize,
@@ -46,14 +48,14 @@ pub struct Exchange {
 }
 
 // What a communication makes: how many threads are the sender's, and the sizes with both continuations' products.
-#[derive(Drop)]
+#[derive(Clone, Copy)]
 pub struct BothMade {
     pub mine: usize,
     pub sizes: Sizes,
 }
 
 // Threads that were made, for the place of one: its index, the first of them in their table, and how many they are.
-#[derive(Drop)]
+#[derive(Clone, Copy)]
 pub struct Part {
     pub at: usize,
     pub first: usize,

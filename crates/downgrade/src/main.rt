@@ -1,4 +1,6 @@
 // The program `downgrade`: writes the old form of the sheet in `sheet.bin`, or `refused N`.
+#![tactic(auto)]
+
 fn main() {
     commands::downgrade();
 }

@@ -1,4 +1,6 @@
 // The service `play`: questions 1 to 18, 20, 21 and 22, then a run of an accepted sheet under a script of moves, logged.
+#![tactic(auto)]
+
 pub mod opening;
 pub mod runs;
 
@@ -10,7 +12,7 @@ use service::Answer;
 use service::judging::first_failed;
 
 // Where a run stands between two moves: the place of the next in the script, how many are made, and the sizes of the tables.
-#[derive(Drop)]
+#[derive(Clone, Copy)]
 pub struct Point {
     pub at: usize,
     pub done: usize,

@@ -1,4 +1,6 @@
 // The service `explain`: the sentence for a sheet that question 18 refuses (document 02, Q-1).
+#![tactic(auto)]
+
 ghost use Rattle.std.specs.Prelude.{◌≡◌, List, ℕ, ◌<◌, ◌≤◌, length};
 ghost use Rattle.reading.specs.Told.{path_of};
 ghost use Rattle.inference.specs.Rows.{Orderly, table_entries, table_required};
@@ -25,7 +27,7 @@ use service::{Answer, Judged};
 use slack::slack_judged;
 
 // What `slack` answers, and what `explain` answers.
-#[derive(Drop)]
+#[derive(Clone, Copy)]
 pub struct Examined {
     pub told: Answer,
     pub explained: Answer,

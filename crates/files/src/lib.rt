@@ -1,4 +1,6 @@
 // What the programs share: a file read into a buffer, the first bytes of a buffer, and the one line of a refusal.
+#![tactic(auto)]
+
 use libc::STDOUT_FILENO;
 
 // Reads a file into a buffer, as much as fits; an absent file has no bytes.

@@ -1,26 +1,28 @@
 // Whether a policy satisfies the interface that a table of components holds: what it grants of what an entry needs, questions 16 to 18,
 // and the first permission that it does not cover.
+#![tactic(auto)]
+
 pub mod cover;
 pub mod entries;
 pub mod grants;
 pub mod uncovered;
 
 // What gives to a path: for each of its groups the row of the group's first reached node, or 64.
-#[derive(Drop)]
+#[derive(Clone, Copy)]
 pub struct Givers {
     pub rows: [usize; 8],
     pub len: usize,
 }
 
 // What a policy says to a flag: the entry does not need it, it is granted, or it is not.
-#[derive(Drop)]
+#[derive(Clone, Copy)]
 pub enum Flag {
     Unneeded,
     Granted,
     Lacking,
 }
 
-#[derive(Drop)]
+#[derive(Clone, Copy)]
 pub struct Flags {
     pub read: Flag,
     pub write: Flag,
@@ -28,7 +30,7 @@ pub struct Flags {
 }
 
 // A group that an entry discloses to: the sum that its class needs, and the one that its path is granted; 4,000,000 is unlimited.
-#[derive(Drop)]
+#[derive(Clone, Copy)]
 pub struct Sum {
     pub group: usize,
     pub needed: usize,
@@ -36,14 +38,14 @@ pub struct Sum {
 }
 
 // The first `len` are those of an entry, by rising group.
-#[derive(Drop)]
+#[derive(Clone, Copy)]
 pub struct Sums {
     pub items: [Sum; 8],
     pub len: usize,
 }
 
 // What an entry comes to in the tree of its kind: is each group of its path at a reached node, and what is granted of what it needs.
-#[derive(Drop)]
+#[derive(Clone, Copy)]
 pub struct Covering {
     pub reached: bool,
     pub flags: Flags,
@@ -52,7 +54,7 @@ pub struct Covering {
 
 // A permission of the entry of a component and a kind by its number: 64 read, 65 write, 66 access, below 64 the group disclosed to;
 // 67 is none.
-#[derive(Drop)]
+#[derive(Clone, Copy)]
 pub struct Missing {
     pub component: usize,
     pub kind: usize,

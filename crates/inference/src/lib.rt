@@ -1,6 +1,8 @@
 // Typing and inference over encoded systems: questions 7 to 10, what each act needs, and the permission interface.
 // One walk over the sheet finds the first question that fails and fills a table: for each component a row of its path and
 // purpose and of the counts of what it needs.
+#![tactic(auto)]
+
 pub mod acts;
 pub mod rows;
 pub mod scope;
@@ -11,14 +13,14 @@ pub mod walks;
 use reading::Path;
 
 // The type of a name, if the name is in scope.
-#[derive(Drop)]
+#[derive(Clone, Copy)]
 pub enum Known {
     Type(usize),
     Nothing,
 }
 
 // Where a walk stands: the place, the permitted nesting that is left, and the number of names in scope.
-#[derive(Drop)]
+#[derive(Clone, Copy)]
 pub struct Spot {
     pub at: usize,
     pub nest: usize,
@@ -26,7 +28,7 @@ pub struct Spot {
 }
 
 // Whose process a walk goes over: the component's number and path, and whether it stands under a repeat.
-#[derive(Drop)]
+#[derive(Clone, Copy)]
 pub struct Context {
     pub component: usize,
     pub path: Path,
@@ -34,14 +36,14 @@ pub struct Context {
 }
 
 // What a walk over a process found: the place after it, and the first of questions 7 to 10 that fails, or 11.
-#[derive(Drop)]
+#[derive(Clone, Copy)]
 pub struct Walk {
     pub next: usize,
     pub fault: usize,
 }
 
 // The same of a system, with the number of components so far.
-#[derive(Drop)]
+#[derive(Clone, Copy)]
 pub struct SystemWalk {
     pub next: usize,
     pub fault: usize,

@@ -1,4 +1,6 @@
 // The interface's bytes, from the table of what components need: how many, and where they go.
+#![tactic(auto)]
+
 ghost use Rattle.std.specs.Prelude.{◌≡◌, List, [], ◌∷◌, ◌+◌, ◌<◌, ◌≤◌, ◌%◌, length, set};
 ghost use Rattle.reading.specs.Told.{path_of};
 ghost use Rattle.inference.specs.Rows.{is_set, cell, path_at, disclosures_at, entry_at, row_entries, table_entries};

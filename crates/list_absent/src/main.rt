@@ -1,4 +1,6 @@
 // The program `list` in a folder without files: each is read as empty, so that question 2 fails.
+#![tactic(auto)]
+
 fn main() {
     commands::list();
 }

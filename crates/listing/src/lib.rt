@@ -1,5 +1,7 @@
 // What the program `list` prints for an entry that is stored with its slack: kind, path:purpose, then of r, w, a, dG:needed/granted those
 // held.
+#![tactic(auto)]
+
 ghost use Rattle.std.specs.Prelude.{◌≡◌, [], ◌∷◌, ◌++◌, ◌+◌, ◌*◌, ◌<◌, ◌≤◌, ◌%◌, set, get_or};
 ghost use Rattle.interface.specs.Writes.{Stored};
 ghost use Rattle.policy.specs.Syntax.{has_bit};
@@ -26,7 +28,7 @@ ghost use Rattle.listing.specs.Text.{
 };
 
 // A line that was composed: how long it is, and the place of the next entry.
-#[derive(Drop)]
+#[derive(Clone, Copy)]
 pub struct Line {
     pub len: usize,
     pub next: usize,

@@ -1,4 +1,6 @@
 // The services `upgrade` and `downgrade` (document 02, Q-7): an old sheet, whose components state no purpose, into the new form, and back.
+#![tactic(auto)]
+
 ghost use Rattle.encoding.specs.Copying.{copy_of};
 ghost use Rattle.moving.specs.Told.{Upgraded, Downgraded, Movable, Moved};
 

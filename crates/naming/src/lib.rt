@@ -1,5 +1,7 @@
 // The names of groups and kinds (document 02, Q-1): the reader of a names file, question 40, and the sentence for an uncovered
 // permission.
+#![tactic(auto)]
+
 pub mod letters;
 pub mod names;
 pub mod sentence;

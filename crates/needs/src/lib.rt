@@ -1,5 +1,7 @@
 // What an act needs: the permission for data of a base type, or nothing, by what its channel carries (document 01, "What an act
 // needs"; source document 000, rules (In) and (Out)).
+#![tactic(auto)]
+
 ghost use Rattle.std.specs.Prelude.{◌≡◌};
 ghost use Rattle.needs.specs.Needs.{need, case_need, carries};
 ghost use Rattle.reading.specs.Types.{shape};
@@ -8,7 +10,7 @@ use reading::Shape;
 use reading::types::shape_of;
 
 // The permission that an act needs, for data of a base type (document 01: kind).
-#[derive(Drop)]
+#[derive(Clone, Copy)]
 pub enum Need {
     Nothing,
     Read(usize),
@@ -18,7 +20,7 @@ pub enum Need {
 }
 
 // What a channel carries: plain data, a channel of plain data, or anything deeper.
-#[derive(Drop)]
+#[derive(Clone, Copy)]
 enum Carried {
     Data(usize),
     Link(usize),

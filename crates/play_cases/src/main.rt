@@ -1,5 +1,7 @@
 // Runs document 01's scripts, and both sides of each limit of a run, through the service `play`. Each line shows a label, the
 // answer, and the log lent, which was all AA before the call. What is printed is compared with the file stdout.
+#![tactic(auto)]
+
 use execution::play;
 use files::first;
 use fixtures::{put, put_all, put_grid, put_times, say, say_answer, say_bytes, say_line};

@@ -1,5 +1,7 @@
 // Policies (document 01: charters): their reading, question 11. The nodes of a policy that is read stand in a table, in
 // reading order.
+#![tactic(auto)]
+
 pub mod nodes;
 pub mod read;
 
@@ -7,7 +9,7 @@ use reading::{End, Refusal};
 
 // A node's permission map, where its disclose list stands (the place of its first item, and how many there are: 0 where it has no
 // list), and the purposes for which it grants, bit p for purpose p.
-#[derive(Drop)]
+#[derive(Clone, Copy)]
 pub struct Permissions {
     pub map: usize,
     pub list: usize,
@@ -16,20 +18,20 @@ pub struct Permissions {
 }
 
 // A permission map with its list and its purposes, and the place after them.
-#[derive(Drop)]
+#[derive(Clone, Copy)]
 pub struct PermissionsAt {
     pub permissions: Permissions,
     pub next: usize,
 }
 
-#[derive(Drop)]
+#[derive(Clone, Copy)]
 pub enum PermissionsRead {
     Found(PermissionsAt),
     Refused(Refusal),
 }
 
 // A node of the table: its group, its permissions, and how many nodes stand above it.
-#[derive(Drop)]
+#[derive(Clone, Copy)]
 pub struct Node {
     pub group: usize,
     pub permissions: Permissions,
@@ -37,21 +39,21 @@ pub struct Node {
 }
 
 // A node without its children: its fields, how many children follow it, and the place of the first.
-#[derive(Drop)]
+#[derive(Clone, Copy)]
 pub struct Opening {
     pub node: Node,
     pub children: usize,
     pub next: usize,
 }
 
-#[derive(Drop)]
+#[derive(Clone, Copy)]
 pub enum OpeningRead {
     Found(Opening),
     Refused(Refusal),
 }
 
 // The trees of a policy: how many, and for each its kind and the table's row after its last node.
-#[derive(Drop)]
+#[derive(Clone, Copy)]
 pub struct Trees {
     pub len: usize,
     pub kinds: [u8; 16],
@@ -60,14 +62,14 @@ pub struct Trees {
 
 // What the reading of a policy answers: the place after it, or its refusal; and its trees, which are nothing where it is refused. (An
 // enum can hold no array, so they stand beside it.)
-#[derive(Drop)]
+#[derive(Clone, Copy)]
 pub struct PolicyRead {
     pub end: End,
     pub trees: Trees,
 }
 
 // The rows of one tree: from its root's row up to `to`.
-#[derive(Drop)]
+#[derive(Clone, Copy)]
 pub struct Span {
     pub from: usize,
     pub to: usize,

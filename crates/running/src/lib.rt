@@ -1,1 +1,2 @@
 // Running accepted systems: states, moves and their records. Here stand the definitions; the code follows.
+#![tactic(auto)]

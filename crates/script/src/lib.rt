@@ -1,26 +1,28 @@
 // The bytes around a run: reading a script of moves (question 21 of document 01), and writing a record into the lent log.
 // Here stand the values that these functions take and give.
+#![tactic(auto)]
+
 pub mod moves;
 pub mod records;
 
 use reading::Refusal;
 
 // A name that a thread is to receive from the environment.
-#[derive(Drop)]
+#[derive(Clone, Copy)]
 pub struct Receipt {
     pub thread: usize,
     pub name: usize,
 }
 
 // Two threads that are to communicate (document 01: to meet).
-#[derive(Drop)]
+#[derive(Clone, Copy)]
 pub struct Communication {
     pub sender: usize,
     pub receiver: usize,
 }
 
 // The moves: the unfolding of a replication, a send to the environment, a receive from the environment, a communication, and a name of a type made by the environment.
-#[derive(Drop)]
+#[derive(Clone, Copy)]
 pub enum Move {
     Unfold(usize),
     SendOut(usize),
@@ -30,20 +32,20 @@ pub enum Move {
 }
 
 // What stands at a place of a script: a move with its fields, and the place after it.
-#[derive(Drop)]
+#[derive(Clone, Copy)]
 pub struct MovePlace {
     pub step: Move,
     pub next: usize,
 }
 
-#[derive(Drop)]
+#[derive(Clone, Copy)]
 pub enum MoveRead {
     Found(MovePlace),
     Refused(Refusal),
 }
 
 // A record of the log. A refused move has its number and zeros in all other fields.
-#[derive(Drop)]
+#[derive(Clone, Copy)]
 pub struct Record {
     pub number: usize,
     pub label: usize,

@@ -2,6 +2,8 @@
 // The sums stand in lent memory, in a row of 129 cells for each component. Cell 0 is the number of the first component of its class; in
 // that component's row stand, from cell 1 on, for each kind the sums of the class for its groups, by their places. 4,000,000 is unlimited.
 // Where no components share, there is no such memory, and each needs its own counts.
+#![tactic(auto)]
+
 ghost use Rattle.std.specs.Prelude.{◌≡◌, ◌<◌, ◌≤◌, ◌%◌, length, get_or, set};
 ghost use Rattle.inference.specs.Rows.{cell, row_groups};
 ghost use Rattle.sharing.specs.Sums.{added, add_at, add_kind, add_row, add_rows, any_shared, first_with, key_of, needed_at, row_key, sum_at, sum_cell};

@@ -1,5 +1,7 @@
 // The service `slack`: for each entry of an accepted sheet and each group that it discloses to, the granted sum beside the needed one
 // (document 02, Q-5).
+#![tactic(auto)]
+
 ghost use Rattle.std.specs.Prelude.{◌≡◌, List, ℕ, ◌+◌, ◌<◌, ◌≤◌, length};
 ghost use Rattle.inference.specs.Counts.{count_number};
 ghost use Rattle.inference.specs.Interface.{head_then};

@@ -1,4 +1,6 @@
 // The program `stricter` with the two charters exchanged, so that the new one grants more: what is written is `no`.
+#![tactic(auto)]
+
 fn main() {
     commands::stricter();
 }

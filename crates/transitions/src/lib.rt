@@ -2,6 +2,8 @@
 //
 // Five tables are lent: `threads`, the threads in order; `made`, room for what a move makes; `types`, the type of each name
 // given so far; `known`, which names are known to the environment; and `cells`, the run names of the binders passed.
+#![tactic(auto)]
+
 pub mod communication;
 pub mod environment;
 pub mod moves;
@@ -16,14 +18,14 @@ use products::Sizes;
 use script::Record;
 
 // A thread with the send or receive that is its prefix.
-#[derive(Drop)]
+#[derive(Clone, Copy)]
 pub struct Actor {
     pub thread: Thread,
     pub act: Action,
 }
 
 // What a move did: the sizes after it, and its line in the log.
-#[derive(Drop)]
+#[derive(Clone, Copy)]
 pub struct Moved {
     pub sizes: Sizes,
     pub line: Record,

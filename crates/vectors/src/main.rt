@@ -4,6 +4,8 @@
 // data/cases.bin. There a case begins with a byte: 0, of `list` and `run`, four two-byte lengths, low byte first, and the bytes of the
 // sheet, the charter, the script and the names file; 1, of `upgrade`, and 2, of `downgrade`, one such length and the bytes of the sheet;
 // 3, of `stricter`, two such lengths and the bytes of the new charter and of the one before it.
+#![tactic(auto)]
+
 ghost use Rattle.std.specs.Prelude.{◌<◌};
 
 use commands::{print_compared, print_listing};

@@ -1,6 +1,8 @@
 // The services for programs in C and Rust: `rt staticlib velimhaw` writes them into a static library. An answer is one number: below 64
 // it is the number of the question that failed, from 64 on the call was accepted and the length written, or the number of moves, is 64
 // less. Of `velimhaw_no_looser`, which refuses nothing, it is 1 for yes and 0 for no.
+#![tactic(auto)]
+
 ghost use Rattle.std.specs.Prelude.{◌≡◌};
 ghost use Rattle.service.specs.Told.{told};
 ghost use Rattle.velimhaw.specs.Codes.{code_of, CheckedAs, PlayedAs, ExplainedAs, ToldAs, UpgradedAs, DowngradedAs, ComparedAs};
