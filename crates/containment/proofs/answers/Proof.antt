@@ -7,5 +7,5 @@ returns : tie.Need-returns
 unfolding answers
 returns c = answers_hold
 
-pub answers-spec : {M : Type 1} → statement M
-answers-spec = tie.close (tie.spec returns)
+pub answers_spec : {M : Type 1} → statement M
+answers_spec = tie.close (tie.spec returns)

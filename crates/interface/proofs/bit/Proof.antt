@@ -4,5 +4,5 @@ use borrow.Author.Rules.{rules}
 use Rattle.interface.proofs.bit.Statement.{statement}
 use Rattle.interface.proofs.bit.Tie as tie
 
-pub bit-spec : {M : Type 1} → statement M
-bit-spec = tie.close (tie.spec (λ c. search interface_steps) (λ c. search interface_steps))
+pub bit_spec : {M : Type 1} → statement M
+bit_spec = tie.close (tie.spec (λ c. search interface_steps) (λ c. search interface_steps))

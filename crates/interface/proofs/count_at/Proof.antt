@@ -4,5 +4,5 @@ use Rattle.interface.proofs.InterfaceSteps.{interface_steps}
 use Rattle.interface.proofs.count_at.Statement.{statement}
 use Rattle.interface.proofs.count_at.Tie as tie
 
-pub count-at-spec : {M : Type 1} → statement M
-count-at-spec = tie.close (tie.spec (λ c κs. search rules) (λ c κs. search rules) (λ c. search interface_steps))
+pub count_at_spec : {M : Type 1} → statement M
+count_at_spec = tie.close (tie.spec (λ c κs. search rules) (λ c κs. search rules) (λ c. search interface_steps))

@@ -8,14 +8,14 @@ use Prim.Native.Nat.{◌-◌}
 use Rattle.interface.proofs.disclosed_groups.Statement.{statement}
 use Rattle.interface.proofs.disclosed_groups.Tie as tie
 
-abbrev invariant-loop : tie.invariant-loop
+abbrev invariant-loop : tie.invariant-loop-place
 invariant-loop table component kind extent n₀ group₀ n group = Counting (disclosed_to table component kind) 1 extent n group
 
-abbrev decreases-loop : tie.decreases-loop
+abbrev decreases-loop : tie.decreases-loop-place
 decreases-loop table component kind extent n₀ group₀ n group = extent - group
 
-pub disclosed-groups-spec : {M : Type 1} → statement M
-disclosed-groups-spec =
+pub disclosed_groups_spec : {M : Type 1} → statement M
+disclosed_groups_spec =
     tie.close
     (tie.spec
     invariant-loop

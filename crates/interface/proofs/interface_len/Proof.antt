@@ -8,14 +8,14 @@ use Prim.Native.Nat.{◌-◌}
 use Rattle.interface.proofs.interface_len.Statement.{statement}
 use Rattle.interface.proofs.interface_len.Tie as tie
 
-abbrev invariant-loop : tie.invariant-loop
+abbrev invariant-loop : tie.invariant-loop-component
 invariant-loop table components len₀ component₀ len component = Counting (row_bytes_at table) 592 components len component
 
-abbrev decreases-loop : tie.decreases-loop
+abbrev decreases-loop : tie.decreases-loop-component
 decreases-loop table components len₀ component₀ len component = components - component
 
-pub interface-len-spec : {M : Type 1} → statement M
-interface-len-spec =
+pub interface_len_spec : {M : Type 1} → statement M
+interface_len_spec =
     tie.close
     (tie.spec
     invariant-loop

@@ -4,5 +4,5 @@ use borrow.Author.Rules.{rules}
 use Rattle.interface.proofs.is_used.Statement.{statement}
 use Rattle.interface.proofs.is_used.Tie as tie
 
-pub is-used-spec : {M : Type 1} → statement M
-is-used-spec = tie.close (tie.spec (λ c κs. search rules) (λ c. search interface_steps))
+pub is_used_spec : {M : Type 1} → statement M
+is_used_spec = tie.close (tie.spec (λ c κs. search rules) (λ c. search interface_steps))

@@ -4,5 +4,5 @@ use borrow.Author.Rules.{rules}
 use Rattle.interface.proofs.list_len.Statement.{statement}
 use Rattle.interface.proofs.list_len.Tie as tie
 
-pub list-len-spec : {M : Type 1} → statement M
-list-len-spec = tie.close (tie.spec (λ c. search rules) (λ c. search rules) (λ c. search interface_steps) (λ c. search interface_steps))
+pub list_len_spec : {M : Type 1} → statement M
+list_len_spec = tie.close (tie.spec (λ c. search rules) (λ c. search rules) (λ c. search interface_steps) (λ c. search interface_steps))

@@ -4,8 +4,8 @@ use borrow.Author.Rules.{rules}
 use Rattle.interface.proofs.map_at.Statement.{statement}
 use Rattle.interface.proofs.map_at.Tie as tie
 
-pub map-at-spec : {M : Type 1} → statement M
-map-at-spec =
+pub map_at_spec : {M : Type 1} → statement M
+map_at_spec =
     tie.close
     (tie.spec
     (λ c κs. search rules)

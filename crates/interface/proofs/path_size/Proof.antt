@@ -4,5 +4,5 @@ use borrow.Author.Rules.{rules}
 use Rattle.interface.proofs.path_size.Statement.{statement}
 use Rattle.interface.proofs.path_size.Tie as tie
 
-pub path-size-spec : {M : Type 1} → statement M
-path-size-spec = tie.close (tie.spec (λ c κs. search rules) (λ c κs. search rules) (λ c. search interface_steps))
+pub path_size_spec : {M : Type 1} → statement M
+path_size_spec = tie.close (tie.spec (λ c κs. search rules) (λ c κs. search rules) (λ c. search interface_steps))

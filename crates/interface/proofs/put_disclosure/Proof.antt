@@ -4,6 +4,6 @@ use borrow.Author.Rules.{rules}
 use Rattle.interface.proofs.put_disclosure.Statement.{statement}
 use Rattle.interface.proofs.put_disclosure.Tie as tie
 
-pub put-disclosure-spec : {M : Type 1} → statement M
-put-disclosure-spec =
+pub put_disclosure_spec : {M : Type 1} → statement M
+put_disclosure_spec =
     tie.close (tie.spec (λ c. search interface_steps) (λ c κs. search rules) (λ c κs. search rules) (λ c κs. search rules) (λ c. search rules) (λ c. search interface_steps))

@@ -8,14 +8,14 @@ use Prim.Native.Nat.{◌-◌}
 use Rattle.interface.proofs.put_disclosures.Statement.{statement}
 use Rattle.interface.proofs.put_disclosures.Tie as tie
 
-abbrev invariant-loop : tie.invariant-loop
+abbrev invariant-loop : tie.invariant-loop-place
 invariant-loop table component kind out₀ at count next₀ place₀ out next place = Writing (group_bytes_at table component kind) 3 count out₀ at out next place
 
-abbrev decreases-loop : tie.decreases-loop
+abbrev decreases-loop : tie.decreases-loop-place
 decreases-loop table component kind out₀ at count next₀ place₀ out next place = count - place
 
-pub put-disclosures-spec : {M : Type 1} → statement M
-put-disclosures-spec =
+pub put_disclosures_spec : {M : Type 1} → statement M
+put_disclosures_spec =
     tie.close
     (tie.spec
     invariant-loop

@@ -8,14 +8,14 @@ use Prim.Native.Nat.{◌-◌, ◌≤◌}
 use Rattle.interface.proofs.put_groups.Statement.{statement}
 use Rattle.interface.proofs.put_groups.Tie as tie
 
-abbrev invariant-loop : tie.invariant-loop
+abbrev invariant-loop : tie.invariant-loop-i
 invariant-loop out₀ at groups len next₀ i₀ out next i = Writing (one_at groups) 1 len out₀ at out next i × (len ≤ 8)
 
-abbrev decreases-loop : tie.decreases-loop
+abbrev decreases-loop : tie.decreases-loop-i
 decreases-loop out₀ at groups len next₀ i₀ out next i = len - i
 
-pub put-groups-spec : {M : Type 1} → statement M
-put-groups-spec =
+pub put_groups_spec : {M : Type 1} → statement M
+put_groups_spec =
     tie.close
     (tie.spec
     invariant-loop

@@ -8,14 +8,14 @@ use Rattle.interface.specs.Writes.{entry_bytes_at}
 use Rattle.interface.proofs.put_row.Statement.{statement}
 use Rattle.interface.proofs.put_row.Tie as tie
 
-abbrev invariant-loop : tie.invariant-loop
+abbrev invariant-loop : tie.invariant-loop-kind
 invariant-loop table component out₀ at next₀ kind₀ out next kind = Writing (entry_bytes_at table component) 37 16 out₀ at out next kind
 
-abbrev decreases-loop : tie.decreases-loop
+abbrev decreases-loop : tie.decreases-loop-kind
 decreases-loop table component out₀ at next₀ kind₀ out next kind = 16 - kind
 
-pub put-row-spec : {M : Type 1} → statement M
-put-row-spec =
+pub put_row_spec : {M : Type 1} → statement M
+put_row_spec =
     tie.close
     (tie.spec
     invariant-loop

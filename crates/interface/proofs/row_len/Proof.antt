@@ -8,14 +8,14 @@ use Rattle.interface.specs.Writes.{entry_bytes_at}
 use Rattle.interface.proofs.row_len.Statement.{statement}
 use Rattle.interface.proofs.row_len.Tie as tie
 
-abbrev invariant-loop : tie.invariant-loop
+abbrev invariant-loop : tie.invariant-loop-kind
 invariant-loop table component len₀ kind₀ len kind = Counting (entry_bytes_at table component) 37 16 len kind
 
-abbrev decreases-loop : tie.decreases-loop
+abbrev decreases-loop : tie.decreases-loop-kind
 decreases-loop table component len₀ kind₀ len kind = 16 - kind
 
-pub row-len-spec : {M : Type 1} → statement M
-row-len-spec =
+pub row_len_spec : {M : Type 1} → statement M
+row_len_spec =
     tie.close
     (tie.spec
     invariant-loop

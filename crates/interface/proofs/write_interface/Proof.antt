@@ -8,14 +8,14 @@ use Prim.Native.Nat.{◌-◌}
 use Rattle.interface.proofs.write_interface.Statement.{statement}
 use Rattle.interface.proofs.write_interface.Tie as tie
 
-abbrev invariant-loop : tie.invariant-loop
+abbrev invariant-loop : tie.invariant-loop-component
 invariant-loop table components out₀ next₀ component₀ out next component = Writing (row_bytes_at table) 592 components out₀ 0 out next component
 
-abbrev decreases-loop : tie.decreases-loop
+abbrev decreases-loop : tie.decreases-loop-component
 decreases-loop table components out₀ next₀ component₀ out next component = components - component
 
-pub write-interface-spec : {M : Type 1} → statement M
-write-interface-spec =
+pub write_interface_spec : {M : Type 1} → statement M
+write_interface_spec =
     tie.close
     (tie.spec
     invariant-loop

@@ -4,8 +4,8 @@ use borrow.Author.Rules.{rules}
 use Rattle.needs.proofs.carried_by.Statement.{statement}
 use Rattle.needs.proofs.carried_by.Tie as tie
 
-pub carried-by-spec : {M : Type 1} → statement M
-carried-by-spec =
+pub carried_by_spec : {M : Type 1} → statement M
+carried_by_spec =
     tie.close
     (tie.spec
     (λ c κs. search rules)

@@ -4,8 +4,8 @@ use borrow.Author.Rules.{rules}
 use Rattle.needs.proofs.case_need.Statement.{statement}
 use Rattle.needs.proofs.case_need.Tie as tie
 
-pub case-need-spec : {M : Type 1} → statement M
-case-need-spec =
+pub case_need_spec : {M : Type 1} → statement M
+case_need_spec =
     tie.close
     (tie.spec
     (λ c κs. search rules)

@@ -4,5 +4,5 @@ use borrow.Author.Rules.{rules}
 use Rattle.sharing.proofs.add_at.Statement.{statement}
 use Rattle.sharing.proofs.add_at.Tie as tie
 
-pub add-at-spec : {M : Type 1} → statement M
-add-at-spec = tie.close (tie.spec (λ c κs. search rules) (λ c κs. search rules) (λ c κs. search rules) (λ c. search rules) (λ c. search cell_steps))
+pub add_at_spec : {M : Type 1} → statement M
+add_at_spec = tie.close (tie.spec (λ c κs. search rules) (λ c κs. search rules) (λ c κs. search rules) (λ c. search rules) (λ c. search cell_steps))

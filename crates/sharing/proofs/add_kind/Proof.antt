@@ -6,14 +6,14 @@ use Rattle.sharing.proofs.SumSteps.{Placing, place_steps}
 use Rattle.sharing.proofs.add_kind.Statement.{statement}
 use Rattle.sharing.proofs.add_kind.Tie as tie
 
-abbrev invariant-loop : tie.invariant-loop
+abbrev invariant-loop : tie.invariant-loop-place
 invariant-loop sums₀ class table component kind count place₀ sums place = Placing sums₀ class table component kind count sums place
 
-abbrev decreases-loop : tie.decreases-loop
+abbrev decreases-loop : tie.decreases-loop-place
 decreases-loop sums₀ class table component kind count place₀ sums place = count - place
 
-pub add-kind-spec : {M : Type 1} → statement M
-add-kind-spec =
+pub add_kind_spec : {M : Type 1} → statement M
+add_kind_spec =
     tie.close
     (tie.spec
     invariant-loop

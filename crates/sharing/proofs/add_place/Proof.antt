@@ -4,6 +4,6 @@ use borrow.Author.Rules.{rules}
 use Rattle.sharing.proofs.add_place.Statement.{statement}
 use Rattle.sharing.proofs.add_place.Tie as tie
 
-pub add-place-spec : {M : Type 1} → statement M
-add-place-spec =
+pub add_place_spec : {M : Type 1} → statement M
+add_place_spec =
     tie.close (tie.spec (λ c κs. search rules) (λ c κs. search rules) (λ c κs. search rules) (λ c. search rules) (λ c. search cell_steps))

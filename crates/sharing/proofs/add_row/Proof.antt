@@ -5,14 +5,14 @@ use Rattle.sharing.proofs.SumSteps.{Rowing, row_steps}
 use Rattle.sharing.proofs.add_row.Statement.{statement}
 use Rattle.sharing.proofs.add_row.Tie as tie
 
-abbrev invariant-loop : tie.invariant-loop
+abbrev invariant-loop : tie.invariant-loop-kind
 invariant-loop sums₀ class table component kind₀ sums kind = Rowing sums₀ class table component sums kind
 
-abbrev decreases-loop : tie.decreases-loop
+abbrev decreases-loop : tie.decreases-loop-kind
 decreases-loop sums₀ class table component kind₀ sums kind = 16 - kind
 
-pub add-row-spec : {M : Type 1} → statement M
-add-row-spec =
+pub add_row_spec : {M : Type 1} → statement M
+add_row_spec =
     tie.close
     (tie.spec
     invariant-loop

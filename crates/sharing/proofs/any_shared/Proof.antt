@@ -6,14 +6,14 @@ use Rattle.sharing.proofs.SumSteps.{Comparing, compare_steps}
 use Rattle.sharing.proofs.any_shared.Statement.{statement}
 use Rattle.sharing.proofs.any_shared.Tie as tie
 
-abbrev invariant-loop : tie.invariant-loop
+abbrev invariant-loop : tie.invariant-loop-component
 invariant-loop table components keys₀ component₀ keys component = Comparing table components keys component
 
-abbrev decreases-loop : tie.decreases-loop
+abbrev decreases-loop : tie.decreases-loop-component
 decreases-loop table components keys₀ component₀ keys component = components - component
 
-pub any-shared-spec : {M : Type 1} → statement M
-any-shared-spec =
+pub any_shared_spec : {M : Type 1} → statement M
+any_shared_spec =
     tie.close
     (tie.spec
     invariant-loop

@@ -4,5 +4,5 @@ use borrow.Author.Rules.{rules}
 use Rattle.sharing.proofs.cell_in.Statement.{statement}
 use Rattle.sharing.proofs.cell_in.Tie as tie
 
-pub cell-in-spec : {M : Type 1} → statement M
-cell-in-spec = tie.close (tie.spec (λ c. search rules) (λ c. search rules) (λ c κs. search rules) (λ c. search rules) (λ c. search cell_steps))
+pub cell_in_spec : {M : Type 1} → statement M
+cell_in_spec = tie.close (tie.spec (λ c. search rules) (λ c. search rules) (λ c κs. search rules) (λ c. search rules) (λ c. search cell_steps))

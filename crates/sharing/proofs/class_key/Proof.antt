@@ -4,8 +4,8 @@ use Rattle.sharing.proofs.SumSteps.{class_steps}
 use Rattle.sharing.proofs.class_key.Statement.{statement}
 use Rattle.sharing.proofs.class_key.Tie as tie
 
-pub class-key-spec : {M : Type 1} → statement M
-class-key-spec =
+pub class_key_spec : {M : Type 1} → statement M
+class_key_spec =
     tie.close
     (tie.spec
     (λ c κs. search rules)

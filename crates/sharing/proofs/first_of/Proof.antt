@@ -6,14 +6,14 @@ use Rattle.sharing.proofs.SumSteps.{Seeking, seek_steps}
 use Rattle.sharing.proofs.first_of.Statement.{statement}
 use Rattle.sharing.proofs.first_of.Tie as tie
 
-abbrev invariant-loop : tie.invariant-loop
+abbrev invariant-loop : tie.invariant-loop-m
 invariant-loop keys component key m₀ m = Seeking keys component key m
 
-abbrev decreases-loop : tie.decreases-loop
+abbrev decreases-loop : tie.decreases-loop-m
 decreases-loop keys component key m₀ m = component - m
 
-pub first-of-spec : {M : Type 1} → statement M
-first-of-spec =
+pub first_of_spec : {M : Type 1} → statement M
+first_of_spec =
     tie.close
     (tie.spec
     invariant-loop

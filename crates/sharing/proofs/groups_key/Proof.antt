@@ -5,14 +5,14 @@ use Rattle.sharing.proofs.SumSteps.{Keying, key_steps}
 use Rattle.sharing.proofs.groups_key.Statement.{statement}
 use Rattle.sharing.proofs.groups_key.Tie as tie
 
-abbrev invariant-loop : tie.invariant-loop
+abbrev invariant-loop : tie.invariant-loop-place
 invariant-loop table component key₀ place₀ key place = Keying table component place₀ place key
 
-abbrev decreases-loop : tie.decreases-loop
+abbrev decreases-loop : tie.decreases-loop-place
 decreases-loop table component key₀ place₀ key place = place
 
-pub groups-key-spec : {M : Type 1} → statement M
-groups-key-spec =
+pub groups_key_spec : {M : Type 1} → statement M
+groups_key_spec =
     tie.close
     (tie.spec
     invariant-loop

@@ -4,6 +4,6 @@ use borrow.Author.Rules.{rules}
 use Rattle.sharing.proofs.needed_at.Statement.{statement}
 use Rattle.sharing.proofs.needed_at.Tie as tie
 
-pub needed-at-spec : {M : Type 1} → statement M
-needed-at-spec =
+pub needed_at_spec : {M : Type 1} → statement M
+needed_at_spec =
     tie.close (tie.spec (λ c κs. search rules) (λ c κs. search rules) (λ c. search needed_steps) (λ c κs. search rules) (λ c. search needed_steps))

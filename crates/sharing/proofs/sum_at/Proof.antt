@@ -4,6 +4,6 @@ use borrow.Author.Rules.{rules}
 use Rattle.sharing.proofs.sum_at.Statement.{statement}
 use Rattle.sharing.proofs.sum_at.Tie as tie
 
-pub sum-at-spec : {M : Type 1} → statement M
-sum-at-spec =
+pub sum_at_spec : {M : Type 1} → statement M
+sum_at_spec =
     tie.close (tie.spec (λ c. search rules) (λ c κs. search rules) (λ c κs. search rules) (λ c κs. search rules) (λ c. search cell_steps))

@@ -4,6 +4,6 @@ use borrow.Author.Rules.{rules}
 use Rattle.sharing.proofs.sum_cell.Statement.{statement}
 use Rattle.sharing.proofs.sum_cell.Tie as tie
 
-pub sum-cell-spec : {M : Type 1} → statement M
-sum-cell-spec =
+pub sum_cell_spec : {M : Type 1} → statement M
+sum_cell_spec =
     tie.close (tie.spec (λ c. search rules) (λ c. search rules) (λ c. search rules) (λ c. search rules) (λ c. search rules) (λ c. search cell_steps))

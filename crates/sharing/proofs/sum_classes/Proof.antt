@@ -6,14 +6,14 @@ use Rattle.sharing.proofs.SumSteps.{Summing, sum_steps}
 use Rattle.sharing.proofs.sum_classes.Statement.{statement}
 use Rattle.sharing.proofs.sum_classes.Tie as tie
 
-abbrev invariant-loop : tie.invariant-loop
+abbrev invariant-loop : tie.invariant-loop-component
 invariant-loop table components sums₀ keys₀ component₀ sums keys component = Summing sums₀ table components sums keys component
 
-abbrev decreases-loop : tie.decreases-loop
+abbrev decreases-loop : tie.decreases-loop-component
 decreases-loop table components sums₀ keys₀ component₀ sums keys component = components - component
 
-pub sum-classes-spec : {M : Type 1} → statement M
-sum-classes-spec =
+pub sum_classes_spec : {M : Type 1} → statement M
+sum_classes_spec =
     tie.close
     (tie.spec
     invariant-loop

@@ -78,8 +78,8 @@ note_system_form_below t =
     (falls 2 note_system_form_kinds.ps ◌<◌ μ_note_system_form t)
     note_system_form.Pre
 
-pub +note-below-note-both-note-system-note-system-form-spec : {M : Type 1} → statement M
-+note-below-note-both-note-system-note-system-form-spec =
+pub +note_below_note_both_note_system_note_system_form_spec : {M : Type 1} → statement M
++note_below_note_both_note_system_note_system_form_spec =
     close μ_note_below μ_note_both μ_note_system μ_note_system_form (λ t. note_below_lts.spec (
       put_reads.Asked,
       put_reads.Learnt,

@@ -30,14 +30,14 @@ note_process_below t =
     (falls 2 note_process_kinds.ps ◌<◌ μ_note_process t)
     note_process.Pre
 
-abbrev note-process-Inv-loop : note_process_lts.invariant-loop
+abbrev note-process-Inv-loop : note_process_lts.invariant-loop-nest
 note-process-Inv-loop s from levels forms₀ at₀ nest₀ forms at nest = Walking s from levels forms₀ at nest forms
 
-abbrev note-process-μ-loop : note_process_lts.decreases-loop
+abbrev note-process-μ-loop : note_process_lts.decreases-loop-nest
 note-process-μ-loop s from levels forms₀ at₀ nest₀ forms at nest = nest
 
-pub +note-process-spec : {M : Type 1} → statement M
-+note-process-spec = close μ_note_process λ t. note_process_lts.spec (
+pub +note_process_spec : {M : Type 1} → statement M
++note_process_spec = close μ_note_process λ t. note_process_lts.spec (
   store_reads.Asked,
   store_reads.Learnt,
   note_process_below t,

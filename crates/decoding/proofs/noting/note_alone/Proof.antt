@@ -4,5 +4,5 @@ use borrow.Author.Rules.{rules}
 use Rattle.decoding.proofs.noting.note_alone.Statement.{statement}
 use Rattle.decoding.proofs.noting.note_alone.Tie as tie
 
-pub note-alone-spec : {M : Type 1} → statement M
-note-alone-spec = tie.close (tie.spec (λ c κs. search rules) (λ c. search rules) (λ c. search word_steps))
+pub note_alone_spec : {M : Type 1} → statement M
+note_alone_spec = tie.close (tie.spec (λ c κs. search rules) (λ c. search rules) (λ c. search word_steps))

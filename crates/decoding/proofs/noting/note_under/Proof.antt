@@ -4,5 +4,5 @@ use borrow.Author.Rules.{rules}
 use Rattle.decoding.proofs.noting.note_under.Statement.{statement}
 use Rattle.decoding.proofs.noting.note_under.Tie as tie
 
-pub note-under-spec : {M : Type 1} → statement M
-note-under-spec = tie.close (tie.spec (λ c κs. search rules) (λ c κs. search rules) (λ c. search rules) (λ c. search system_steps))
+pub note_under_spec : {M : Type 1} → statement M
+note_under_spec = tie.close (tie.spec (λ c κs. search rules) (λ c κs. search rules) (λ c. search rules) (λ c. search system_steps))

@@ -3,7 +3,7 @@ use Rattle.decoding.proofs.WordSteps.{word_steps}
 use Rattle.decoding.proofs.words.form_of.Statement.{statement}
 use Rattle.decoding.proofs.words.form_of.Tie as tie
 
-pub form-of-spec : {M : Type 1} → statement M
-form-of-spec =
+pub form_of_spec : {M : Type 1} → statement M
+form_of_spec =
     tie.close
     (tie.spec (λ c. search word_steps) (λ c. search word_steps) (λ c. search word_steps) (λ c. search word_steps) (λ c. search word_steps) (λ c. search word_steps) (λ c. search word_steps) (λ c. search word_steps))

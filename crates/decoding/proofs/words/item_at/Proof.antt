@@ -4,8 +4,8 @@ use borrow.Author.Rules.{rules}
 use Rattle.decoding.proofs.words.item_at.Statement.{statement}
 use Rattle.decoding.proofs.words.item_at.Tie as tie
 
-pub item-at-spec : {M : Type 1} → statement M
-item-at-spec =
+pub item_at_spec : {M : Type 1} → statement M
+item_at_spec =
     tie.close
     (tie.spec
     (λ c. search rules)

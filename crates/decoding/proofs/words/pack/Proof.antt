@@ -4,8 +4,8 @@ use borrow.Author.Rules.{rules}
 use Rattle.decoding.proofs.words.pack.Statement.{statement}
 use Rattle.decoding.proofs.words.pack.Tie as tie
 
-pub pack-spec : {M : Type 1} → statement M
-pack-spec =
+pub pack_spec : {M : Type 1} → statement M
+pack_spec =
     tie.close
     (tie.spec
     (λ c. search rules)

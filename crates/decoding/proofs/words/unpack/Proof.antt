@@ -4,5 +4,5 @@ use borrow.Author.Rules.{rules}
 use Rattle.decoding.proofs.words.unpack.Statement.{statement}
 use Rattle.decoding.proofs.words.unpack.Tie as tie
 
-pub unpack-spec : {M : Type 1} → statement M
-unpack-spec = tie.close (tie.spec (λ c κs. search rules) (λ c. search word_steps))
+pub unpack_spec : {M : Type 1} → statement M
+unpack_spec = tie.close (tie.spec (λ c κs. search rules) (λ c. search word_steps))

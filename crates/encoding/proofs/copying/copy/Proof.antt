@@ -4,10 +4,10 @@ use Rattle.memory.proofs.SpliceSteps.{Copied, copy_steps}
 use Rattle.encoding.proofs.copying.copy.Statement.{statement}
 use Rattle.encoding.proofs.copying.copy.Tie as tie
 
-abbrev invariant-loop : tie.invariant-loop
+abbrev invariant-loop : tie.invariant-loop-i
 invariant-loop out₀ to s from count i₀ out i = Copied out₀ to s from count out i
 
-abbrev decreases-loop : tie.decreases-loop
+abbrev decreases-loop : tie.decreases-loop-i
 decreases-loop out₀ to s from count i₀ out i = count - i
 
 pub copy_spec : {M : Type 1} → statement M

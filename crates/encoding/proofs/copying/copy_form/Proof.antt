@@ -7,8 +7,8 @@ use Rattle.encoding.proofs.copying.copy_form.Tie as tie
 copy-requires : tie.Need-copy-requires
 copy-requires c κs = (search form_puts, search form_puts)
 
-pub copy-form-spec : {M : Type 1} → statement M
-copy-form-spec =
+pub copy_form_spec : {M : Type 1} → statement M
+copy_form_spec =
     tie.close
     (tie.spec
     (λ c κs. search rules)

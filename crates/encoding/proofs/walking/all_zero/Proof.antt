@@ -6,14 +6,14 @@ use Rattle.encoding.proofs.WalkSteps.{Asking, ask_steps}
 use Rattle.encoding.proofs.walking.all_zero.Statement.{statement}
 use Rattle.encoding.proofs.walking.all_zero.Tie as tie
 
-abbrev invariant-loop : tie.invariant-loop
+abbrev invariant-loop : tie.invariant-loop-at
 invariant-loop dialect s at₀ at = Asking dialect s at
 
-abbrev decreases-loop : tie.decreases-loop
+abbrev decreases-loop : tie.decreases-loop-at
 decreases-loop dialect s at₀ at = length s - at
 
-pub all-zero-spec : {M : Type 1} → statement M
-all-zero-spec =
+pub all_zero_spec : {M : Type 1} → statement M
+all_zero_spec =
     tie.close
     (tie.spec
     invariant-loop

@@ -4,8 +4,8 @@ use Rattle.encoding.proofs.WalkSteps.{lengths}
 use Rattle.encoding.proofs.walking.form_len.Statement.{statement}
 use Rattle.encoding.proofs.walking.form_len.Tie as tie
 
-pub form-len-spec : {M : Type 1} → statement M
-form-len-spec =
+pub form_len_spec : {M : Type 1} → statement M
+form_len_spec =
     tie.close
     (tie.spec
     (λ c κs. search rules)

@@ -4,8 +4,8 @@ use Rattle.encoding.proofs.WalkSteps.{states_arms}
 use Rattle.encoding.proofs.walking.states_other.Statement.{statement}
 use Rattle.encoding.proofs.walking.states_other.Tie as tie
 
-pub states-other-spec : {M : Type 1} → statement M
-states-other-spec =
+pub states_other_spec : {M : Type 1} → statement M
+states_other_spec =
     tie.close
     (tie.spec
     (λ c κs. search rules)

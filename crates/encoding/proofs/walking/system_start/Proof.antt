@@ -4,14 +4,14 @@ use Rattle.encoding.proofs.WalkSteps.{Starting, start_steps}
 use Rattle.encoding.proofs.walking.system_start.Statement.{statement}
 use Rattle.encoding.proofs.walking.system_start.Tie as tie
 
-abbrev invariant-loop : tie.invariant-loop
+abbrev invariant-loop : tie.invariant-loop-count
 invariant-loop s at₀ count₀ at count = Starting s at count
 
-abbrev decreases-loop : tie.decreases-loop
+abbrev decreases-loop : tie.decreases-loop-count
 decreases-loop s at₀ count₀ at count = count
 
-pub system-start-spec : {M : Type 1} → statement M
-system-start-spec =
+pub system_start_spec : {M : Type 1} → statement M
+system_start_spec =
     tie.close
     (tie.spec
     invariant-loop

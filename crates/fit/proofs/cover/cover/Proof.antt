@@ -4,8 +4,8 @@ use borrow.Author.Rules.{rules}
 use Rattle.fit.proofs.cover.cover.Statement.{statement}
 use Rattle.fit.proofs.cover.cover.Tie as tie
 
-pub cover-spec : {M : Type 1} → statement M
-cover-spec =
+pub cover_spec : {M : Type 1} → statement M
+cover_spec =
     tie.close
     (tie.spec
     (λ c κs. search rules)

@@ -4,5 +4,5 @@ use borrow.Author.Rules.{rules}
 use Rattle.fit.proofs.cover.entry_covering.Statement.{statement}
 use Rattle.fit.proofs.cover.entry_covering.Tie as tie
 
-pub entry-covering-spec : {M : Type 1} → statement M
-entry-covering-spec = tie.close (tie.spec (λ c κs. search rules) (λ c κs. search rules) (λ c. search cover_steps))
+pub entry_covering_spec : {M : Type 1} → statement M
+entry_covering_spec = tie.close (tie.spec (λ c κs. search rules) (λ c κs. search rules) (λ c. search cover_steps))

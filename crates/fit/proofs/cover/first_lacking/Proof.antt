@@ -4,8 +4,8 @@ use borrow.Author.Rules.{rules}
 use Rattle.fit.proofs.cover.first_lacking.Statement.{statement}
 use Rattle.fit.proofs.cover.first_lacking.Tie as tie
 
-pub first-lacking-spec : {M : Type 1} → statement M
-first-lacking-spec =
+pub first_lacking_spec : {M : Type 1} → statement M
+first_lacking_spec =
     tie.close
     (tie.spec
     (λ c κs. search rules)

@@ -4,5 +4,5 @@ use borrow.Author.Rules.{rules}
 use Rattle.fit.proofs.cover.flag_of.Statement.{statement}
 use Rattle.fit.proofs.cover.flag_of.Tie as tie
 
-pub flag-of-spec : {M : Type 1} → statement M
-flag-of-spec = tie.close (tie.spec (λ c. search cover_steps) (λ c κs. search rules) (λ c. search cover_steps) (λ c. search cover_steps))
+pub flag_of_spec : {M : Type 1} → statement M
+flag_of_spec = tie.close (tie.spec (λ c. search cover_steps) (λ c κs. search rules) (λ c. search cover_steps) (λ c. search cover_steps))

@@ -4,8 +4,8 @@ use borrow.Author.Rules.{rules}
 use Rattle.fit.proofs.cover.flags_of.Statement.{statement}
 use Rattle.fit.proofs.cover.flags_of.Tie as tie
 
-pub flags-of-spec : {M : Type 1} → statement M
-flags-of-spec =
+pub flags_of_spec : {M : Type 1} → statement M
+flags_of_spec =
     tie.close
     (tie.spec
     (λ c κs. search rules)

@@ -3,5 +3,5 @@ use Rattle.fit.proofs.CoverSteps.{cover_steps}
 use Rattle.fit.proofs.cover.within.Statement.{statement}
 use Rattle.fit.proofs.cover.within.Tie as tie
 
-pub within-spec : {M : Type 1} → statement M
-within-spec = tie.close (tie.spec (λ c. search cover_steps) (λ c. search cover_steps))
+pub within_spec : {M : Type 1} → statement M
+within_spec = tie.close (tie.spec (λ c. search cover_steps) (λ c. search cover_steps))

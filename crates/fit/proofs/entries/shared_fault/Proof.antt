@@ -4,8 +4,8 @@ use borrow.Author.Rules.{rules}
 use Rattle.fit.proofs.entries.shared_fault.Statement.{statement}
 use Rattle.fit.proofs.entries.shared_fault.Tie as tie
 
-pub shared-fault-spec : {M : Type 1} → statement M
-shared-fault-spec =
+pub shared_fault_spec : {M : Type 1} → statement M
+shared_fault_spec =
     tie.close
     (tie.spec
     (λ c. search rules)

@@ -4,6 +4,6 @@ use borrow.Author.Rules.{rules}
 use Rattle.fit.proofs.entries.tree_fault.Statement.{statement}
 use Rattle.fit.proofs.entries.tree_fault.Tie as tie
 
-pub tree-fault-spec : {M : Type 1} → statement M
-tree-fault-spec =
+pub tree_fault_spec : {M : Type 1} → statement M
+tree_fault_spec =
     tie.close (tie.spec (λ c κs. search rules) (λ c. search entry_steps) (λ c κs. search rules) (λ c. search entry_steps) (λ c. search entry_steps))

@@ -4,22 +4,22 @@ use Rattle.fit.proofs.GrantSteps.{sum_next, sum_steps, SumSoFar}
 use Rattle.fit.proofs.grants.count_granted.Statement.{statement}
 use Rattle.fit.proofs.grants.count_granted.Tie as tie
 
-abbrev invariant-loop : tie.invariant-loop
+abbrev invariant-loop : tie.invariant-loop-i
 invariant-loop c nodes group rows len total₀ i₀ total i = (i ≤ 8) × SumSoFar group c nodes len rows total i
 
-abbrev decreases-loop : tie.decreases-loop
+abbrev decreases-loop : tie.decreases-loop-i
 decreases-loop c nodes group rows len total₀ i₀ total i = 8 - i
 
-loop-again : tie.Need-loop-preserved invariant-loop decreases-loop
+loop-again : tie.Need-loop-i-preserved invariant-loop decreases-loop
 loop-again c = (
   search sum_steps,
-  sum_next _ _ _ _ _ _ _ c.before.before.before.before.loop.invariant.1
-      (search sum_steps) (search sum_steps) (search sum_steps) _ c.before.count_at.ensures.0 c.before.count_at.ensures.1
-      _ c.add.ensures,
+  sum_next _ _ _ _ _ _ _ c.loop-i.invariant.1
+      (search sum_steps) (search sum_steps) (search sum_steps) _ c.count_at.ensures.0 c.count_at.ensures.1
+      _ c.add-total.ensures,
 )
 
-pub count-granted-spec : {M : Type 1} → statement M
-count-granted-spec =
+pub count_granted_spec : {M : Type 1} → statement M
+count_granted_spec =
     tie.close
     (tie.spec
     invariant-loop

@@ -5,14 +5,14 @@ use Rattle.fit.proofs.ScanSteps.{scan_steps, ScanSoFar}
 use Rattle.fit.proofs.grants.first_rows.Statement.{statement}
 use Rattle.fit.proofs.grants.first_rows.Tie as tie
 
-abbrev invariant-loop : tie.invariant-loop
+abbrev invariant-loop : tie.invariant-loop-i
 invariant-loop nodes tree first₀ limit₀ i₀ first limit i = ScanSoFar nodes tree.from tree.to first₀ first limit i
 
-abbrev decreases-loop : tie.decreases-loop
+abbrev decreases-loop : tie.decreases-loop-i
 decreases-loop nodes tree first₀ limit₀ i₀ first limit i = tree.to - i
 
-pub first-rows-spec : {M : Type 1} → statement M
-first-rows-spec =
+pub first_rows_spec : {M : Type 1} → statement M
+first_rows_spec =
     tie.close
     (tie.spec
     invariant-loop

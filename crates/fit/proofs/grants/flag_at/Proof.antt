@@ -4,5 +4,5 @@ use Rattle.fit.proofs.GrantSteps.{given_steps}
 use Rattle.fit.proofs.grants.flag_at.Statement.{statement}
 use Rattle.fit.proofs.grants.flag_at.Tie as tie
 
-pub flag-at-spec : {M : Type 1} → statement M
-flag-at-spec = tie.close (tie.spec (λ c κs. search rules) (λ c κs. search rules) (λ c. search given_steps))
+pub flag_at_spec : {M : Type 1} → statement M
+flag_at_spec = tie.close (tie.spec (λ c κs. search rules) (λ c κs. search rules) (λ c. search given_steps))

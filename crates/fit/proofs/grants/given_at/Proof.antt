@@ -4,5 +4,5 @@ use Rattle.fit.proofs.GrantSteps.{given_steps}
 use Rattle.fit.proofs.grants.given_at.Statement.{statement}
 use Rattle.fit.proofs.grants.given_at.Tie as tie
 
-pub given-at-spec : {M : Type 1} → statement M
-given-at-spec = tie.close (tie.spec (λ c κs. search rules) (λ c. search given_steps) (λ c. search given_steps))
+pub given_at_spec : {M : Type 1} → statement M
+given_at_spec = tie.close (tie.spec (λ c κs. search rules) (λ c. search given_steps) (λ c. search given_steps))

@@ -5,8 +5,8 @@ use Rattle.fit.proofs.grants.givers.Statement.{statement}
 use Rattle.fit.proofs.grants.givers.Tie as tie
 
 returns : tie.Need-returns
-returns c = rows_give _ _ _ _ _ _ c.rows_in.ensures c.before.before.first_rows.ensures
+returns c = rows_give _ _ _ _ _ _ c.rows_in.ensures c.first_rows-first.ensures
 
-pub givers-spec : {M : Type 1} → statement M
-givers-spec =
+pub givers_spec : {M : Type 1} → statement M
+givers_spec =
     tie.close (tie.spec (λ c κs. search rules) (λ c. search rules) (λ c κs. search rules) returns)

@@ -5,14 +5,14 @@ use Rattle.fit.proofs.ScanSteps.{givers_steps, GiversSoFar}
 use Rattle.fit.proofs.grants.granting.Statement.{statement}
 use Rattle.fit.proofs.grants.granting.Tie as tie
 
-abbrev invariant-loop : tie.invariant-loop
+abbrev invariant-loop : tie.invariant-loop-i
 invariant-loop nodes purpose given len rows₀ i₀ rows i = (i ≤ 8) × GiversSoFar (granting_row purpose nodes) len given rows i
 
-abbrev decreases-loop : tie.decreases-loop
+abbrev decreases-loop : tie.decreases-loop-i
 decreases-loop nodes purpose given len rows₀ i₀ rows i = 8 - i
 
-pub granting-spec : {M : Type 1} → statement M
-granting-spec =
+pub granting_spec : {M : Type 1} → statement M
+granting_spec =
     tie.close
     (tie.spec
     invariant-loop

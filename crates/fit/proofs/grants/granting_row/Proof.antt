@@ -4,8 +4,8 @@ use Rattle.fit.proofs.GrantSteps.{purpose_steps}
 use Rattle.fit.proofs.grants.granting_row.Statement.{statement}
 use Rattle.fit.proofs.grants.granting_row.Tie as tie
 
-pub granting-row-spec : {M : Type 1} → statement M
-granting-row-spec =
+pub granting_row_spec : {M : Type 1} → statement M
+granting_row_spec =
     tie.close
     (tie.spec
     (λ c. search purpose_steps)

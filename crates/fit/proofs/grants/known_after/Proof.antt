@@ -4,5 +4,5 @@ use borrow.Author.Rules.{rules}
 use Rattle.fit.proofs.grants.known_after.Statement.{statement}
 use Rattle.fit.proofs.grants.known_after.Tie as tie
 
-pub known-after-spec : {M : Type 1} → statement M
-known-after-spec = tie.close (tie.spec (λ c. search tests) (λ c. search rules) (λ c. search tests) (λ c. search tests))
+pub known_after_spec : {M : Type 1} → statement M
+known_after_spec = tie.close (tie.spec (λ c. search tests) (λ c. search rules) (λ c. search tests) (λ c. search tests))

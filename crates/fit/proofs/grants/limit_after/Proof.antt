@@ -4,5 +4,5 @@ use borrow.Author.Rules.{rules}
 use Rattle.fit.proofs.grants.limit_after.Statement.{statement}
 use Rattle.fit.proofs.grants.limit_after.Tie as tie
 
-pub limit-after-spec : {M : Type 1} → statement M
-limit-after-spec = tie.close (tie.spec (λ c. search tests) (λ c. search rules) (λ c. search tests) (λ c. search tests))
+pub limit_after_spec : {M : Type 1} → statement M
+limit_after_spec = tie.close (tie.spec (λ c. search tests) (λ c. search rules) (λ c. search tests) (λ c. search tests))

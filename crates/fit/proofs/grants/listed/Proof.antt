@@ -4,14 +4,14 @@ use Rattle.fit.proofs.GrantSteps.{item_steps, ItemSoFar}
 use Rattle.fit.proofs.grants.listed.Statement.{statement}
 use Rattle.fit.proofs.grants.listed.Tie as tie
 
-abbrev invariant-loop : tie.invariant-loop
+abbrev invariant-loop : tie.invariant-loop-i
 invariant-loop c p group i₀ i = ItemSoFar c group p.count p.list i
 
-abbrev decreases-loop : tie.decreases-loop
+abbrev decreases-loop : tie.decreases-loop-i
 decreases-loop c p group i₀ i = p.count - i
 
-pub listed-spec : {M : Type 1} → statement M
-listed-spec =
+pub listed_spec : {M : Type 1} → statement M
+listed_spec =
     tie.close
     (tie.spec
     invariant-loop

@@ -4,8 +4,8 @@ use borrow.Author.Rules.{rules}
 use Rattle.fit.proofs.grants.row_in.Statement.{statement}
 use Rattle.fit.proofs.grants.row_in.Tie as tie
 
-pub row-in-spec : {M : Type 1} → statement M
-row-in-spec =
+pub row_in_spec : {M : Type 1} → statement M
+row_in_spec =
     tie.close
     (tie.spec
     (λ c. search row_steps)

@@ -5,14 +5,14 @@ use Rattle.fit.proofs.ScanSteps.{givers_steps, GiversSoFar}
 use Rattle.fit.proofs.grants.rows_in.Statement.{statement}
 use Rattle.fit.proofs.grants.rows_in.Tie as tie
 
-abbrev invariant-loop : tie.invariant-loop
+abbrev invariant-loop : tie.invariant-loop-i
 invariant-loop first groups len rows₀ i₀ rows i = (i ≤ 8) × GiversSoFar (row_in first) len groups rows i
 
-abbrev decreases-loop : tie.decreases-loop
+abbrev decreases-loop : tie.decreases-loop-i
 decreases-loop first groups len rows₀ i₀ rows i = 8 - i
 
-pub rows-in-spec : {M : Type 1} → statement M
-rows-in-spec =
+pub rows_in_spec : {M : Type 1} → statement M
+rows_in_spec =
     tie.close
     (tie.spec
     invariant-loop

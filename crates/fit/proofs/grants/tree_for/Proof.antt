@@ -4,18 +4,18 @@ use Rattle.fit.proofs.GrantSteps.{tree_steps, tree_next, TreeSoFar}
 use Rattle.fit.proofs.grants.tree_for.Statement.{statement}
 use Rattle.fit.proofs.grants.tree_for.Tie as tie
 
-abbrev invariant-loop : tie.invariant-loop
+abbrev invariant-loop : tie.invariant-loop-t
 invariant-loop trees kind kinds t₀ t = (t ≤ trees.len) × TreeSoFar kind trees.len kinds t
 
-abbrev decreases-loop : tie.decreases-loop
+abbrev decreases-loop : tie.decreases-loop-t
 decreases-loop trees kind kinds t₀ t = trees.len - t
 
-loop-again : tie.Need-loop-preserved invariant-loop decreases-loop
+loop-again : tie.Need-loop-t-preserved invariant-loop decreases-loop
 loop-again c =
-    (search tree_steps, tree_next _ _ _ _ c.before.before.before.before.loop.invariant.1 _ (search tree_steps) (search tree_steps) (search tree_steps) c.before.wide-byte.ensures (search tree_steps))
+    (search tree_steps, tree_next _ _ _ _ c.loop-t.invariant.1 _ (search tree_steps) (search tree_steps) (search tree_steps) c.wide_byte.ensures (search tree_steps))
 
-pub tree-for-spec : {M : Type 1} → statement M
-tree-for-spec =
+pub tree_for_spec : {M : Type 1} → statement M
+tree_for_spec =
     tie.close
     (tie.spec
     invariant-loop

@@ -4,7 +4,7 @@ use borrow.Author.Rules.{rules}
 use Rattle.fit.proofs.uncovered.entry_missing.Statement.{statement}
 use Rattle.fit.proofs.uncovered.entry_missing.Tie as tie
 
-pub entry-missing-spec : {M : Type 1} → statement M
-entry-missing-spec =
+pub entry_missing_spec : {M : Type 1} → statement M
+entry_missing_spec =
     tie.close
     (tie.spec (λ c κs. search rules) (λ c. search search_steps) (λ c κs. search rules) (λ c κs. search rules) (λ c. search search_steps))

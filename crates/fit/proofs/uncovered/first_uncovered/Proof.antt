@@ -4,8 +4,8 @@ use borrow.Author.Rules.{rules}
 use Rattle.fit.proofs.uncovered.first_uncovered.Statement.{statement}
 use Rattle.fit.proofs.uncovered.first_uncovered.Tie as tie
 
-pub first-uncovered-spec : {M : Type 1} → statement M
-first-uncovered-spec =
+pub first_uncovered_spec : {M : Type 1} → statement M
+first_uncovered_spec =
     tie.close
     (tie.spec
     (λ c. search rules)

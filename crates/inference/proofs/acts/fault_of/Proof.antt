@@ -4,8 +4,8 @@ use borrow.Author.Rules.{rules}
 use Rattle.inference.proofs.acts.fault_of.Statement.{statement}
 use Rattle.inference.proofs.acts.fault_of.Tie as tie
 
-pub fault-of-spec : {M : Type 1} → statement M
-fault-of-spec =
+pub fault_of_spec : {M : Type 1} → statement M
+fault_of_spec =
     tie.close
     (tie.spec
     (λ c. search rules)

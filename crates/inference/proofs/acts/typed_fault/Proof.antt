@@ -4,8 +4,8 @@ use borrow.Author.Rules.{rules}
 use Rattle.inference.proofs.acts.typed_fault.Statement.{statement}
 use Rattle.inference.proofs.acts.typed_fault.Tie as tie
 
-pub typed-fault-spec : {M : Type 1} → statement M
-typed-fault-spec =
+pub typed_fault_spec : {M : Type 1} → statement M
+typed_fault_spec =
     tie.close
     (tie.spec
     (λ c κs. search rules)

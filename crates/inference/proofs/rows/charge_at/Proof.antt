@@ -4,8 +4,8 @@ use borrow.Author.Rules.{rules}
 use Rattle.inference.proofs.rows.charge_at.Statement.{statement}
 use Rattle.inference.proofs.rows.charge_at.Tie as tie
 
-pub charge-at-spec : {M : Type 1} → statement M
-charge-at-spec =
+pub charge_at_spec : {M : Type 1} → statement M
+charge_at_spec =
     tie.close
     (tie.spec
     (λ c. search rules)

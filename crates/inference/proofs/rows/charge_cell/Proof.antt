@@ -4,7 +4,7 @@ use Rattle.inference.proofs.RowSteps.{row_steps}
 use Rattle.inference.proofs.rows.charge_cell.Statement.{statement}
 use Rattle.inference.proofs.rows.charge_cell.Tie as tie
 
-pub charge-cell-spec : {M : Type 1} → statement M
-charge-cell-spec =
+pub charge_cell_spec : {M : Type 1} → statement M
+charge_cell_spec =
     tie.close
     (tie.spec (λ c κs. search rules) (λ c κs. search rules) (λ c. search rules) (λ c. search row_steps) (λ c. search row_steps) (λ c. search row_steps))

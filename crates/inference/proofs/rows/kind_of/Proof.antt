@@ -4,8 +4,8 @@ use borrow.Author.Rules.{rules}
 use Rattle.inference.proofs.rows.kind_of.Statement.{statement}
 use Rattle.inference.proofs.rows.kind_of.Tie as tie
 
-pub kind-of-spec : {M : Type 1} → statement M
-kind-of-spec =
+pub kind_of_spec : {M : Type 1} → statement M
+kind_of_spec =
     tie.close
     (tie.spec
     (λ c. search rules)

@@ -6,14 +6,14 @@ use Rattle.inference.proofs.GroupRows.{Nearest, near_steps}
 use Rattle.inference.proofs.rows.next_group.Statement.{statement}
 use Rattle.inference.proofs.rows.next_group.Tie as tie
 
-abbrev invariant-loop : tie.invariant-loop
+abbrev invariant-loop : tie.invariant-loop-i
 invariant-loop from groups len best₀ i₀ best i = (i ≤ 8) × Nearest (record { groups = groups; len = len }) from best i
 
-abbrev decreases-loop : tie.decreases-loop
+abbrev decreases-loop : tie.decreases-loop-i
 decreases-loop from groups len best₀ i₀ best i = 8 - i
 
-pub next-group-spec : {M : Type 1} → statement M
-next-group-spec =
+pub next_group_spec : {M : Type 1} → statement M
+next_group_spec =
     tie.close
     (tie.spec
     invariant-loop

@@ -3,5 +3,5 @@ use Rattle.inference.proofs.RowSteps.{row_steps}
 use Rattle.inference.proofs.rows.path_len.Statement.{statement}
 use Rattle.inference.proofs.rows.path_len.Tie as tie
 
-pub path-len-spec : {M : Type 1} → statement M
-path-len-spec = tie.close (tie.spec (λ c. search row_steps) (λ c. search row_steps))
+pub path_len_spec : {M : Type 1} → statement M
+path_len_spec = tie.close (tie.spec (λ c. search row_steps) (λ c. search row_steps))

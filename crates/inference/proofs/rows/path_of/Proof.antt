@@ -6,14 +6,14 @@ use borrow.Author.Rules.{rules}
 use Rattle.inference.proofs.rows.path_of.Statement.{statement}
 use Rattle.inference.proofs.rows.path_of.Tie as tie
 
-abbrev invariant-loop : tie.invariant-loop
+abbrev invariant-loop : tie.invariant-loop-i
 invariant-loop table component row len groups₀ i₀ groups i = Copied row table groups i
 
-abbrev decreases-loop : tie.decreases-loop
+abbrev decreases-loop : tie.decreases-loop-i
 decreases-loop table component row len groups₀ i₀ groups i = 8 - i
 
-pub path-of-spec : {M : Type 1} → statement M
-path-of-spec =
+pub path_of_spec : {M : Type 1} → statement M
+path_of_spec =
     tie.close
     (tie.spec
     invariant-loop

@@ -6,14 +6,14 @@ use Rattle.inference.proofs.RowSteps.{Searching, row_steps}
 use Rattle.inference.proofs.rows.place_of.Statement.{statement}
 use Rattle.inference.proofs.rows.place_of.Tie as tie
 
-abbrev invariant-loop : tie.invariant-loop
+abbrev invariant-loop : tie.invariant-loop-place
 invariant-loop table component group count place₀ place = Searching table component group count place
 
-abbrev decreases-loop : tie.decreases-loop
+abbrev decreases-loop : tie.decreases-loop-place
 decreases-loop table component group count place₀ place = count - place
 
-pub place-of-spec : {M : Type 1} → statement M
-place-of-spec =
+pub place_of_spec : {M : Type 1} → statement M
+place_of_spec =
     tie.close
     (tie.spec
     invariant-loop

@@ -7,14 +7,14 @@ use Rattle.inference.proofs.GroupRows.{Rising, rise_steps}
 use Rattle.inference.proofs.rows.store_groups.Statement.{statement}
 use Rattle.inference.proofs.rows.store_groups.Tie as tie
 
-abbrev invariant-loop : tie.invariant-loop
+abbrev invariant-loop : tie.invariant-loop-group
 invariant-loop table₀ component path row count₀ group₀ table count group = Rising row (path_of path) table₀ table count group
 
-abbrev decreases-loop : tie.decreases-loop
+abbrev decreases-loop : tie.decreases-loop-group
 decreases-loop table₀ component path row count₀ group₀ table count group = 64 - group
 
-pub store-groups-spec : {M : Type 1} → statement M
-store-groups-spec =
+pub store_groups_spec : {M : Type 1} → statement M
+store_groups_spec =
     tie.close
     (tie.spec
     invariant-loop

@@ -4,6 +4,6 @@ use borrow.Author.Rules.{rules}
 use Rattle.inference.proofs.rows.store_path.Statement.{statement}
 use Rattle.inference.proofs.rows.store_path.Tie as tie
 
-pub store-path-spec : {M : Type 1} → statement M
-store-path-spec =
+pub store_path_spec : {M : Type 1} → statement M
+store_path_spec =
     tie.close (tie.spec (λ c κs. search rules) (λ c κs. search rules) (λ c. search rules) (λ c. search rise_steps))

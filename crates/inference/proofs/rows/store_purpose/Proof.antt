@@ -4,6 +4,6 @@ use Rattle.inference.specs.Rows.{with_purpose}
 use Rattle.inference.proofs.rows.store_purpose.Statement.{statement}
 use Rattle.inference.proofs.rows.store_purpose.Tie as tie
 
-pub store-purpose-spec : {M : Type 1} → statement M
+pub store_purpose_spec : {M : Type 1} → statement M
 unfolding with_purpose
-store-purpose-spec = tie.close (tie.spec (λ c. search rules) (λ c. search rules) (λ c κs. search rules) (λ c. search rules) (λ c. search rules))
+store_purpose_spec = tie.close (tie.spec (λ c. search rules) (λ c. search rules) (λ c κs. search rules) (λ c. search rules) (λ c. search rules))

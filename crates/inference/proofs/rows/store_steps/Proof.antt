@@ -6,14 +6,14 @@ use Rattle.inference.proofs.PathRows.{Storing, path_rows}
 use Rattle.inference.proofs.rows.store_steps.Statement.{statement}
 use Rattle.inference.proofs.rows.store_steps.Tie as tie
 
-abbrev invariant-loop : tie.invariant-loop
+abbrev invariant-loop : tie.invariant-loop-i
 invariant-loop table₀ component len row groups i₀ table i = Storing row len groups table₀ table i
 
-abbrev decreases-loop : tie.decreases-loop
+abbrev decreases-loop : tie.decreases-loop-i
 decreases-loop table₀ component len row groups i₀ table i = len - i
 
-pub store-steps-spec : {M : Type 1} → statement M
-store-steps-spec =
+pub store_steps_spec : {M : Type 1} → statement M
+store_steps_spec =
     tie.close
     (tie.spec
     invariant-loop

@@ -4,5 +4,5 @@ use borrow.Author.Rules.{rules}
 use Rattle.inference.proofs.rows.stored_at.Statement.{statement}
 use Rattle.inference.proofs.rows.stored_at.Tie as tie
 
-pub stored-at-spec : {M : Type 1} → statement M
-stored-at-spec = tie.close (tie.spec (λ c. search rules) (λ c. search rules) (λ c. search rules) (λ c. search row_steps))
+pub stored_at_spec : {M : Type 1} → statement M
+stored_at_spec = tie.close (tie.spec (λ c. search rules) (λ c. search rules) (λ c. search rules) (λ c. search row_steps))

@@ -4,5 +4,5 @@ use borrow.Author.Rules.{rules}
 use Rattle.inference.proofs.scope.bind.Statement.{statement}
 use Rattle.inference.proofs.scope.bind.Tie as tie
 
-pub bind-spec : {M : Type 1} → statement M
-bind-spec = tie.close (tie.spec (λ c. search rules) (λ c. search rules) (λ c. search rules) (λ c. search rules) (λ c. search row_steps))
+pub bind_spec : {M : Type 1} → statement M
+bind_spec = tie.close (tie.spec (λ c. search rules) (λ c. search rules) (λ c. search rules) (λ c. search rules) (λ c. search row_steps))

@@ -4,5 +4,5 @@ use borrow.Author.Rules.{rules}
 use Rattle.inference.proofs.scope.type_of.Statement.{statement}
 use Rattle.inference.proofs.scope.type_of.Tie as tie
 
-pub type-of-spec : {M : Type 1} → statement M
-type-of-spec = tie.close (tie.spec (λ c. search rules) (λ c. search rules) (λ c. search row_steps) (λ c. search row_steps) (λ c. search row_steps))
+pub type_of_spec : {M : Type 1} → statement M
+type_of_spec = tie.close (tie.spec (λ c. search rules) (λ c. search rules) (λ c. search row_steps) (λ c. search row_steps) (λ c. search row_steps))

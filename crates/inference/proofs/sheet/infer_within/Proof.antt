@@ -4,8 +4,8 @@ use borrow.Author.Rules.{rules}
 use Rattle.inference.proofs.sheet.infer_within.Statement.{statement}
 use Rattle.inference.proofs.sheet.infer_within.Tie as tie
 
-pub infer-within-spec : {M : Type 1} → statement M
-infer-within-spec =
+pub infer_within_spec : {M : Type 1} → statement M
+infer_within_spec =
     tie.close
     (tie.spec
     (λ c κs. search rules)

@@ -4,8 +4,8 @@ use borrow.Author.Rules.{rules}
 use Rattle.inference.proofs.sheet.load_free.Statement.{statement}
 use Rattle.inference.proofs.sheet.load_free.Tie as tie
 
-pub load-free-spec : {M : Type 1} → statement M
-load-free-spec =
+pub load_free_spec : {M : Type 1} → statement M
+load_free_spec =
     tie.close
     (tie.spec
     (λ c κs. search rules)

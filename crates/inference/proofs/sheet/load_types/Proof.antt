@@ -7,14 +7,14 @@ use Rattle.inference.proofs.SheetSteps.{Loading, sheet_steps}
 use Rattle.inference.proofs.sheet.load_types.Statement.{statement}
 use Rattle.inference.proofs.sheet.load_types.Tie as tie
 
-abbrev invariant-loop : tie.invariant-loop
+abbrev invariant-loop : tie.invariant-loop-names
 invariant-loop s at count scope₀ next₀ names₀ scope next names = Loading count s at scope next names
 
-abbrev decreases-loop : tie.decreases-loop
+abbrev decreases-loop : tie.decreases-loop-names
 decreases-loop s at count scope₀ next₀ names₀ scope next names = count - names
 
-pub load-types-spec : {M : Type 1} → statement M
-load-types-spec =
+pub load_types_spec : {M : Type 1} → statement M
+load_types_spec =
     tie.close
     (tie.spec
     invariant-loop

@@ -77,14 +77,14 @@ abbrev infer_under_below : ℕ → In 3 infer_under_kinds.ps
 infer_under_below t =
     and 3 infer_under_kinds.ps (falls 3 infer_under_kinds.ps ◌<◌ μ_infer_under t) infer_under.Pre
 
-infer-system-infer-form-requires : (t : ℕ) → infer_system_lts.Need-infer-form-requires (
+infer-system-infer-form-requires : (t : ℕ) → infer_system_lts.Need-infer_form-requires (
   system_at_reads.Asked,
   system_at_reads.Learnt,
   infer_form_below t,
   infer_form.Post,
 ) (infer_system_at t) infer_system.Post
 infer-system-infer-form-requires t c κs =
-    (omega (arith, nest_left _ _ _ _ _ _ _ c.before.before.before.before.before.system-at.ensures _ c.before.before.before.read.given.1), search system_steps)
+    (omega (arith, nest_left _ _ _ _ _ _ _ c.system_at-read.ensures _ c.in-Found.is), search system_steps)
 
 infer-under-returns : (t : ℕ) → infer_under_lts.Need-returns (
   bind_reads.Asked,
@@ -94,13 +94,13 @@ infer-under-returns : (t : ℕ) → infer_under_lts.Need-returns (
 ) (infer_under_at t) infer_under.Post
 infer-under-returns t c =
     under_new _ _ _ _ _ _ _ _ _ _ _
-    c.before.before.before.before.before.before.before.before.before.bind.ensures
+    c.bind.ensures
     (search rules)
     (search rules)
-    c.before.before.before.before.infer_system.ensures
+    c.infer_system.ensures
 
-pub +infer-form-infer-par-infer-system-infer-under-spec : {M : Type 1} → statement M
-+infer-form-infer-par-infer-system-infer-under-spec =
+pub +infer_form_infer_par_infer_system_infer_under_spec : {M : Type 1} → statement M
++infer_form_infer_par_infer_system_infer_under_spec =
     close μ_infer_form μ_infer_par μ_infer_system μ_infer_under (λ t. infer_form_lts.spec (
       infer_par_below t,
       infer_par.Post,

@@ -9,13 +9,13 @@ returns c =
     component_found _ _ _ _ _ _ _ _ _ _ _ _ _
     (search rules)
     (search rules)
-    c.before.before.before.before.before.before.before.before.before.before.before.before.before.before.before.with.ensures
-    c.before.before.before.before.before.before.before.before.before.before.before.before.before.store-purpose.ensures
-    c.before.before.before.before.before.before.before.before.before.store-path.ensures
-    c.before.before.before.before.infer-process.ensures
+    c.with-whole.ensures
+    c.store_purpose.ensures
+    c.store_path.ensures
+    c.infer_process-walk.ensures
 
-pub infer-component-spec : {M : Type 1} → statement M
-infer-component-spec =
+pub infer_component_spec : {M : Type 1} → statement M
+infer_component_spec =
     tie.close
     (tie.spec
     (λ c κs. search rules)

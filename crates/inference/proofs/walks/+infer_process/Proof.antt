@@ -32,7 +32,7 @@ infer_process_below t =
     (falls 3 infer_process_kinds.ps ◌<◌ μ_infer_process t)
     infer_process.Pre
 
-infer-process-returns-10 : (t : ℕ) → infer_process_lts.Need-returns-10 (
+infer-process-returns-10 : (t : ℕ) → infer_process_lts.Need-returns-in-Found (
   infer_process_below t,
   infer_process.Post,
   with_fault_reads.Asked,
@@ -50,9 +50,9 @@ infer-process-returns-10 : (t : ℕ) → infer_process_lts.Need-returns-10 (
 ) (infer_process_at t) infer_process.Post
 infer-process-returns-10 t c =
     new_walked _ _ _ _ _ _ _ _ (search rules) (search rules) _ _ _ _ _ (search (rules, type_found)) (search rules) (search rules) (search rules)
-    _ c.before.before.before.before.before.before.before.before.before.bind.ensures c.before.before.before.before.infer-process3.ensures
+    _ c.bind.ensures c.infer_process.ensures
 
-infer-process-returns-11 : (t : ℕ) → infer_process_lts.Need-returns-11 (
+infer-process-returns-11 : (t : ℕ) → infer_process_lts.Need-returns-in-Found-read (
   infer_process_below t,
   infer_process.Post,
   with_fault_reads.Asked,
@@ -69,12 +69,12 @@ infer-process-returns-11 : (t : ℕ) → infer_process_lts.Need-returns-11 (
   output_fault_reads.Learnt,
 ) (infer_process_at t) infer_process.Post
 infer-process-returns-11 t c =
-    input_walked _ _ _ _ _ _ _ _ c.before.before.before.before.before.before.before.before.before.before.before.before.before.before.before.before.before.before.before.before.before.before.before.before.before.before.before.if1.false c.before.before.before.before.before.before.before.before.before.before.before.before.before.before.before.before.before.before.before.before.before.before.before.before.before.before.if2.false _ _ _ _ _ c.with-fault2.ensures
-    _ _ (search (rules, type_found)) (search rules) (search rules) c.before.before.before.before.before.before.before.before.before.before.before.before.before.before.before.before.before.before.before.before.before.before.before.before.before.before.before.before.before.before.before.before.requires.1.1 _ c.before.before.before.before.before.before.before.before.before.before.bind2.ensures
-    _ _ c.before.before.before.before.before.before.before.before.before.before.before.before.before.before.before.before.before.byte-in.ensures.0 c.before.before.before.before.before.before.before.before.before.before.before.before.before.before.input-fault.ensures.0 c.before.before.before.before.before.before.before.before.before.before.before.before.before.before.input-fault.ensures.1 c.before.before.before.before.before.infer-process4.ensures
+    input_walked _ _ _ _ _ _ _ _ c.if-spot-eq0.false c.if-s-at.false _ _ _ _ _ c.with_fault-in-5.ensures
+    _ _ (search (rules, type_found)) (search rules) (search rules) c.requires.1.1 _ c.bind-in-5.ensures
+    _ _ c.byte_in.ensures.0 c.input_fault-fault.ensures.0 c.input_fault-fault.ensures.1 c.infer_process-rest.ensures
 
-pub +infer-process-spec : {M : Type 1} → statement M
-+infer-process-spec = close μ_infer_process λ t. infer_process_lts.spec (
+pub +infer_process_spec : {M : Type 1} → statement M
++infer_process_spec = close μ_infer_process λ t. infer_process_lts.spec (
   infer_process_below t,
   infer_process.Post,
   with_fault_reads.Asked,

@@ -4,5 +4,5 @@ use borrow.Author.Rules.{rules}
 use Rattle.inference.proofs.walks.input_fault.Statement.{statement}
 use Rattle.inference.proofs.walks.input_fault.Tie as tie
 
-pub input-fault-spec : {M : Type 1} → statement M
-input-fault-spec = tie.close (tie.spec (λ c κs. search rules) (λ c κs. search rules) (λ c. search rules) (λ c. search act_steps))
+pub input_fault_spec : {M : Type 1} → statement M
+input_fault_spec = tie.close (tie.spec (λ c κs. search rules) (λ c κs. search rules) (λ c. search rules) (λ c. search act_steps))

@@ -4,5 +4,5 @@ use borrow.Author.Rules.{rules}
 use Rattle.inference.proofs.walks.with_fault.Statement.{statement}
 use Rattle.inference.proofs.walks.with_fault.Tie as tie
 
-pub with-fault-spec : {M : Type 1} → statement M
-with-fault-spec = tie.close (tie.spec (λ c κs. search rules) (λ c. search act_steps))
+pub with_fault_spec : {M : Type 1} → statement M
+with_fault_spec = tie.close (tie.spec (λ c κs. search rules) (λ c. search act_steps))

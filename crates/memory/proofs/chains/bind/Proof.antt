@@ -4,7 +4,7 @@ use borrow.Author.Rules.{rules}
 use Rattle.memory.proofs.chains.bind.Statement.{statement}
 use Rattle.memory.proofs.chains.bind.Tie as tie
 
-pub bind-spec : {M : Type 1} → statement M
-bind-spec =
+pub bind_spec : {M : Type 1} → statement M
+bind_spec =
     tie.close
     (tie.spec (λ c. search rules) (λ c. search rules) (λ c. search rules) (λ c. search rules) (λ c. search rules) (λ c. search rules) (λ c. search memory_steps) (λ c. search memory_steps))

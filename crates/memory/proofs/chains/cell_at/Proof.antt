@@ -4,5 +4,5 @@ use borrow.Author.Rules.{rules}
 use Rattle.memory.proofs.chains.cell_at.Statement.{statement}
 use Rattle.memory.proofs.chains.cell_at.Tie as tie
 
-pub cell-at-spec : {M : Type 1} → statement M
-cell-at-spec = tie.close (tie.spec (λ c. search rules) (λ c. search rules) (λ c κs. search rules) (λ c. search rules) (λ c. search memory_steps))
+pub cell_at_spec : {M : Type 1} → statement M
+cell_at_spec = tie.close (tie.spec (λ c. search rules) (λ c. search rules) (λ c κs. search rules) (λ c. search rules) (λ c. search memory_steps))

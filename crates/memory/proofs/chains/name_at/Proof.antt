@@ -4,14 +4,14 @@ use Rattle.memory.proofs.ChainSteps.{Sought, search_steps}
 use Rattle.memory.proofs.chains.name_at.Statement.{statement}
 use Rattle.memory.proofs.chains.name_at.Tie as tie
 
-abbrev invariant-loop : tie.invariant-loop
+abbrev invariant-loop : tie.invariant-loop-left
 invariant-loop cells names env level left₀ cell₀ left cell = Sought cells names env level left cell
 
-abbrev decreases-loop : tie.decreases-loop
+abbrev decreases-loop : tie.decreases-loop-left
 decreases-loop cells names env level left₀ cell₀ left cell = left
 
-pub name-at-spec : {M : Type 1} → statement M
-name-at-spec =
+pub name_at_spec : {M : Type 1} → statement M
+name_at_spec =
     tie.close
     (tie.spec
     invariant-loop

@@ -4,5 +4,5 @@ use borrow.Author.Rules.{rules}
 use Rattle.memory.proofs.chains.parent_of.Statement.{statement}
 use Rattle.memory.proofs.chains.parent_of.Tie as tie
 
-pub parent-of-spec : {M : Type 1} → statement M
-parent-of-spec = tie.close (tie.spec (λ c κs. search rules) (λ c. search memory_steps) (λ c. search memory_steps))
+pub parent_of_spec : {M : Type 1} → statement M
+parent_of_spec = tie.close (tie.spec (λ c κs. search rules) (λ c. search memory_steps) (λ c. search memory_steps))

@@ -4,5 +4,5 @@ use borrow.Author.Rules.{rules}
 use Rattle.memory.proofs.names.is_known.Statement.{statement}
 use Rattle.memory.proofs.names.is_known.Tie as tie
 
-pub is-known-spec : {M : Type 1} → statement M
-is-known-spec = tie.close (tie.spec (λ c. search rules) (λ c. search memory_steps) (λ c. search memory_steps) (λ c. search memory_steps))
+pub is_known_spec : {M : Type 1} → statement M
+is_known_spec = tie.close (tie.spec (λ c. search rules) (λ c. search memory_steps) (λ c. search memory_steps) (λ c. search memory_steps))

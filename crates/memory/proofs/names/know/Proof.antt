@@ -4,5 +4,5 @@ use borrow.Author.Rules.{rules}
 use Rattle.memory.proofs.names.know.Statement.{statement}
 use Rattle.memory.proofs.names.know.Tie as tie
 
-pub know-spec : {M : Type 1} → statement M
-know-spec = tie.close (tie.spec (λ c. search rules) (λ c. search rules) (λ c. search rules) (λ c. search memory_steps))
+pub know_spec : {M : Type 1} → statement M
+know_spec = tie.close (tie.spec (λ c. search rules) (λ c. search rules) (λ c. search rules) (λ c. search memory_steps))

@@ -4,5 +4,5 @@ use borrow.Author.Rules.{rules}
 use Rattle.memory.proofs.names.store_type.Statement.{statement}
 use Rattle.memory.proofs.names.store_type.Tie as tie
 
-pub store-type-spec : {M : Type 1} → statement M
-store-type-spec = tie.close (tie.spec (λ c. search rules) (λ c. search rules) (λ c. search rules) (λ c. search rules) (λ c. search rules) (λ c. search memory_steps))
+pub store_type_spec : {M : Type 1} → statement M
+store_type_spec = tie.close (tie.spec (λ c. search rules) (λ c. search rules) (λ c. search rules) (λ c. search rules) (λ c. search rules) (λ c. search memory_steps))

@@ -5,10 +5,10 @@ use Rattle.memory.proofs.SpliceSteps.{Copied, copy_steps}
 use Rattle.memory.proofs.threads.copy.Statement.{statement}
 use Rattle.memory.proofs.threads.copy.Tie as tie
 
-abbrev invariant-loop : tie.invariant-loop
+abbrev invariant-loop : tie.invariant-loop-i
 invariant-loop dst₀ to src from count i₀ dst i = Copied dst₀ to src from count dst i
 
-abbrev decreases-loop : tie.decreases-loop
+abbrev decreases-loop : tie.decreases-loop-i
 decreases-loop dst₀ to src from count i₀ dst i = count - i
 
 pub copy_spec : {M : Type 1} → statement M

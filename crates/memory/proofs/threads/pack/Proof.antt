@@ -8,8 +8,8 @@ returns : tie.Need-returns
 unfolding packed
 returns c = search rules
 
-pub pack-spec : {M : Type 1} → statement M
-pack-spec =
+pub pack_spec : {M : Type 1} → statement M
+pack_spec =
     tie.close
     (tie.spec
     (λ c. search rules)

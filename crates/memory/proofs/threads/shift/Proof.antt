@@ -4,8 +4,8 @@ use borrow.Author.Rules.{rules}
 use Rattle.memory.proofs.threads.shift.Statement.{statement}
 use Rattle.memory.proofs.threads.shift.Tie as tie
 
-pub shift-spec : {M : Type 1} → statement M
-shift-spec =
+pub shift_spec : {M : Type 1} → statement M
+shift_spec =
     tie.close
     (tie.spec
     (λ c κs. search rules)

@@ -5,14 +5,14 @@ use Rattle.memory.proofs.SpliceSteps.{Copied, down_steps}
 use Rattle.memory.proofs.threads.shift_down.Statement.{statement}
 use Rattle.memory.proofs.threads.shift_down.Tie as tie
 
-abbrev invariant-loop : tie.invariant-loop
+abbrev invariant-loop : tie.invariant-loop-i
 invariant-loop threads₀ from to count i₀ threads i = Copied threads₀ to threads₀ from count threads i
 
-abbrev decreases-loop : tie.decreases-loop
+abbrev decreases-loop : tie.decreases-loop-i
 decreases-loop threads₀ from to count i₀ threads i = count - i
 
-pub shift-down-spec : {M : Type 1} → statement M
-shift-down-spec =
+pub shift_down_spec : {M : Type 1} → statement M
+shift_down_spec =
     tie.close
     (tie.spec
     invariant-loop

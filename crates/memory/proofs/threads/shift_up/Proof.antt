@@ -4,14 +4,14 @@ use Rattle.memory.proofs.SpliceSteps.{Lifted, up_steps}
 use Rattle.memory.proofs.threads.shift_up.Statement.{statement}
 use Rattle.memory.proofs.threads.shift_up.Tie as tie
 
-abbrev invariant-loop : tie.invariant-loop
+abbrev invariant-loop : tie.invariant-loop-i
 invariant-loop threads₀ from to count i₀ threads i = Lifted threads₀ from to count threads i
 
-abbrev decreases-loop : tie.decreases-loop
+abbrev decreases-loop : tie.decreases-loop-i
 decreases-loop threads₀ from to count i₀ threads i = i
 
-pub shift-up-spec : {M : Type 1} → statement M
-shift-up-spec =
+pub shift_up_spec : {M : Type 1} → statement M
+shift_up_spec =
     tie.close
     (tie.spec
     invariant-loop

@@ -4,6 +4,6 @@ use borrow.Author.Rules.{rules}
 use Rattle.memory.proofs.threads.splice.Statement.{statement}
 use Rattle.memory.proofs.threads.splice.Tie as tie
 
-pub splice-spec : {M : Type 1} → statement M
-splice-spec =
+pub splice_spec : {M : Type 1} → statement M
+splice_spec =
     tie.close (tie.spec (λ c. search rules) (λ c. search rules) (λ c κs. search rules) (λ c κs. search rules) (λ c. search rules) (λ c. search splice_steps))

@@ -8,5 +8,5 @@ returns : tie.Need-returns
 unfolding unpacked
 returns c = search rules
 
-pub unpack-spec : {M : Type 1} → statement M
-unpack-spec = tie.close (tie.spec returns)
+pub unpack_spec : {M : Type 1} → statement M
+unpack_spec = tie.close (tie.spec returns)

@@ -4,5 +4,5 @@ use borrow.Author.Rules.{rules}
 use Rattle.policy.proofs.nodes.cell.Statement.{statement}
 use Rattle.policy.proofs.nodes.cell.Tie as tie
 
-pub cell-spec : {M : Type 1} → statement M
-cell-spec = tie.close (tie.spec (λ c. search rules) (λ c. search rules) (λ c κs. search rules) (λ c. search rules) (λ c. search node_steps))
+pub cell_spec : {M : Type 1} → statement M
+cell_spec = tie.close (tie.spec (λ c. search rules) (λ c. search rules) (λ c κs. search rules) (λ c. search rules) (λ c. search node_steps))

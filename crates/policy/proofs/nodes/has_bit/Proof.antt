@@ -8,5 +8,5 @@ returns : tie.Need-returns
 unfolding has_bit
 returns c = search rules
 
-pub has-bit-spec : {M : Type 1} → statement M
-has-bit-spec = tie.close (tie.spec (λ c. search rules) returns)
+pub has_bit_spec : {M : Type 1} → statement M
+has_bit_spec = tie.close (tie.spec (λ c. search rules) returns)

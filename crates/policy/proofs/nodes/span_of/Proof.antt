@@ -4,8 +4,8 @@ use borrow.Author.Rules.{rules}
 use Rattle.policy.proofs.nodes.span_of.Statement.{statement}
 use Rattle.policy.proofs.nodes.span_of.Tie as tie
 
-pub span-of-spec : {M : Type 1} → statement M
-span-of-spec =
+pub span_of_spec : {M : Type 1} → statement M
+span_of_spec =
     tie.close
     (tie.spec
     (λ c. search rules)

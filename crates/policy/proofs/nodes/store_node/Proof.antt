@@ -6,15 +6,15 @@ use Rattle.policy.proofs.nodes.store_node.Tie as tie
 
 returns : tie.Need-returns
 returns c =
-    six_stores _ _ _ _ _ _ _ _ _ c.before.before.before.before.before.before.before.before.before.before.before.before.before.before.before.before.before.before.before.before.before.before.put.ensures
-    c.before.before.before.before.before.before.before.before.before.before.before.before.before.before.before.before.before.before.put2.ensures
-    c.before.before.before.before.before.before.before.before.before.before.before.before.before.before.put3.ensures
-    c.before.before.before.before.before.before.before.before.before.before.put4.ensures
-    c.before.before.before.before.before.before.put5.ensures
-    c.before.before.put6.ensures
+    six_stores _ _ _ _ _ _ _ _ _ c.put.ensures
+    c.put-2.ensures
+    c.put-3.ensures
+    c.put-4.ensures
+    c.put-5.ensures
+    c.put-6.ensures
 
-pub store-node-spec : {M : Type 1} → statement M
-store-node-spec =
+pub store_node_spec : {M : Type 1} → statement M
+store_node_spec =
     tie.close
     (tie.spec
     (λ c. search rules)

@@ -9,7 +9,7 @@ returns : tie.Need-returns
 unfolding word_in
 returns c = search node_steps
 
-pub word-in-spec : {M : Type 1} → statement M
-word-in-spec =
+pub word_in_spec : {M : Type 1} → statement M
+word_in_spec =
     tie.close
     (tie.spec (λ c κs. search rules) (λ c. search rules) (λ c κs. search rules) (λ c. search rules) (λ c. search rules) returns)

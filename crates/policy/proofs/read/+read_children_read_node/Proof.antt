@@ -42,14 +42,14 @@ abbrev read_node_below : ℕ → In 2 read_node_kinds.ps
 read_node_below t =
     and 2 read_node_kinds.ps (falls 2 read_node_kinds.ps ◌<◌ μ_read_node t) read_node.Pre
 
-abbrev read-children-Inv-loop : read_children_lts.invariant-loop
+abbrev read-children-Inv-loop : read_children_lts.invariant-loop-left
 read-children-Inv-loop c at count level used nodes₀ next₀ rows₀ left₀ nodes next rows left =
     Loading level c count used at (8 - level) nodes₀ left rows next nodes
 
-abbrev read-children-μ-loop : read_children_lts.decreases-loop
+abbrev read-children-μ-loop : read_children_lts.decreases-loop-left
 read-children-μ-loop c at count level used nodes₀ next₀ rows₀ left₀ nodes next rows left = left
 
-read-node-read-children-requires : (t : ℕ) → read_node_lts.Need-read-children-requires (
+read-node-read-children-requires : (t : ℕ) → read_node_lts.Need-read_children-requires (
   fault_reads.Asked,
   fault_reads.Learnt,
   read_opening_reads.Asked,
@@ -63,8 +63,8 @@ read-node-read-children-requires : (t : ℕ) → read_node_lts.Need-read-childre
 ) (read_node_at t) read_node.Post
 read-node-read-children-requires t c κs = (search root_steps, (search root_steps, search root_steps, search root_steps, search root_steps))
 
-pub +read-children-read-node-spec : {M : Type 1} → statement M
-+read-children-read-node-spec = close μ_read_children μ_read_node (λ t. read_children_lts.spec (
+pub +read_children_read_node_spec : {M : Type 1} → statement M
++read_children_read_node_spec = close μ_read_children μ_read_node (λ t. read_children_lts.spec (
   read_node_below t,
   read_node.Post,
 )

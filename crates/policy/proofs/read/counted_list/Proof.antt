@@ -4,8 +4,8 @@ use borrow.Author.Rules.{rules}
 use Rattle.policy.proofs.read.counted_list.Statement.{statement}
 use Rattle.policy.proofs.read.counted_list.Tie as tie
 
-pub counted-list-spec : {M : Type 1} → statement M
-counted-list-spec =
+pub counted_list_spec : {M : Type 1} → statement M
+counted_list_spec =
     tie.close
     (tie.spec
     (λ c κs. search rules)

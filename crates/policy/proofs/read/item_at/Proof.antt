@@ -4,8 +4,8 @@ use borrow.Author.Rules.{rules}
 use Rattle.policy.proofs.read.item_at.Statement.{statement}
 use Rattle.policy.proofs.read.item_at.Tie as tie
 
-pub item-at-spec : {M : Type 1} → statement M
-item-at-spec =
+pub item_at_spec : {M : Type 1} → statement M
+item_at_spec =
     tie.close
     (tie.spec
     (λ c κs. search rules)

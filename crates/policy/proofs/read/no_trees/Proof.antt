@@ -8,5 +8,5 @@ returns : tie.Need-returns
 unfolding no_trees
 returns c = search rules
 
-pub no-trees-spec : {M : Type 1} → statement M
-no-trees-spec = tie.close (tie.spec returns)
+pub no_trees_spec : {M : Type 1} → statement M
+no_trees_spec = tie.close (tie.spec returns)

@@ -4,8 +4,8 @@ use borrow.Author.Rules.{rules}
 use Rattle.policy.proofs.read.permissions_at.Statement.{statement}
 use Rattle.policy.proofs.read.permissions_at.Tie as tie
 
-pub permissions-at-spec : {M : Type 1} → statement M
-permissions-at-spec =
+pub permissions_at_spec : {M : Type 1} → statement M
+permissions_at_spec =
     tie.close
     (tie.spec
     (λ c κs. search rules)

@@ -4,5 +4,5 @@ use borrow.Author.Rules.{rules}
 use Rattle.policy.proofs.read.purposes_at.Statement.{statement}
 use Rattle.policy.proofs.read.purposes_at.Tie as tie
 
-pub purposes-at-spec : {M : Type 1} → statement M
-purposes-at-spec = tie.close (tie.spec (λ c κs. search rules) (λ c κs. search rules) (λ c. search announced_steps) (λ c. search announced_steps))
+pub purposes_at_spec : {M : Type 1} → statement M
+purposes_at_spec = tie.close (tie.spec (λ c κs. search rules) (λ c κs. search rules) (λ c. search announced_steps) (λ c. search announced_steps))

@@ -3,14 +3,14 @@ use Rattle.policy.proofs.ListSteps.{list_steps, ItemsAhead}
 use Rattle.policy.proofs.read.read_list.Statement.{statement}
 use Rattle.policy.proofs.read.read_list.Tie as tie
 
-abbrev invariant-loop : tie.invariant-loop
+abbrev invariant-loop : tie.invariant-loop-left
 invariant-loop c at count next₀ lowest₀ left₀ next lowest left = ItemsAhead c at count next lowest left
 
-abbrev decreases-loop : tie.decreases-loop
+abbrev decreases-loop : tie.decreases-loop-left
 decreases-loop c at count next₀ lowest₀ left₀ next lowest left = left
 
-pub read-list-spec : {M : Type 1} → statement M
-read-list-spec =
+pub read_list_spec : {M : Type 1} → statement M
+read_list_spec =
     tie.close
     (tie.spec
     invariant-loop

@@ -4,8 +4,8 @@ use borrow.Author.Rules.{rules}
 use Rattle.policy.proofs.read.read_opening.Statement.{statement}
 use Rattle.policy.proofs.read.read_opening.Tie as tie
 
-pub read-opening-spec : {M : Type 1} → statement M
-read-opening-spec =
+pub read_opening_spec : {M : Type 1} → statement M
+read_opening_spec =
     tie.close
     (tie.spec
     (λ c κs. search rules)

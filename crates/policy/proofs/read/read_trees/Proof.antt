@@ -6,14 +6,14 @@ use lib.ListN.{length}
 use Rattle.policy.proofs.read.read_trees.Statement.{statement}
 use Rattle.policy.proofs.read.read_trees.Tie as tie
 
-abbrev invariant-loop : tie.invariant-loop
+abbrev invariant-loop : tie.invariant-loop-trees
 invariant-loop c at count nodes₀ trees₀ next₀ used₀ nodes trees next used = (length nodes ≡ 384) × TreesRead c at count nodes trees next used
 
-abbrev decreases-loop : tie.decreases-loop
+abbrev decreases-loop : tie.decreases-loop-trees
 decreases-loop c at count nodes₀ trees₀ next₀ used₀ nodes trees next used = count - trees.len
 
-pub read-trees-spec : {M : Type 1} → statement M
-read-trees-spec =
+pub read_trees_spec : {M : Type 1} → statement M
+read_trees_spec =
     tie.close
     (tie.spec
     invariant-loop

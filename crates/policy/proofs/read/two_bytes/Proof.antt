@@ -5,20 +5,20 @@ use borrow.Author.Rules.{rules}
 use Rattle.policy.proofs.read.two_bytes.Statement.{statement}
 use Rattle.policy.proofs.read.two_bytes.Tie as tie
 
-returns : tie.Need-returns
+returns : tie.Need-returns-in_default
 unfolding two_bytes
 returns c = search word_steps
 
-returns-2 : tie.Need-returns-2
+returns-2 : tie.Need-returns-in_default-second
 unfolding two_bytes
 returns-2 c = search word_steps
 
-returns-3 : tie.Need-returns-3
+returns-3 : tie.Need-returns
 unfolding two_bytes
 returns-3 c = search word_steps
 
-pub two-bytes-spec : {M : Type 1} → statement M
-two-bytes-spec =
+pub two_bytes_spec : {M : Type 1} → statement M
+two_bytes_spec =
     tie.close
     (tie.spec
     (λ c κs. search rules)

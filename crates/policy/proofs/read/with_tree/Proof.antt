@@ -8,6 +8,6 @@ returns : tie.Need-returns
 unfolding with_tree
 returns c = search rules
 
-pub with-tree-spec : {M : Type 1} → statement M
-with-tree-spec =
+pub with_tree_spec : {M : Type 1} → statement M
+with_tree_spec =
     tie.close (tie.spec (λ c. search rules) (λ c. search rules) (λ c. search rules) (λ c. search rules) (λ c. search rules) returns)

@@ -5,6 +5,6 @@ use borrow.Author.Rules.{rules}
 use Rattle.reading.proofs.bytes.byte_at.Statement.{statement}
 use Rattle.reading.proofs.bytes.byte_at.Tie as tie
 
-pub byte-at-spec : {M : Type 1} → statement M
+pub byte_at_spec : {M : Type 1} → statement M
 unfolding byte_at
-byte-at-spec = tie.close (tie.spec (λ c. search rules) (λ c κs. search rules) (λ c. search rules) (λ c. search tests) (λ c. search tests))
+byte_at_spec = tie.close (tie.spec (λ c. search rules) (λ c κs. search rules) (λ c. search rules) (λ c. search tests) (λ c. search tests))

@@ -7,7 +7,7 @@ use borrow.Author.Rules.{rules}
 use Rattle.reading.proofs.bytes.byte_below.Statement.{statement}
 use Rattle.reading.proofs.bytes.byte_below.Tie as tie
 
-pub byte-below-spec : {M : Type 1} → statement M
+pub byte_below_spec : {M : Type 1} → statement M
 unfolding below
-byte-below-spec =
+byte_below_spec =
     tie.close (tie.spec (λ c κs. search rules) (λ c. search rules) (λ c. search rules) (λ c. search (tests, steps)) (λ c. search (tests, steps)) (λ c. search (tests, steps)))

@@ -4,5 +4,5 @@ use borrow.Author.Rules.{rules}
 use Rattle.reading.proofs.bytes.byte_in.Statement.{statement}
 use Rattle.reading.proofs.bytes.byte_in.Tie as tie
 
-pub byte-in-spec : {M : Type 1} → statement M
-byte-in-spec = tie.close (tie.spec (λ c. search (rules, unread)) (λ c. search rules) (λ c κs. search rules) (λ c. search (rules, unread)))
+pub byte_in_spec : {M : Type 1} → statement M
+byte_in_spec = tie.close (tie.spec (λ c. search (rules, unread)) (λ c. search rules) (λ c κs. search rules) (λ c. search (rules, unread)))

@@ -3,8 +3,8 @@ use borrow.Author.Rules.{rules}
 use Rattle.reading.proofs.bytes.refusal.Statement.{statement}
 use Rattle.reading.proofs.bytes.refusal.Tie as tie
 
-returns : tie.Need-returns
-returns c = rw c.enum_told.given.1
+returns : tie.Need-returns-in-Found
+returns c = rw c.in-Found.is
 
-pub refusal-spec : {M : Type 1} → statement M
-refusal-spec = tie.close (tie.spec (λ c. search rules) (λ c. search rules) returns (λ c. search rules))
+pub refusal_spec : {M : Type 1} → statement M
+refusal_spec = tie.close (tie.spec (λ c. search rules) (λ c. search rules) returns (λ c. search rules))

@@ -4,6 +4,6 @@ use Rattle.reading.specs.Dialects.{groups_in}
 use Rattle.reading.proofs.dialects.groups.Statement.{statement}
 use Rattle.reading.proofs.dialects.groups.Tie as tie
 
-pub groups-spec : {M : Type 1} → statement M
+pub groups_spec : {M : Type 1} → statement M
 unfolding groups_in
-groups-spec = tie.close (tie.spec (λ c. search rules) (λ c. search rules) (λ c. search rules) (λ c. search rules))
+groups_spec = tie.close (tie.spec (λ c. search rules) (λ c. search rules) (λ c. search rules) (λ c. search rules))

@@ -4,6 +4,6 @@ use Rattle.reading.specs.Dialects.{kinds_in}
 use Rattle.reading.proofs.dialects.kinds.Statement.{statement}
 use Rattle.reading.proofs.dialects.kinds.Tie as tie
 
-pub kinds-spec : {M : Type 1} → statement M
+pub kinds_spec : {M : Type 1} → statement M
 unfolding kinds_in
-kinds-spec = tie.close (tie.spec (λ c. search rules) (λ c. search rules) (λ c. search rules) (λ c. search rules))
+kinds_spec = tie.close (tie.spec (λ c. search rules) (λ c. search rules) (λ c. search rules) (λ c. search rules))

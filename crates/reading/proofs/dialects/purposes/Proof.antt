@@ -4,6 +4,6 @@ use Rattle.reading.specs.Dialects.{purposes_in}
 use Rattle.reading.proofs.dialects.purposes.Statement.{statement}
 use Rattle.reading.proofs.dialects.purposes.Tie as tie
 
-pub purposes-spec : {M : Type 1} → statement M
+pub purposes_spec : {M : Type 1} → statement M
 unfolding purposes_in
-purposes-spec = tie.close (tie.spec (λ c. search rules) (λ c. search rules) (λ c. search rules) (λ c. search rules))
+purposes_spec = tie.close (tie.spec (λ c. search rules) (λ c. search rules) (λ c. search rules) (λ c. search rules))

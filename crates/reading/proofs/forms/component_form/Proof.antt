@@ -5,9 +5,9 @@ use borrow.Author.Rules.{rules}
 use Rattle.reading.proofs.forms.component_form.Statement.{statement}
 use Rattle.reading.proofs.forms.component_form.Tie as tie
 
-pub component-form-spec : {M : Type 1} → statement M
+pub component_form_spec : {M : Type 1} → statement M
 unfolding component_form_in
-component-form-spec =
+component_form_spec =
     tie.close
     (tie.spec
     (λ c κs. search rules)

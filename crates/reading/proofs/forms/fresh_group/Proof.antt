@@ -4,8 +4,8 @@ use borrow.Author.Rules.{rules}
 use Rattle.reading.proofs.forms.fresh_group.Statement.{statement}
 use Rattle.reading.proofs.forms.fresh_group.Tie as tie
 
-pub fresh-group-spec : {M : Type 1} → statement M
-fresh-group-spec =
+pub fresh_group_spec : {M : Type 1} → statement M
+fresh_group_spec =
     tie.close
     (tie.spec
     (λ c κs. search rules)

@@ -5,9 +5,9 @@ use borrow.Author.Rules.{rules}
 use Rattle.reading.proofs.forms.group_form.Statement.{statement}
 use Rattle.reading.proofs.forms.group_form.Tie as tie
 
-pub group-form-spec : {M : Type 1} → statement M
+pub group_form_spec : {M : Type 1} → statement M
 unfolding group_form_in
-group-form-spec =
+group_form_spec =
     tie.close
     (tie.spec
     (λ c κs. search rules)

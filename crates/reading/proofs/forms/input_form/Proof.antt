@@ -5,9 +5,9 @@ use borrow.Author.Rules.{rules}
 use Rattle.reading.proofs.forms.input_form.Statement.{statement}
 use Rattle.reading.proofs.forms.input_form.Tie as tie
 
-pub input-form-spec : {M : Type 1} → statement M
+pub input_form_spec : {M : Type 1} → statement M
 unfolding input_form_in
-input-form-spec =
+input_form_spec =
     tie.close
     (tie.spec
     (λ c κs. search rules)

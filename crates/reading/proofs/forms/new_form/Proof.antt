@@ -5,9 +5,9 @@ use borrow.Author.Rules.{rules}
 use Rattle.reading.proofs.forms.new_form.Statement.{statement}
 use Rattle.reading.proofs.forms.new_form.Tie as tie
 
-pub new-form-spec : {M : Type 1} → statement M
+pub new_form_spec : {M : Type 1} → statement M
 unfolding new_form_in
-new-form-spec =
+new_form_spec =
     tie.close
     (tie.spec
     (λ c κs. search rules)

@@ -3,5 +3,5 @@ use borrow.Author.Rules.{rules}
 use Rattle.reading.proofs.forms.no_form.Statement.{statement}
 use Rattle.reading.proofs.forms.no_form.Tie as tie
 
-pub no-form-spec : {M : Type 1} → statement M
-no-form-spec = tie.close (tie.spec (λ c. search rules))
+pub no_form_spec : {M : Type 1} → statement M
+no_form_spec = tie.close (tie.spec (λ c. search rules))

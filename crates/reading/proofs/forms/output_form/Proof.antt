@@ -5,9 +5,9 @@ use borrow.Author.Rules.{rules}
 use Rattle.reading.proofs.forms.output_form.Statement.{statement}
 use Rattle.reading.proofs.forms.output_form.Tie as tie
 
-pub output-form-spec : {M : Type 1} → statement M
+pub output_form_spec : {M : Type 1} → statement M
 unfolding output_form
-output-form-spec =
+output_form_spec =
     tie.close
     (tie.spec
     (λ c κs. search rules)

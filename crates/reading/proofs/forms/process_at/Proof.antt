@@ -5,9 +5,9 @@ use borrow.Author.Rules.{rules}
 use Rattle.reading.proofs.forms.process_at.Statement.{statement}
 use Rattle.reading.proofs.forms.process_at.Tie as tie
 
-pub process-at-spec : {M : Type 1} → statement M
+pub process_at_spec : {M : Type 1} → statement M
 unfolding process_at_in
-process-at-spec =
+process_at_spec =
     tie.close
     (tie.spec
     (λ c κs. search rules)

@@ -4,8 +4,8 @@ use borrow.Author.Rules.{rules}
 use Rattle.reading.proofs.forms.purpose.Statement.{statement}
 use Rattle.reading.proofs.forms.purpose.Tie as tie
 
-pub purpose-spec : {M : Type 1} → statement M
-purpose-spec =
+pub purpose_spec : {M : Type 1} → statement M
+purpose_spec =
     tie.close
     (tie.spec
     (λ c κs. search rules)

@@ -5,9 +5,9 @@ use borrow.Author.Rules.{rules}
 use Rattle.reading.proofs.forms.system_at.Statement.{statement}
 use Rattle.reading.proofs.forms.system_at.Tie as tie
 
-pub system-at-spec : {M : Type 1} → statement M
+pub system_at_spec : {M : Type 1} → statement M
 unfolding system_at_in
-system-at-spec =
+system_at_spec =
     tie.close
     (tie.spec
     (λ c κs. search rules)

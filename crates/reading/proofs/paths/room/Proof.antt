@@ -3,5 +3,5 @@ use Rattle.reading.proofs.PathLaws.{path_steps}
 use Rattle.reading.proofs.paths.room.Statement.{statement}
 use Rattle.reading.proofs.paths.room.Tie as tie
 
-pub room-spec : {M : Type 1} → statement M
-room-spec = tie.close (tie.spec (λ c. search path_steps))
+pub room_spec : {M : Type 1} → statement M
+room_spec = tie.close (tie.spec (λ c. search path_steps))

@@ -29,15 +29,15 @@ read_process_below t =
     (falls 1 read_process_kinds.ps ◌<◌ μ_read_process t)
     read_process.Pre
 
-abbrev read-process-Inv-loop : read_process_lts.invariant-loop
+abbrev read-process-Inv-loop : read_process_lts.invariant-loop-place
 read-process-Inv-loop dialect s from levels bound at₀ nest₀ names₀ at nest names =
     ProcessLeft dialect s from levels bound at nest names
 
-abbrev read-process-μ-loop : read_process_lts.decreases-loop
+abbrev read-process-μ-loop : read_process_lts.decreases-loop-place
 read-process-μ-loop dialect s from levels bound at₀ nest₀ names₀ at nest names = nest
 
-pub +read-process-spec : {M : Type 1} → statement M
-+read-process-spec = close μ_read_process λ t. read_process_lts.spec (
+pub +read_process_spec : {M : Type 1} → statement M
++read_process_spec = close μ_read_process λ t. read_process_lts.spec (
   process_at_reads.Asked,
   process_at_reads.Learnt,
   why_reads.Asked,

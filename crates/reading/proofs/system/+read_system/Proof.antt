@@ -28,16 +28,16 @@ abbrev read_system_below : ℕ → In 1 read_system_kinds.ps
 read_system_below t =
     and 1 read_system_kinds.ps (falls 1 read_system_kinds.ps ◌<◌ μ_read_system t) read_system.Pre
 
-abbrev read-system-Inv-loop : read_system_lts.invariant-loop
+abbrev read-system-Inv-loop : read_system_lts.invariant-loop-place
 read-system-Inv-loop dialect s from levels bound preceding at₀ nest₀ names₀ path₀ components₀ at nest names path components =
     SystemLeft dialect s from levels bound (path_of path₀) preceding at nest names (path_of path) components
 
-abbrev read-system-μ-loop : read_system_lts.decreases-loop
+abbrev read-system-μ-loop : read_system_lts.decreases-loop-place
 read-system-μ-loop dialect s from levels bound preceding at₀ nest₀ names₀ path₀ components₀ at nest names path components =
     nest
 
-pub +read-system-spec : {M : Type 1} → statement M
-+read-system-spec = close μ_read_system λ t. read_system_lts.spec (
+pub +read_system_spec : {M : Type 1} → statement M
++read_system_spec = close μ_read_system λ t. read_system_lts.spec (
   system_at_reads.Asked,
   system_at_reads.Learnt,
   why_reads.Asked,
@@ -68,15 +68,15 @@ pub +read-system-spec : {M : Type 1} → statement M
     (λ c. search system_steps)
     (λ c. search system_steps)
     (λ c. search system_steps)
-    (λ c. search (rules, at_par, c.before.before.before.before.before.before.before.before.before.before.loop.invariant))
+    (λ c. search (rules, at_par, c.loop-place.invariant))
     (λ c. search system_steps)
     (λ c κs. search system_steps)
     (λ c. search system_steps)
-    (λ c. search (rules, at_group, c.before.before.before.before.before.before.before.before.loop.invariant))
+    (λ c. search (rules, at_group, c.loop-place.invariant))
     (λ c. search system_steps)
     (λ c. search system_steps)
     (λ c. search system_steps)
-    (λ c. search (rules, at_new, c.before.before.before.before.before.before.loop.invariant))
+    (λ c. search (rules, at_new, c.loop-place.invariant))
     (λ c. search system_steps)
     (λ c κs. search system_steps)
     (λ c. search system_steps)

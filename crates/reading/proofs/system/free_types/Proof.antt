@@ -5,14 +5,14 @@ use Rattle.reading.proofs.SheetSteps.{TypesLeft}
 use Rattle.reading.proofs.system.free_types.Statement.{statement}
 use Rattle.reading.proofs.system.free_types.Tie as tie
 
-abbrev invariant-loop : tie.invariant-loop
+abbrev invariant-loop : tie.invariant-loop-left
 invariant-loop dialect s at count next₀ left₀ next left = TypesLeft dialect s at count next left
 
-abbrev decreases-loop : tie.decreases-loop
+abbrev decreases-loop : tie.decreases-loop-left
 decreases-loop dialect s at count next₀ left₀ next left = left
 
-pub free-types-spec : {M : Type 1} → statement M
-free-types-spec =
+pub free_types_spec : {M : Type 1} → statement M
+free_types_spec =
     tie.close
     (tie.spec
     invariant-loop

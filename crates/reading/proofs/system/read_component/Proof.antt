@@ -4,8 +4,8 @@ use borrow.Author.Rules.{rules}
 use Rattle.reading.proofs.system.read_component.Statement.{statement}
 use Rattle.reading.proofs.system.read_component.Tie as tie
 
-pub read-component-spec : {M : Type 1} → statement M
-read-component-spec =
+pub read_component_spec : {M : Type 1} → statement M
+read_component_spec =
     tie.close
     (tie.spec
     (λ c κs. search rules)

@@ -6,6 +6,6 @@ use borrow.Author.Rules.{rules}
 use Rattle.reading.proofs.system.read_in.Statement.{statement}
 use Rattle.reading.proofs.system.read_in.Tie as tie
 
-pub read-in-spec : {M : Type 1} → statement M
+pub read_in_spec : {M : Type 1} → statement M
 unfolding sheet_of_in counted_in
-read-in-spec = tie.close (tie.spec (λ c. search tests) (λ c. search tests) (λ c κs. search rules) (λ c. search tests))
+read_in_spec = tie.close (tie.spec (λ c. search tests) (λ c. search tests) (λ c κs. search rules) (λ c. search tests))

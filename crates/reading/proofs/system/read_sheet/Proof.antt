@@ -5,8 +5,8 @@ use borrow.Author.Rules.{rules}
 use Rattle.reading.proofs.system.read_sheet.Statement.{statement}
 use Rattle.reading.proofs.system.read_sheet.Tie as tie
 
-pub read-sheet-spec : {M : Type 1} → statement M
-read-sheet-spec =
+pub read_sheet_spec : {M : Type 1} → statement M
+read_sheet_spec =
     tie.close
     (tie.spec
     (λ c κs. search rules)

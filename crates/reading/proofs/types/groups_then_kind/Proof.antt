@@ -4,14 +4,14 @@ use Rattle.reading.proofs.TypeSteps.{GroupsLeft, groups_left}
 use Rattle.reading.proofs.types.groups_then_kind.Statement.{statement}
 use Rattle.reading.proofs.types.groups_then_kind.Tie as tie
 
-abbrev invariant-loop : tie.invariant-loop
+abbrev invariant-loop : tie.invariant-loop-left
 invariant-loop dialect s at count next₀ left₀ sum₀ factor₀ next left sum factor = GroupsLeft dialect s at count next left sum factor
 
-abbrev decreases-loop : tie.decreases-loop
+abbrev decreases-loop : tie.decreases-loop-left
 decreases-loop dialect s at count next₀ left₀ sum₀ factor₀ next left sum factor = left
 
-pub groups-then-kind-spec : {M : Type 1} → statement M
-groups-then-kind-spec =
+pub groups_then_kind_spec : {M : Type 1} → statement M
+groups_then_kind_spec =
     tie.close
     (tie.spec
     invariant-loop

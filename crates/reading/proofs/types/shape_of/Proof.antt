@@ -4,6 +4,6 @@ use Rattle.reading.specs.Types.{shape}
 use Rattle.reading.proofs.types.shape_of.Statement.{statement}
 use Rattle.reading.proofs.types.shape_of.Tie as tie
 
-pub shape-of-spec : {M : Type 1} → statement M
+pub shape_of_spec : {M : Type 1} → statement M
 unfolding shape
-shape-of-spec = tie.close (tie.spec (λ c. search tests) (λ c. search tests))
+shape_of_spec = tie.close (tie.spec (λ c. search tests) (λ c. search tests))

@@ -5,9 +5,9 @@ use borrow.Author.Rules.{rules}
 use Rattle.reading.proofs.types.type_at.Statement.{statement}
 use Rattle.reading.proofs.types.type_at.Tie as tie
 
-pub type-at-spec : {M : Type 1} → statement M
+pub type_at_spec : {M : Type 1} → statement M
 unfolding type_at_in
-type-at-spec =
+type_at_spec =
     tie.close
     (tie.spec
     (λ c κs. search rules)

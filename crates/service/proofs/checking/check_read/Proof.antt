@@ -4,8 +4,8 @@ use borrow.Author.Rules.{rules}
 use Rattle.service.proofs.checking.check_read.Statement.{statement}
 use Rattle.service.proofs.checking.check_read.Tie as tie
 
-pub check-read-spec : {M : Type 1} → statement M
-check-read-spec =
+pub check_read_spec : {M : Type 1} → statement M
+check_read_spec =
     tie.close
     (tie.spec
     (λ c. search rules)

@@ -4,13 +4,13 @@ use borrow.Author.Rules.{rules}
 use Rattle.service.proofs.checking.deliver.Statement.{statement}
 use Rattle.service.proofs.checking.deliver.Tie as tie
 
-returns : tie.Need-returns
-returns c = no_room _ _ _ c.before.interface-len.ensures c.if1.true
+returns : tie.Need-returns-then-output-len
+returns c = no_room _ _ _ c.interface_len-len.ensures c.if-output-len.true
 
-returns-2 : tie.Need-returns-2
-returns-2 c = room _ _ _ c.before.before.before.before.before.interface-len.ensures _ _ c.before.before.before.before.if1.false c.before.before.write-interface.ensures
+returns-2 : tie.Need-returns
+returns-2 c = room _ _ _ c.interface_len-len.ensures _ _ c.if-output-len.false c.write_interface.ensures
 
-pub deliver-spec : {M : Type 1} → statement M
-deliver-spec =
+pub deliver_spec : {M : Type 1} → statement M
+deliver_spec =
     tie.close
     (tie.spec (λ c κs. search rules) returns (λ c κs. search rules) (λ c. search rules) returns-2)

@@ -4,11 +4,11 @@ use borrow.Author.Rules.{rules}
 use Rattle.service.proofs.judging.first_failed.Statement.{statement}
 use Rattle.service.proofs.judging.first_failed.Tie as tie
 
-judge-read-requires-2 : tie.Need-judge-read-requires-2
+judge-read-requires-2 : tie.Need-judge_read-judged-requires-2
 judge-read-requires-2 c κs = (search judging, search judging)
 
-pub first-failed-spec : {M : Type 1} → statement M
-first-failed-spec =
+pub first_failed_spec : {M : Type 1} → statement M
+first_failed_spec =
     tie.close
     (tie.spec
     (λ c κs. search rules)

@@ -4,12 +4,12 @@ use borrow.Author.Rules.{rules}
 use Rattle.service.proofs.judging.judge_read.Statement.{statement}
 use Rattle.service.proofs.judging.judge_read.Tie as tie
 
-judge-with-requires : tie.Need-judge-with-requires
+judge-with-requires : tie.Need-judge_with-requires
 judge-with-requires c κs =
-    (few_components _ _ _ _ _ c.before.before.before.before.before.before.before.before.before.before.before.before.requires.0 c.before.before.before.before.before.before.infer.ensures, search judging, search judging)
+    (few_components _ _ _ _ _ c.requires.0 c.infer-walk.ensures, search judging, search judging)
 
-pub judge-read-spec : {M : Type 1} → statement M
-judge-read-spec =
+pub judge_read_spec : {M : Type 1} → statement M
+judge_read_spec =
     tie.close
     (tie.spec
     (λ c κs. search rules)

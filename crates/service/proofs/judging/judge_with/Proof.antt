@@ -4,11 +4,11 @@ use borrow.Author.Rules.{rules}
 use Rattle.service.proofs.judging.judge_with.Statement.{statement}
 use Rattle.service.proofs.judging.judge_with.Tie as tie
 
-fit-requires : tie.Need-fit-requires
+fit-requires : tie.Need-fit-fault-requires
 fit-requires c κs = (search rules, search policy_judging, search rules)
 
-pub judge-with-spec : {M : Type 1} → statement M
-judge-with-spec =
+pub judge_with_spec : {M : Type 1} → statement M
+judge_with_spec =
     tie.close
     (tie.spec
     (λ c κs. search rules)

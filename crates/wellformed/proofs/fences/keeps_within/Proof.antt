@@ -4,8 +4,8 @@ use borrow.Author.Rules.{rules}
 use Rattle.wellformed.proofs.fences.keeps_within.Statement.{statement}
 use Rattle.wellformed.proofs.fences.keeps_within.Tie as tie
 
-pub keeps-within-spec : {M : Type 1} → statement M
-keeps-within-spec =
+pub keeps_within_spec : {M : Type 1} → statement M
+keeps_within_spec =
     tie.close
     (tie.spec
     (λ c κs. search rules)

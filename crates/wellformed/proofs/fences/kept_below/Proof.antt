@@ -5,14 +5,14 @@ use Prim.Native.Nat.{◌≤◌, ◌-◌}
 use Rattle.wellformed.proofs.fences.kept_below.Statement.{statement}
 use Rattle.wellformed.proofs.fences.kept_below.Tie as tie
 
-abbrev invariant-loop : tie.invariant-loop
+abbrev invariant-loop : tie.invariant-loop-i
 invariant-loop c nodes row to marks depth i₀ i = (i ≤ to) × KeptLeft c nodes marks row to i
 
-abbrev decreases-loop : tie.decreases-loop
+abbrev decreases-loop : tie.decreases-loop-i
 decreases-loop c nodes row to marks depth i₀ i = to - i
 
-pub kept-below-spec : {M : Type 1} → statement M
-kept-below-spec =
+pub kept_below_spec : {M : Type 1} → statement M
+kept_below_spec =
     tie.close
     (tie.spec
     invariant-loop

@@ -5,14 +5,14 @@ use Prim.Native.Nat.{◌≤◌, ◌-◌}
 use Rattle.wellformed.proofs.fences.list_marked.Statement.{statement}
 use Rattle.wellformed.proofs.fences.list_marked.Tie as tie
 
-abbrev invariant-loop : tie.invariant-loop
+abbrev invariant-loop : tie.invariant-loop-i
 invariant-loop c p marks i₀ i = (i ≤ p.count) × ListLeft c marks p.list p.count i
 
-abbrev decreases-loop : tie.decreases-loop
+abbrev decreases-loop : tie.decreases-loop-i
 decreases-loop c p marks i₀ i = p.count - i
 
-pub list-marked-spec : {M : Type 1} → statement M
-list-marked-spec =
+pub list_marked_spec : {M : Type 1} → statement M
+list_marked_spec =
     tie.close
     (tie.spec
     invariant-loop

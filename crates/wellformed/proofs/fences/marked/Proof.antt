@@ -7,17 +7,17 @@ use Prim.Native.Nat.{◌≤◌, ◌-◌}
 use Rattle.wellformed.proofs.fences.marked.Statement.{statement}
 use Rattle.wellformed.proofs.fences.marked.Tie as tie
 
-abbrev invariant-loop : tie.invariant-loop
+abbrev invariant-loop : tie.invariant-loop-i
 invariant-loop nodes row to marks₀ node own i₀ marks i = (i ≤ to) × MarksLeft nodes marks row to i
 
-abbrev decreases-loop : tie.decreases-loop
+abbrev decreases-loop : tie.decreases-loop-i
 decreases-loop nodes row to marks₀ node own i₀ marks i = to - i
 
-mul-marks-2 : tie.Need-overflow-mul-marks-2 invariant-loop decreases-loop
-mul-marks-2 c = record { fits = omega (arith, group_small _ _ _ c.before.before.before.node-at2.ensures) }
+mul-marks-2 : tie.Need-offset_bounds-marks-group invariant-loop decreases-loop
+mul-marks-2 c = record { fits = omega (arith, group_small _ _ _ c.node_at-below.ensures) }
 
-pub marked-spec : {M : Type 1} → statement M
-marked-spec =
+pub marked_spec : {M : Type 1} → statement M
+marked_spec =
     tie.close
     (tie.spec
     invariant-loop

@@ -7,24 +7,24 @@ use Rattle.policy.proofs.NodeLaws.{group_small, depth_small}
 use Rattle.wellformed.proofs.heads.heads_fault.Statement.{statement}
 use Rattle.wellformed.proofs.heads.heads_fault.Tie as tie
 
-abbrev invariant-loop : tie.invariant-loop
+abbrev invariant-loop : tie.invariant-loop-i
 invariant-loop c nodes tree last₀ groups₀ i₀ last groups i = HeadsLeft c nodes tree.from tree.to last groups i
 
-abbrev decreases-loop : tie.decreases-loop
+abbrev decreases-loop : tie.decreases-loop-i
 decreases-loop c nodes tree last₀ groups₀ i₀ last groups i = tree.to - i
 
-mul-last : tie.Need-overflow-mul-last invariant-loop decreases-loop
-mul-last c = record { fits = omega (arith, group_small _ _ _ c.before.before.before.before.Node-at.ensures) }
+mul-last : tie.Need-offset_bounds-last-group-in-loop-i invariant-loop decreases-loop
+mul-last c = record { fits = omega (arith, group_small _ _ _ c.node_at-node.ensures) }
 
-mul-groups : tie.Need-overflow-mul-groups invariant-loop decreases-loop
-mul-groups c = record { fits = omega (arith, depth_small _ _ _ c.before.before.before.before.Node-at.ensures) }
+mul-groups : tie.Need-offset_bounds-groups-depth invariant-loop decreases-loop
+mul-groups c = record { fits = omega (arith, depth_small _ _ _ c.node_at-node.ensures) }
 
-loop-again : tie.Need-loop-preserved invariant-loop decreases-loop
+loop-again : tie.Need-loop-i-preserved invariant-loop decreases-loop
 loop-again c =
-    heads_next _ _ _ _ _ _ _ c.before.before.before.before.before.before.before.loop.invariant (search rules) _ c.before.before.before.before.Node-at.ensures _ c.before.before.before.same-as-last.ensures _ c.before.before.has.ensures _ c.before.node-fault.ensures (search rules)
+    heads_next _ _ _ _ _ _ _ c.loop-i.invariant (search rules) _ c.node_at-node.ensures _ c.same_as_last-same.ensures _ c.has-above.ensures _ c.node_fault-fault.ensures (search rules)
 
-pub heads-fault-spec : {M : Type 1} → statement M
-heads-fault-spec =
+pub heads_fault_spec : {M : Type 1} → statement M
+heads_fault_spec =
     tie.close
     (tie.spec
     invariant-loop

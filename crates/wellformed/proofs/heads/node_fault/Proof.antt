@@ -3,5 +3,5 @@ use Rattle.wellformed.proofs.HeadSteps.{head_steps}
 use Rattle.wellformed.proofs.heads.node_fault.Statement.{statement}
 use Rattle.wellformed.proofs.heads.node_fault.Tie as tie
 
-pub node-fault-spec : {M : Type 1} → statement M
-node-fault-spec = tie.close (tie.spec (λ c. search head_steps) (λ c. search head_steps) (λ c. search head_steps))
+pub node_fault_spec : {M : Type 1} → statement M
+node_fault_spec = tie.close (tie.spec (λ c. search head_steps) (λ c. search head_steps) (λ c. search head_steps))

@@ -4,6 +4,6 @@ use borrow.Author.Rules.{rules}
 use Rattle.wellformed.proofs.heads.same_as_last.Statement.{statement}
 use Rattle.wellformed.proofs.heads.same_as_last.Tie as tie
 
-pub same-as-last-spec : {M : Type 1} → statement M
-same-as-last-spec =
+pub same_as_last_spec : {M : Type 1} → statement M
+same_as_last_spec =
     tie.close (tie.spec (λ c. search head_steps) (λ c. search rules) (λ c κs. search rules) (λ c κs. search head_steps) (λ c. search head_steps))

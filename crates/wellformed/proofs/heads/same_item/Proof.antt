@@ -4,8 +4,8 @@ use borrow.Author.Rules.{rules}
 use Rattle.wellformed.proofs.heads.same_item.Statement.{statement}
 use Rattle.wellformed.proofs.heads.same_item.Tie as tie
 
-pub same-item-spec : {M : Type 1} → statement M
-same-item-spec =
+pub same_item_spec : {M : Type 1} → statement M
+same_item_spec =
     tie.close
     (tie.spec
     (λ c κs. search rules)

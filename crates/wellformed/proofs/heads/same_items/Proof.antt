@@ -4,14 +4,14 @@ use Prim.Native.Nat.{◌≤◌, ◌-◌}
 use Rattle.wellformed.proofs.heads.same_items.Statement.{statement}
 use Rattle.wellformed.proofs.heads.same_items.Tie as tie
 
-abbrev invariant-loop : tie.invariant-loop
+abbrev invariant-loop : tie.invariant-loop-i
 invariant-loop c a b count i₀ i = (i ≤ count) × ItemsLeft c a b count i
 
-abbrev decreases-loop : tie.decreases-loop
+abbrev decreases-loop : tie.decreases-loop-i
 decreases-loop c a b count i₀ i = count - i
 
-pub same-items-spec : {M : Type 1} → statement M
-same-items-spec =
+pub same_items_spec : {M : Type 1} → statement M
+same_items_spec =
     tie.close
     (tie.spec
     invariant-loop

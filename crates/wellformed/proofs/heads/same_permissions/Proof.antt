@@ -4,7 +4,7 @@ use borrow.Author.Rules.{rules}
 use Rattle.wellformed.proofs.heads.same_permissions.Statement.{statement}
 use Rattle.wellformed.proofs.heads.same_permissions.Tie as tie
 
-pub same-permissions-spec : {M : Type 1} → statement M
-same-permissions-spec =
+pub same_permissions_spec : {M : Type 1} → statement M
+same_permissions_spec =
     tie.close
     (tie.spec (λ c. search agree_steps) (λ c. search agree_steps) (λ c. search agree_steps) (λ c κs. search rules) (λ c. search agree_steps))

@@ -4,14 +4,14 @@ use Prim.Native.Nat.{◌≤◌, ◌-◌}
 use Rattle.wellformed.proofs.kinds.kind_after.Statement.{statement}
 use Rattle.wellformed.proofs.kinds.kind_after.Tie as tie
 
-abbrev invariant-loop : tie.invariant-loop
+abbrev invariant-loop : tie.invariant-loop-i
 invariant-loop trees t kinds i₀ i = (i ≤ trees.len) × KindLeft kinds trees.len t i
 
-abbrev decreases-loop : tie.decreases-loop
+abbrev decreases-loop : tie.decreases-loop-i
 decreases-loop trees t kinds i₀ i = trees.len - i
 
-pub kind-after-spec : {M : Type 1} → statement M
-kind-after-spec =
+pub kind_after_spec : {M : Type 1} → statement M
+kind_after_spec =
     tie.close
     (tie.spec
     invariant-loop

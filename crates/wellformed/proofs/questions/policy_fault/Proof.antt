@@ -4,8 +4,8 @@ use borrow.Author.Rules.{rules}
 use Rattle.wellformed.proofs.questions.policy_fault.Statement.{statement}
 use Rattle.wellformed.proofs.questions.policy_fault.Tie as tie
 
-pub policy-fault-spec : {M : Type 1} → statement M
-policy-fault-spec =
+pub policy_fault_spec : {M : Type 1} → statement M
+policy_fault_spec =
     tie.close
     (tie.spec
     (λ c κs. search rules)

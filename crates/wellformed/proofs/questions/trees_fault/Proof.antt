@@ -4,14 +4,14 @@ use Prim.Native.Nat.{◌≤◌, ◌-◌}
 use Rattle.wellformed.proofs.questions.trees_fault.Statement.{statement}
 use Rattle.wellformed.proofs.questions.trees_fault.Tie as tie
 
-abbrev invariant-loop : tie.invariant-loop
+abbrev invariant-loop : tie.invariant-loop-t
 invariant-loop question c nodes trees t₀ t = (t ≤ trees.len) × PassLeft c nodes trees question t
 
-abbrev decreases-loop : tie.decreases-loop
+abbrev decreases-loop : tie.decreases-loop-t
 decreases-loop question c nodes trees t₀ t = trees.len - t
 
-pub trees-fault-spec : {M : Type 1} → statement M
-trees-fault-spec =
+pub trees_fault_spec : {M : Type 1} → statement M
+trees_fault_spec =
     tie.close
     (tie.spec
     invariant-loop
