@@ -50,6 +50,7 @@ stored_after table at i (x ∷ xs) h =
 stored_in : (table : List ℕ) (at : ℕ) (xs : List ℕ) (j : ℕ) → j < length xs → at + length xs ≤ length table
     → get_or (stored table at xs) (at + j) 0 ≡ get_or xs j 0 % 65536
 unfolding stored
+stored_in table at [] j p q = elim p [ ]
 stored_in table at (x ∷ xs) zero p q =
     let e : at + zero ≡ at = omega arith in
     rw e (stored_before (set table at (x % 65536)) (at + 1) at xs (omega arith)
@@ -416,8 +417,8 @@ pub table_from : {rows : ℕ} (ls : List Located) (n : ℕ) → AllStorable n ls
 unfolding gather rising
 table_from [] n store_none h table long clear typed = refl
 table_from (l ∷ rest) n (store_more ok more) h table long clear typed =
-    rw (charged_row table n l rest ok.number)
-    (ap₂ ◌++◌ (row_in_table table n l rest ok more (omega arith) long clear (typed_first l rest typed))
+    ap (λ t. gather (row_entries t) (rising n (suc (length rest)))) (charged_row table n l rest ok.number)
+    ∙ (ap₂ ◌++◌ (row_in_table table n l rest ok more (omega arith) long clear (typed_first l rest typed))
     (table_from rest (suc n) more (omega arith) (row_of table n l) (length_row table n (omega arith) long l ok)
     (row_clear table n (omega arith) long l ok clear) (typed_rest l rest typed)))
 

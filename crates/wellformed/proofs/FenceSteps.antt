@@ -68,8 +68,9 @@ module _ (nodes marks : List ℕ) (row to i : ℕ) (s : MarksLeft nodes marks ro
     marks_next k = record {
       long = length-set marks m.group 1 ∙ s.long;
       same = λ c g l.
-          let z = rw (flats_more c nodes i to h, ← e, ← f, lt-ltb n.depth m.depth k) at (s.same c g l) in
-          rw (mark_one marks m.group g (omega (arith, group_small nodes i m f, s.long)), ← e) (swap (eqb m.group g) (is_marked marks g) _ ∙ z);
+          let deeper : (node_at nodes row).depth < m.depth = rw e at k in
+          let z = rw (flats_more c nodes i to h, ← f, lt-ltb (node_at nodes row).depth m.depth deeper) at (s.same c g l) in
+          rw (mark_one marks m.group g (omega (arith, group_small nodes i m f, s.long))) (swap (eqb m.group g) (is_marked marks g) _ ∙ z);
     }
       where
         swap : (a b d : Bool) → (a || b || d) ≡ (b || (a || d))
