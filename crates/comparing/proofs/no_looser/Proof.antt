@@ -4,8 +4,8 @@ use Rattle.comparing.proofs.CompareSteps.{compare_steps}
 use Rattle.comparing.proofs.no_looser.Statement.{statement}
 use Rattle.comparing.proofs.no_looser.Tie as tie
 
-pub no-looser-spec : {M : Type 1} → statement M
-no-looser-spec =
+pub no_looser_spec : {M : Type 1} → statement M
+no_looser_spec =
     tie.close
     (tie.spec
     (λ c. search rules)

@@ -4,6 +4,6 @@ use borrow.Author.Rules.{rules}
 use Rattle.execution.proofs.play.Statement.{statement}
 use Rattle.execution.proofs.play.Tie as tie
 
-pub play-spec : {M : Type 1} → statement M
-play-spec =
+pub play_spec : {M : Type 1} → statement M
+play_spec =
     tie.close (tie.spec (λ c κs. search rules) (λ c. search play_steps) (λ c κs. search play_steps) (λ c. search rules) (λ c. search play_steps))

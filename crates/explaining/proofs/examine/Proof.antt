@@ -4,11 +4,11 @@ use borrow.Author.Rules.{rules}
 use Rattle.explaining.proofs.examine.Statement.{statement}
 use Rattle.explaining.proofs.examine.Tie as tie
 
-examine-read-requires-2 : tie.Need-examine-read-requires-2
+examine-read-requires-2 : tie.Need-examine_read-requires-2
 examine-read-requires-2 c κs = (search explaining, search explaining)
 
-pub examine-spec : {M : Type 1} → statement M
-examine-spec =
+pub examine_spec : {M : Type 1} → statement M
+examine_spec =
     tie.close
     (tie.spec
     (λ c κs. search rules)

@@ -4,8 +4,8 @@ use borrow.Author.Rules.{rules}
 use Rattle.explaining.proofs.examine_read.Statement.{statement}
 use Rattle.explaining.proofs.examine_read.Tie as tie
 
-pub examine-read-spec : {M : Type 1} → statement M
-examine-read-spec =
+pub examine_read_spec : {M : Type 1} → statement M
+examine_read_spec =
     tie.close
     (tie.spec
     (λ c κs. search rules)

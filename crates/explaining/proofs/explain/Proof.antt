@@ -4,11 +4,11 @@ use borrow.Author.Rules.{rules}
 use Rattle.explaining.proofs.explain.Statement.{statement}
 use Rattle.explaining.proofs.explain.Tie as tie
 
-explain-read-requires-2 : tie.Need-explain-read-requires-2
+explain-read-requires-2 : tie.Need-explain_read-requires-2
 explain-read-requires-2 c κs = (search explaining, search explaining)
 
-pub explain-spec : {M : Type 1} → statement M
-explain-spec =
+pub explain_spec : {M : Type 1} → statement M
+explain_spec =
     tie.close
     (tie.spec
     (λ c κs. search rules)

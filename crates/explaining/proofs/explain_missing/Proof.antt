@@ -4,8 +4,8 @@ use borrow.Author.Rules.{rules}
 use Rattle.explaining.proofs.explain_missing.Statement.{statement}
 use Rattle.explaining.proofs.explain_missing.Tie as tie
 
-pub explain-missing-spec : {M : Type 1} → statement M
-explain-missing-spec =
+pub explain_missing_spec : {M : Type 1} → statement M
+explain_missing_spec =
     tie.close
     (tie.spec
     (λ c. search rules)

@@ -4,8 +4,8 @@ use borrow.Author.Rules.{rules}
 use Rattle.explaining.proofs.explain_read.Statement.{statement}
 use Rattle.explaining.proofs.explain_read.Tie as tie
 
-pub explain-read-spec : {M : Type 1} → statement M
-explain-read-spec =
+pub explain_read_spec : {M : Type 1} → statement M
+explain_read_spec =
     tie.close
     (tie.spec
     (λ c κs. search rules)

@@ -5,15 +5,15 @@ use borrow.Author.Rules.{rules}
 use Rattle.explaining.proofs.say.Statement.{statement}
 use Rattle.explaining.proofs.say.Tie as tie
 
-returns : tie.Need-returns
-returns c = no_room _ _ _ (omega (arith, c.before.before.put-sentence.ensures.next)) c.if1.true
+returns : tie.Need-returns-then-line-len
+returns c = no_room _ _ _ (omega (arith, c.put_sentence-len.ensures.next)) c.if-line-len.true
 
-returns-2 : tie.Need-returns-2
+returns-2 : tie.Need-returns
 returns-2 c =
-    room _ _ _ (omega (arith, c.before.before.before.before.before.before.put-sentence.ensures.next)) _ _ c.before.before.before.before.if1.false c.before.before.put-sentence2.ensures
+    room _ _ _ (omega (arith, c.put_sentence-len.ensures.next)) _ _ c.if-line-len.false c.put_sentence.ensures
 
-pub say-spec : {M : Type 1} → statement M
-say-spec =
+pub say_spec : {M : Type 1} → statement M
+say_spec =
     tie.close
     (tie.spec
     (λ c. search rules)

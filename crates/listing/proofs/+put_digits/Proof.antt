@@ -23,8 +23,8 @@ abbrev put_digits_below : ℕ → In 1 put_digits_kinds.ps
 put_digits_below t =
     and 1 put_digits_kinds.ps (falls 1 put_digits_kinds.ps ◌<◌ μ_put_digits t) put_digits.Pre
 
-pub +put-digits-spec : {M : Type 1} → statement M
-+put-digits-spec = close μ_put_digits λ t. put_digits_lts.spec (
+pub +put_digits_spec : {M : Type 1} → statement M
++put_digits_spec = close μ_put_digits λ t. put_digits_lts.spec (
   put_reads.Asked,
   put_reads.Learnt,
   put_digits_below t,

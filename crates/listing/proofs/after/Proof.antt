@@ -4,5 +4,5 @@ use borrow.Author.Rules.{rules}
 use Rattle.listing.proofs.after.Statement.{statement}
 use Rattle.listing.proofs.after.Tie as tie
 
-pub after-spec : {M : Type 1} → statement M
-after-spec = tie.close (tie.spec (λ c. search rules) (λ c. search rules) (λ c. search rules) (λ c. search listing_steps) (λ c. search listing_steps))
+pub after_spec : {M : Type 1} → statement M
+after_spec = tie.close (tie.spec (λ c. search rules) (λ c. search rules) (λ c. search rules) (λ c. search listing_steps) (λ c. search listing_steps))

@@ -4,5 +4,5 @@ use borrow.Author.Rules.{rules}
 use Rattle.listing.proofs.byte.Statement.{statement}
 use Rattle.listing.proofs.byte.Tie as tie
 
-pub byte-spec : {M : Type 1} → statement M
-byte-spec = tie.close (tie.spec (λ c. search rules) (λ c κs. search rules) (λ c. search rules) (λ c. search listing_steps))
+pub byte_spec : {M : Type 1} → statement M
+byte_spec = tie.close (tie.spec (λ c. search rules) (λ c κs. search rules) (λ c. search rules) (λ c. search listing_steps))

@@ -4,8 +4,8 @@ use borrow.Author.Rules.{rules}
 use Rattle.listing.proofs.entry_line.Statement.{statement}
 use Rattle.listing.proofs.entry_line.Tie as tie
 
-pub entry-line-spec : {M : Type 1} → statement M
-entry-line-spec =
+pub entry_line_spec : {M : Type 1} → statement M
+entry_line_spec =
     tie.close
     (tie.spec
     (λ c. search rules)

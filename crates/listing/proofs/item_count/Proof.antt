@@ -4,5 +4,5 @@ use borrow.Author.Rules.{rules}
 use Rattle.listing.proofs.item_count.Statement.{statement}
 use Rattle.listing.proofs.item_count.Tie as tie
 
-pub item-count-spec : {M : Type 1} → statement M
-item-count-spec = tie.close (tie.spec (λ c κs. search rules) (λ c. search listing_steps) (λ c. search listing_steps))
+pub item_count_spec : {M : Type 1} → statement M
+item_count_spec = tie.close (tie.spec (λ c κs. search rules) (λ c. search listing_steps) (λ c. search listing_steps))

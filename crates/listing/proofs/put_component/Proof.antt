@@ -4,6 +4,6 @@ use borrow.Author.Rules.{rules}
 use Rattle.listing.proofs.put_component.Statement.{statement}
 use Rattle.listing.proofs.put_component.Tie as tie
 
-pub put-component-spec : {M : Type 1} → statement M
-put-component-spec =
+pub put_component_spec : {M : Type 1} → statement M
+put_component_spec =
     tie.close (tie.spec (λ c κs. search rules) (λ c. search rules) (λ c κs. search rules) (λ c κs. search rules) (λ c. search rules) (λ c. search listing_steps))

@@ -8,14 +8,14 @@ use Rattle.listing.proofs.TextLaws.{dot_at}
 use Rattle.listing.proofs.put_dots.Statement.{statement}
 use Rattle.listing.proofs.put_dots.Tie as tie
 
-abbrev invariant-loop : tie.invariant-loop
+abbrev invariant-loop : tie.invariant-loop-i
 invariant-loop s from len out₀ at next₀ i₀ out next i = Writing (dot_at s from) 6 len out₀ at out next i
 
-abbrev decreases-loop : tie.decreases-loop
+abbrev decreases-loop : tie.decreases-loop-i
 decreases-loop s from len out₀ at next₀ i₀ out next i = len - i
 
-pub put-dots-spec : {M : Type 1} → statement M
-put-dots-spec =
+pub put_dots_spec : {M : Type 1} → statement M
+put_dots_spec =
     tie.close
     (tie.spec
     invariant-loop

@@ -4,8 +4,8 @@ use borrow.Author.Rules.{rules}
 use Rattle.listing.proofs.put_item_at.Statement.{statement}
 use Rattle.listing.proofs.put_item_at.Tie as tie
 
-pub put-item-at-spec : {M : Type 1} → statement M
-put-item-at-spec =
+pub put_item_at_spec : {M : Type 1} → statement M
+put_item_at_spec =
     tie.close
     (tie.spec
     (λ c κs. search rules)

@@ -8,14 +8,14 @@ use Rattle.listing.proofs.TextLaws.{item_part}
 use Rattle.listing.proofs.put_items.Statement.{statement}
 use Rattle.listing.proofs.put_items.Tie as tie
 
-abbrev invariant-loop : tie.invariant-loop
+abbrev invariant-loop : tie.invariant-loop-i
 invariant-loop s from count out₀ at next₀ i₀ out next i = Writing (item_part s from) 19 count out₀ at out next i
 
-abbrev decreases-loop : tie.decreases-loop
+abbrev decreases-loop : tie.decreases-loop-i
 decreases-loop s from count out₀ at next₀ i₀ out next i = count - i
 
-pub put-items-spec : {M : Type 1} → statement M
-put-items-spec =
+pub put_items_spec : {M : Type 1} → statement M
+put_items_spec =
     tie.close
     (tie.spec
     invariant-loop

@@ -4,5 +4,5 @@ use borrow.Author.Rules.{rules}
 use Rattle.listing.proofs.put_marked.Statement.{statement}
 use Rattle.listing.proofs.put_marked.Tie as tie
 
-pub put-marked-spec : {M : Type 1} → statement M
-put-marked-spec = tie.close (tie.spec (λ c κs. search rules) (λ c κs. search rules) (λ c. search rules) (λ c. search listing_steps))
+pub put_marked_spec : {M : Type 1} → statement M
+put_marked_spec = tie.close (tie.spec (λ c κs. search rules) (λ c κs. search rules) (λ c. search rules) (λ c. search listing_steps))

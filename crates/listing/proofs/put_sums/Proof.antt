@@ -4,5 +4,5 @@ use borrow.Author.Rules.{rules}
 use Rattle.listing.proofs.put_sums.Statement.{statement}
 use Rattle.listing.proofs.put_sums.Tie as tie
 
-pub put-sums-spec : {M : Type 1} → statement M
-put-sums-spec = tie.close (tie.spec (λ c κs. search rules) (λ c κs. search rules) (λ c. search rules) (λ c. search listing_steps))
+pub put_sums_spec : {M : Type 1} → statement M
+put_sums_spec = tie.close (tie.spec (λ c κs. search rules) (λ c κs. search rules) (λ c. search rules) (λ c. search listing_steps))

@@ -4,6 +4,6 @@ use borrow.Author.Rules.{rules}
 use Rattle.listing.proofs.put_tail.Statement.{statement}
 use Rattle.listing.proofs.put_tail.Tie as tie
 
-pub put-tail-spec : {M : Type 1} → statement M
-put-tail-spec =
+pub put_tail_spec : {M : Type 1} → statement M
+put_tail_spec =
     tie.close (tie.spec (λ c κs. search rules) (λ c κs. search rules) (λ c κs. search rules) (λ c. search rules) (λ c. search listing_steps))

@@ -4,5 +4,5 @@ use Rattle.moving.proofs.MoveSteps.{delivering}
 use Rattle.moving.proofs.deliver.Statement.{statement}
 use Rattle.moving.proofs.deliver.Tie as tie
 
-pub deliver-spec : {M : Type 1} → statement M
-deliver-spec = tie.close (tie.spec (λ c. search delivering) (λ c κs. search rules) (λ c. search rules) (λ c. search delivering))
+pub deliver_spec : {M : Type 1} → statement M
+deliver_spec = tie.close (tie.spec (λ c. search delivering) (λ c κs. search rules) (λ c. search rules) (λ c. search delivering))

@@ -4,11 +4,10 @@ use Rattle.moving.proofs.MoveSteps.{downgrading}
 use Rattle.moving.proofs.downgrade.Statement.{statement}
 use Rattle.moving.proofs.downgrade.Tie as tie
 
-pub downgrade-spec : {M : Type 1} → statement M
-downgrade-spec =
+pub downgrade_spec : {M : Type 1} → statement M
+downgrade_spec =
     tie.close
     (tie.spec
-    (λ c. search rules)
     (λ c κs. search rules)
     (λ c. search rules)
     (λ c. search rules)

@@ -4,11 +4,10 @@ use Rattle.moving.proofs.MoveSteps.{upgrading}
 use Rattle.moving.proofs.upgrade.Statement.{statement}
 use Rattle.moving.proofs.upgrade.Tie as tie
 
-pub upgrade-spec : {M : Type 1} → statement M
-upgrade-spec =
+pub upgrade_spec : {M : Type 1} → statement M
+upgrade_spec =
     tie.close
     (tie.spec
-    (λ c. search rules)
     (λ c κs. search rules)
     (λ c. search rules)
     (λ c. search rules)

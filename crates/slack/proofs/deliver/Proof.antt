@@ -4,6 +4,6 @@ use Rattle.slack.proofs.LengthSteps.{length_steps}
 use Rattle.slack.proofs.deliver.Statement.{statement}
 use Rattle.slack.proofs.deliver.Tie as tie
 
-pub deliver-spec : {M : Type 1} → statement M
-deliver-spec =
+pub deliver_spec : {M : Type 1} → statement M
+deliver_spec =
     tie.close (tie.spec (λ c κs. search rules) (λ c. search length_steps) (λ c κs. search rules) (λ c. search rules) (λ c. search length_steps))

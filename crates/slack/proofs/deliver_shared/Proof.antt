@@ -4,8 +4,8 @@ use Rattle.slack.proofs.TellSteps.{telling}
 use Rattle.slack.proofs.deliver_shared.Statement.{statement}
 use Rattle.slack.proofs.deliver_shared.Tie as tie
 
-pub deliver-shared-spec : {M : Type 1} → statement M
-deliver-shared-spec =
+pub deliver_shared_spec : {M : Type 1} → statement M
+deliver_shared_spec =
     tie.close
     (tie.spec
     (λ c. search rules)

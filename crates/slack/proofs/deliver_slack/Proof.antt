@@ -4,8 +4,8 @@ use Rattle.slack.proofs.TellSteps.{telling}
 use Rattle.slack.proofs.deliver_slack.Statement.{statement}
 use Rattle.slack.proofs.deliver_slack.Tie as tie
 
-pub deliver-slack-spec : {M : Type 1} → statement M
-deliver-slack-spec =
+pub deliver_slack_spec : {M : Type 1} → statement M
+deliver_slack_spec =
     tie.close
     (tie.spec
     (λ c κs. search rules)

@@ -3,5 +3,5 @@ use Rattle.slack.proofs.SlackSteps.{slack_steps}
 use Rattle.slack.proofs.number_of.Statement.{statement}
 use Rattle.slack.proofs.number_of.Tie as tie
 
-pub number-of-spec : {M : Type 1} → statement M
-number-of-spec = tie.close (tie.spec (λ c. search slack_steps) (λ c. search slack_steps))
+pub number_of_spec : {M : Type 1} → statement M
+number_of_spec = tie.close (tie.spec (λ c. search slack_steps) (λ c. search slack_steps))

@@ -4,6 +4,6 @@ use borrow.Author.Rules.{rules}
 use Rattle.slack.proofs.put_count.Statement.{statement}
 use Rattle.slack.proofs.put_count.Tie as tie
 
-pub put-count-spec : {M : Type 1} → statement M
-put-count-spec =
+pub put_count_spec : {M : Type 1} → statement M
+put_count_spec =
     tie.close (tie.spec (λ c κs. search rules) (λ c κs. search rules) (λ c κs. search rules) (λ c. search rules) (λ c. search slack_steps))

@@ -6,14 +6,14 @@ use Rattle.slack.proofs.SlackSteps.{sum_part, slack_steps}
 use Rattle.slack.proofs.put_each.Statement.{statement}
 use Rattle.slack.proofs.put_each.Tie as tie
 
-abbrev invariant-loop : tie.invariant-loop
+abbrev invariant-loop : tie.invariant-loop-i
 invariant-loop out₀ at items len next₀ i₀ out next i = Writing (sum_part items) 5 len out₀ at out next i
 
-abbrev decreases-loop : tie.decreases-loop
+abbrev decreases-loop : tie.decreases-loop-i
 decreases-loop out₀ at items len next₀ i₀ out next i = len - i
 
-pub put-each-spec : {M : Type 1} → statement M
-put-each-spec =
+pub put_each_spec : {M : Type 1} → statement M
+put_each_spec =
     tie.close
     (tie.spec
     invariant-loop

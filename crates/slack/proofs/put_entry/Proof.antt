@@ -3,8 +3,8 @@ use Rattle.slack.proofs.SlackSteps.{slack_steps}
 use Rattle.slack.proofs.put_entry.Statement.{statement}
 use Rattle.slack.proofs.put_entry.Tie as tie
 
-pub put-entry-spec : {M : Type 1} → statement M
-put-entry-spec =
+pub put_entry_spec : {M : Type 1} → statement M
+put_entry_spec =
     tie.close
     (tie.spec
     (λ c κs. search slack_steps)

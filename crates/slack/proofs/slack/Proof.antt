@@ -4,8 +4,8 @@ use borrow.Author.Rules.{rules}
 use Rattle.slack.proofs.slack.Statement.{statement}
 use Rattle.slack.proofs.slack.Tie as tie
 
-pub slack-spec : {M : Type 1} → statement M
-slack-spec =
+pub slack_spec : {M : Type 1} → statement M
+slack_spec =
     tie.close
     (tie.spec
     (λ c κs. search rules)

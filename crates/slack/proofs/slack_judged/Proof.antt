@@ -5,11 +5,11 @@ use Rattle.slack.proofs.TellSteps.{telling}
 use Rattle.slack.proofs.slack_judged.Statement.{statement}
 use Rattle.slack.proofs.slack_judged.Tie as tie
 
-pub slack-judged-spec : {M : Type 1} → statement M
-slack-judged-spec =
+pub slack_judged_spec : {M : Type 1} → statement M
+slack_judged_spec =
     tie.close
     (tie.spec
     (λ c. search telling)
-    (λ c κs. (search rules, c.before.before.before.before.before.before.before.requires.1 (omega arith), search rules))
+    (λ c κs. (search rules, c.requires.1 (omega arith), search rules))
     (λ c. search rules)
     (λ c. search telling))

@@ -4,8 +4,8 @@ use borrow.Author.Rules.{rules}
 use Rattle.slack.proofs.slack_read.Statement.{statement}
 use Rattle.slack.proofs.slack_read.Tie as tie
 
-pub slack-read-spec : {M : Type 1} → statement M
-slack-read-spec =
+pub slack_read_spec : {M : Type 1} → statement M
+slack_read_spec =
     tie.close
     (tie.spec
     (λ c. search rules)

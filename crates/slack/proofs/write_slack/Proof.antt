@@ -7,14 +7,14 @@ use Rattle.slack.proofs.SlackSteps.{slack_steps}
 use Rattle.slack.proofs.write_slack.Statement.{statement}
 use Rattle.slack.proofs.write_slack.Tie as tie
 
-abbrev invariant-loop : tie.invariant-loop
+abbrev invariant-loop : tie.invariant-loop-component
 invariant-loop c nodes trees table sums components out₀ next₀ component₀ out next component = Writing (slack_row c nodes trees table sums) 848 components out₀ 0 out next component
 
-abbrev decreases-loop : tie.decreases-loop
+abbrev decreases-loop : tie.decreases-loop-component
 decreases-loop c nodes trees table sums components out₀ next₀ component₀ out next component = components - component
 
-pub write-slack-spec : {M : Type 1} → statement M
-write-slack-spec =
+pub write_slack_spec : {M : Type 1} → statement M
+write_slack_spec =
     tie.close
     (tie.spec
     invariant-loop

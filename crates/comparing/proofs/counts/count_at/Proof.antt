@@ -4,8 +4,8 @@ use Rattle.comparing.proofs.CountSteps.{count_steps}
 use Rattle.comparing.proofs.counts.count_at.Statement.{statement}
 use Rattle.comparing.proofs.counts.count_at.Tie as tie
 
-pub count-at-spec : {M : Type 1} → statement M
-count-at-spec =
+pub count_at_spec : {M : Type 1} → statement M
+count_at_spec =
     tie.close
     (tie.spec
     (λ c. search count_steps)

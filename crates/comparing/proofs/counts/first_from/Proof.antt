@@ -4,14 +4,14 @@ use Rattle.comparing.proofs.CountSteps.{count_steps, FromLeft}
 use Rattle.comparing.proofs.counts.first_from.Statement.{statement}
 use Rattle.comparing.proofs.counts.first_from.Tie as tie
 
-abbrev invariant-loop : tie.invariant-loop
+abbrev invariant-loop : tie.invariant-loop-i
 invariant-loop c p from group i₀ i = (i ≤ p.count) × FromLeft c p.list p.count from group i
 
-abbrev decreases-loop : tie.decreases-loop
+abbrev decreases-loop : tie.decreases-loop-i
 decreases-loop c p from group i₀ i = p.count - i
 
-pub first-from-spec : {M : Type 1} → statement M
-first-from-spec =
+pub first_from_spec : {M : Type 1} → statement M
+first_from_spec =
     tie.close
     (tie.spec
     invariant-loop

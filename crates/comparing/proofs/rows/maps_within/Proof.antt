@@ -4,7 +4,7 @@ use Rattle.comparing.proofs.RowSteps.{map_steps}
 use Rattle.comparing.proofs.rows.maps_within.Statement.{statement}
 use Rattle.comparing.proofs.rows.maps_within.Tie as tie
 
-pub maps-within-spec : {M : Type 1} → statement M
-maps-within-spec =
+pub maps_within_spec : {M : Type 1} → statement M
+maps_within_spec =
     tie.close
     (tie.spec (λ c κs. search rules) (λ c. search map_steps) (λ c κs. search rules) (λ c. search map_steps) (λ c κs. search rules) (λ c. search map_steps))

@@ -5,19 +5,19 @@ use Rattle.comparing.proofs.RowSteps.{rows_steps, rows_next, RowsLeft}
 use Rattle.comparing.proofs.rows.rows_within.Statement.{statement}
 use Rattle.comparing.proofs.rows.rows_within.Tie as tie
 
-abbrev invariant-loop : tie.invariant-loop
+abbrev invariant-loop : tie.invariant-loop-i
 invariant-loop answers a nodes tree b others other i₀ j₀ i j = RowsLeft a nodes tree.from tree.to b others other.from other.to i j
 
-abbrev decreases-loop : tie.decreases-loop
+abbrev decreases-loop : tie.decreases-loop-i
 decreases-loop answers a nodes tree b others other i₀ j₀ i j = tree.to - i
 
-loop-again : tie.Need-loop-preserved invariant-loop decreases-loop
+loop-again : tie.Need-loop-i-preserved invariant-loop decreases-loop
 loop-again c =
-    rows_next _ _ _ _ _ _ _ _ _ _ c.before.before.before.before.before.before.before.before.loop.invariant (search rules) (search rules)
-    _ _ c.before.before.before.Node-at.ensures c.before.before.node-at2.ensures _ c.before.row_within.ensures (search rules)
+    rows_next _ _ _ _ _ _ _ _ _ _ c.loop-i.invariant (search rules) (search rules)
+    _ _ c.node_at.ensures c.node_at-in-loop-i.ensures _ c.row_within.ensures (search rules)
 
-pub rows-within-spec : {M : Type 1} → statement M
-rows-within-spec =
+pub rows_within_spec : {M : Type 1} → statement M
+rows_within_spec =
     tie.close
     (tie.spec
     invariant-loop

@@ -5,26 +5,26 @@ use Rattle.comparing.proofs.TreeSteps.{tree_steps, trees_differ, trees_next, Tre
 use Rattle.comparing.proofs.rows.trees_within.Statement.{statement}
 use Rattle.comparing.proofs.rows.trees_within.Tie as tie
 
-abbrev invariant-loop : tie.invariant-loop
+abbrev invariant-loop : tie.invariant-loop-t
 invariant-loop answers a nodes trees b others choice kinds t₀ t = TreesLeft a nodes trees b others choice t
 
-abbrev decreases-loop : tie.decreases-loop
+abbrev decreases-loop : tie.decreases-loop-t
 decreases-loop answers a nodes trees b others choice kinds t₀ t = trees.len - t
 
-returns-2 : tie.Need-returns-2 invariant-loop decreases-loop
+returns-2 : tie.Need-returns-then-not-rows_within invariant-loop decreases-loop
 returns-2 c =
-    trees_differ _ _ _ _ _ _ _ c.before.before.before.before.before.before.before.before.before.before.loop.invariant (search rules) (search rules) (search (rules, c.before.before.before.before.before.before.before.before.before.before.before.before.before.before.before.before.before.well-formed.1.1.1.1.1.1.0))
-    _ _ c.before.before.before.before.before.before.before.wide-byte.ensures c.before.before.before.before.before.before.tree-for.ensures (search rules) _ _ c.before.before.before.Span-of.ensures.0 c.before.before.before.Span-of.ensures.1
-    c.before.before.span-of2.ensures.0 c.before.before.span-of2.ensures.1 _ c.before.rows-within.ensures (search rules)
+    trees_differ _ _ _ _ _ _ _ c.loop-t.invariant (search rules) (search rules) (search (rules, c.well_formed.1.1.1.1.1.1.0))
+    _ _ c.wide_byte.ensures c.tree_for-u.ensures (search rules) _ _ c.span_of.ensures.0 c.span_of.ensures.1
+    c.span_of-in-loop-t.ensures.0 c.span_of-in-loop-t.ensures.1 _ c.rows_within.ensures (search rules)
 
-loop-again : tie.Need-loop-preserved invariant-loop decreases-loop
+loop-again : tie.Need-loop-t-preserved invariant-loop decreases-loop
 loop-again c =
-    trees_next _ _ _ _ _ _ _ c.before.before.before.before.before.before.before.before.before.before.loop.invariant (search rules) (search rules) (search (rules, c.before.before.before.before.before.before.before.before.before.before.before.before.before.before.before.before.before.well-formed.1.1.1.1.1.1.0))
-    _ _ c.before.before.before.before.before.before.before.wide-byte.ensures c.before.before.before.before.before.before.tree-for.ensures (search rules) _ _ c.before.before.before.Span-of.ensures.0 c.before.before.before.Span-of.ensures.1
-    c.before.before.span-of2.ensures.0 c.before.before.span-of2.ensures.1 _ c.before.rows-within.ensures (search rules)
+    trees_next _ _ _ _ _ _ _ c.loop-t.invariant (search rules) (search rules) (search (rules, c.well_formed.1.1.1.1.1.1.0))
+    _ _ c.wide_byte.ensures c.tree_for-u.ensures (search rules) _ _ c.span_of.ensures.0 c.span_of.ensures.1
+    c.span_of-in-loop-t.ensures.0 c.span_of-in-loop-t.ensures.1 _ c.rows_within.ensures (search rules)
 
-pub trees-within-spec : {M : Type 1} → statement M
-trees-within-spec =
+pub trees_within_spec : {M : Type 1} → statement M
+trees_within_spec =
     tie.close
     (tie.spec
     invariant-loop

@@ -6,14 +6,14 @@ use Rattle.continuations.proofs.exchanging.exchange.Tie as tie
 
 returns : tie.Need-returns
 returns c =
-    let pre = c.before.before.before.before.before.before.before.before.before.before.before.before.before.before.before.before.before.before.before.before.before.requires in
+    let pre = c.requires in
     exchange_step _ _ _ _ _ _ _ _ _ _ _ _ _ _ pre.0 pre.1 pre.2
-    c.before.before.before.before.before.before.before.before.before.before.before.before.before.before.before.none_made.ensures
-    c.before.before.before.before.before.before.before.before.before.before.before.make-both.ensures
-    c.before.before.put_both.ensures
+    c.none_made-before.ensures
+    c.make_both-products.ensures
+    c.put_both.ensures
 
-pub exchange-spec : {M : Type 1} → statement M
-exchange-spec =
+pub exchange_spec : {M : Type 1} → statement M
+exchange_spec =
     tie.close
     (tie.spec
     (λ c κs. search rules)

@@ -4,8 +4,8 @@ use borrow.Author.Rules.{rules}
 use Rattle.continuations.proofs.exchanging.make_both.Statement.{statement}
 use Rattle.continuations.proofs.exchanging.make_both.Tie as tie
 
-pub make-both-spec : {M : Type 1} → statement M
-make-both-spec =
+pub make_both_spec : {M : Type 1} → statement M
+make_both_spec =
     tie.close
     (tie.spec
     (λ c κs. search rules)

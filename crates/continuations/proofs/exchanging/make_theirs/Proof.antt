@@ -4,8 +4,8 @@ use borrow.Author.Rules.{rules}
 use Rattle.continuations.proofs.exchanging.make_theirs.Statement.{statement}
 use Rattle.continuations.proofs.exchanging.make_theirs.Tie as tie
 
-pub make-theirs-spec : {M : Type 1} → statement M
-make-theirs-spec =
+pub make_theirs_spec : {M : Type 1} → statement M
+make_theirs_spec =
     tie.close
     (tie.spec
     (λ c κs. search rules)

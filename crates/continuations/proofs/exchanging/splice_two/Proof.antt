@@ -4,8 +4,8 @@ use borrow.Author.Rules.{rules}
 use Rattle.continuations.proofs.exchanging.splice_two.Statement.{statement}
 use Rattle.continuations.proofs.exchanging.splice_two.Tie as tie
 
-pub splice-two-spec : {M : Type 1} → statement M
-splice-two-spec =
+pub splice_two_spec : {M : Type 1} → statement M
+splice_two_spec =
     tie.close
     (tie.spec
     (λ c. search rules)

@@ -4,5 +4,5 @@ use borrow.Author.Rules.{rules}
 use Rattle.continuations.proofs.placing.has_room.Statement.{statement}
 use Rattle.continuations.proofs.placing.has_room.Tie as tie
 
-pub has-room-spec : {M : Type 1} → statement M
-has-room-spec = tie.close (tie.spec (λ c. search room_steps) (λ c. search rules) (λ c. search room_steps) (λ c. search room_steps))
+pub has_room_spec : {M : Type 1} → statement M
+has_room_spec = tie.close (tie.spec (λ c. search room_steps) (λ c. search rules) (λ c. search room_steps) (λ c. search room_steps))

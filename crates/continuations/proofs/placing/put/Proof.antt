@@ -1,4 +1,6 @@
 -- `put` asks for room, then splices what was made into its place; that there is room bounds every sum (PlaceSteps.antt).
+use mathlib.Core.Path.{ap}
+use mathlib.Core.Bool.{not}
 use native.Mathlib.Omega.{arith}
 use Rattle.continuations.proofs.PlaceSteps.{put_steps}
 use Rattle.continuations.proofs.RoomLaws.{room_few}
@@ -6,14 +8,14 @@ use borrow.Author.Rules.{rules}
 use Rattle.continuations.proofs.placing.put.Statement.{statement}
 use Rattle.continuations.proofs.placing.put.Tie as tie
 
-add-t10 : tie.Need-overflow-add-t10
+add-t10 : tie.Need-overflow_add-total
 add-t10 c =
-    let few = room_few _ _ _ c.before.has_room.ensures c.if1.false in
+    let few = room_few _ _ _ c.has_room.ensures (ap not c.if-not-has_room.false) in
     record { fits = omega (arith, few) }
 
 splice-requires : tie.Need-splice-requires
 splice-requires c κs =
-    let few = room_few _ _ _ c.before.before.has_room.ensures c.before.if1.false in
+    let few = room_few _ _ _ c.has_room.ensures (ap not c.if-not-has_room.false) in
     (search rules, search rules, omega (arith, few), omega (arith, few), omega (arith, few), search rules)
 
 pub put_spec : {M : Type 1} → statement M

@@ -7,12 +7,12 @@ use Rattle.continuations.proofs.placing.replace.Tie as tie
 returns : tie.Need-returns
 returns c =
     replace_step _ _ _ _ _ _ _ _ _ _ _ _ _ _ _ _
-    c.before.before.before.before.before.before.before.before.before.before.before.before.before.before.before.before.before.before.before.before.before.requires.0
-    c.before.before.before.before.before.before.before.before.before.before.before.before.before.before.before.before.before.before.before.before.before.requires.1
-    c.before.before.before.before.before.before.before.before.before.before.before.before.before.before.before.before.before.before.before.before.before.requires.2
-    c.before.before.before.before.before.before.before.before.before.before.before.before.before.before.before.none_made.ensures
-    c.before.before.before.before.before.before.before.before.before.before.before.make.ensures
-    c.before.before.put.ensures
+    c.requires.0
+    c.requires.1
+    c.requires.2
+    c.none_made.ensures
+    c.make-after.ensures
+    c.put.ensures
 
 pub replace_spec : {M : Type 1} → statement M
 replace_spec =

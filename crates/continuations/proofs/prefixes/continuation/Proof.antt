@@ -4,5 +4,5 @@ use borrow.Author.Rules.{rules}
 use Rattle.continuations.proofs.prefixes.continuation.Statement.{statement}
 use Rattle.continuations.proofs.prefixes.continuation.Tie as tie
 
-pub continuation-spec : {M : Type 1} → statement M
-continuation-spec = tie.close (tie.spec (λ c κs. search rules) (λ c. search prefix_steps))
+pub continuation_spec : {M : Type 1} → statement M
+continuation_spec = tie.close (tie.spec (λ c κs. search rules) (λ c. search prefix_steps))

@@ -4,8 +4,8 @@ use borrow.Author.Rules.{rules}
 use Rattle.continuations.proofs.prefixes.prefix_of.Statement.{statement}
 use Rattle.continuations.proofs.prefixes.prefix_of.Tie as tie
 
-pub prefix-of-spec : {M : Type 1} → statement M
-prefix-of-spec =
+pub prefix_of_spec : {M : Type 1} → statement M
+prefix_of_spec =
     tie.close
     (tie.spec
     (λ c. search prefix_steps)

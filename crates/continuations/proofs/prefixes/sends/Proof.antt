@@ -4,5 +4,5 @@ use borrow.Author.Rules.{rules}
 use Rattle.continuations.proofs.prefixes.sends.Statement.{statement}
 use Rattle.continuations.proofs.prefixes.sends.Tie as tie
 
-pub sends-spec : {M : Type 1} → statement M
-sends-spec = tie.close (tie.spec (λ c κs. search rules) (λ c κs. search rules) (λ c. search prefix_steps))
+pub sends_spec : {M : Type 1} → statement M
+sends_spec = tie.close (tie.spec (λ c κs. search rules) (λ c κs. search rules) (λ c. search prefix_steps))

@@ -4,5 +4,5 @@ use borrow.Author.Rules.{rules}
 use Rattle.continuations.proofs.widening.under_cell.Statement.{statement}
 use Rattle.continuations.proofs.widening.under_cell.Tie as tie
 
-pub under-cell-spec : {M : Type 1} → statement M
-under-cell-spec = tie.close (tie.spec (λ c. search widen_steps) (λ c. search rules) (λ c. search widen_steps))
+pub under_cell_spec : {M : Type 1} → statement M
+under_cell_spec = tie.close (tie.spec (λ c. search widen_steps) (λ c. search rules) (λ c. search widen_steps))

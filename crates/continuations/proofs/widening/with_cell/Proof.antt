@@ -4,5 +4,5 @@ use borrow.Author.Rules.{rules}
 use Rattle.continuations.proofs.widening.with_cell.Statement.{statement}
 use Rattle.continuations.proofs.widening.with_cell.Tie as tie
 
-pub with-cell-spec : {M : Type 1} → statement M
-with-cell-spec = tie.close (tie.spec (λ c. search widen_steps) (λ c. search rules) (λ c. search widen_steps))
+pub with_cell_spec : {M : Type 1} → statement M
+with_cell_spec = tie.close (tie.spec (λ c. search widen_steps) (λ c. search rules) (λ c. search widen_steps))

@@ -6,7 +6,7 @@ use borrow.Author.Rules.{rules}
 use Rattle.execution.proofs.opening.play_over.Statement.{statement}
 use Rattle.execution.proofs.opening.play_over.Tie as tie
 
-play-with-requires : tie.Need-play-with-requires
+play-with-requires : tie.Need-play_with-requires
 play-with-requires c κs = (
   search rules,
   new_tables _ _ 1280 (search rules) (omega arith) (omega arith),
@@ -14,7 +14,7 @@ play-with-requires c κs = (
   few_enough _ (search rules),
 )
 
-play-with-requires-2 : tie.Need-play-with-requires-2
+play-with-requires-2 : tie.Need-play_with-requires-2
 play-with-requires-2 c κs = (
   search rules,
   new_tables _ _ 2304 (search rules) (omega arith) (omega arith),
@@ -22,8 +22,8 @@ play-with-requires-2 c κs = (
   all_enough _,
 )
 
-pub play-over-spec : {M : Type 1} → statement M
-play-over-spec =
+pub play_over_spec : {M : Type 1} → statement M
+play_over_spec =
     tie.close
     (tie.spec
     (λ c. search rules)

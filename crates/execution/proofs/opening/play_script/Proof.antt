@@ -7,8 +7,8 @@ use Rattle.execution.proofs.opening.play_script.Tie as tie
 run-requires : tie.Need-run-requires
 run-requires c κs = (search script_steps, search rules, search script_steps)
 
-pub play-script-spec : {M : Type 1} → statement M
-play-script-spec =
+pub play_script_spec : {M : Type 1} → statement M
+play_script_spec =
     tie.close
     (tie.spec
     (λ c κs. search rules)

@@ -4,25 +4,25 @@ use borrow.Author.Rules.{rules}
 use Rattle.execution.proofs.opening.play_with.Statement.{statement}
 use Rattle.execution.proofs.opening.play_with.Tie as tie
 
-returns : tie.Need-returns
-returns c = crowded _ _ _ c.before.before.before.before.before.before.before.before.before.before.before.before.before.before.before.before.before.before.before.before.before.before.before.before.before.before.before.requires.0 _ _ _ _ _ _ c.before.before.before.before.before.before.before.before.before.before.before.before.start.ensures c.if1.true
+returns : tie.Need-returns-then-sizes-gt64
+returns c = crowded _ _ _ c.requires.0 _ _ _ _ _ _ c.start-sizes.ensures c.if-sizes-gt64.true
 
-returns-2 : tie.Need-returns-2
-returns-2 c = overnamed _ _ _ c.before.before.before.before.before.before.before.before.before.before.before.before.before.before.before.before.before.before.before.before.before.before.before.before.before.before.before.before.before.requires.0 _ _ _ _ _ _ c.before.before.before.before.before.before.before.before.before.before.before.before.before.before.start.ensures c.if2.true
+returns-2 : tie.Need-returns-then-sizes-gt1024
+returns-2 c = overnamed _ _ _ c.requires.0 _ _ _ _ _ _ c.start-sizes.ensures c.if-sizes-gt1024.true
 
-play-script-requires : tie.Need-play-script-requires
+play-script-requires : tie.Need-play_script-requires
 play-script-requires c κs = (search start_steps, search start_steps, search start_steps)
 
-returns-3 : tie.Need-returns-3
+returns-3 : tie.Need-returns
 returns-3 c =
-    plays_on _ _ _ c.before.before.before.before.before.before.before.before.before.before.before.before.before.before.before.before.before.before.before.before.before.before.before.before.before.before.before.before.before.before.before.before.before.before.before.before.before.before.before.before.before.before.before.before.before.before.before.before.before.requires.0 _ _ _ _ _ _
-    c.before.before.before.before.before.before.before.before.before.before.before.before.before.before.before.before.before.before.before.before.before.before.before.before.before.before.before.before.before.before.before.before.before.before.start.ensures
-    c.before.before.before.before.before.before.before.before.before.before.before.before.before.before.before.before.before.before.before.before.before.before.if1.false
-    c.before.before.before.before.before.before.before.before.before.before.before.before.before.before.before.before.before.before.before.before.if2.false
-    _ _ c.before.before.before.before.before.before.before.before.before.before.before.before.play-script.ensures
+    plays_on _ _ _ c.requires.0 _ _ _ _ _ _
+    c.start-sizes.ensures
+    c.if-sizes-gt64.false
+    c.if-sizes-gt1024.false
+    _ _ c.play_script.ensures
 
-pub play-with-spec : {M : Type 1} → statement M
-play-with-spec =
+pub play_with_spec : {M : Type 1} → statement M
+play_with_spec =
     tie.close
     (tie.spec
     (λ c κs. search rules)

@@ -5,23 +5,23 @@ use Rattle.execution.proofs.RunSteps.{run_steps, run_falls, Running}
 use Rattle.execution.proofs.runs.run.Statement.{statement}
 use Rattle.execution.proofs.runs.run.Tie as tie
 
-abbrev invariant-loop : tie.invariant-loop
+abbrev invariant-loop : tie.invariant-loop-p
 invariant-loop forms script count log₀ threads₀ made₀ types₀ known₀ cells₀ p₀ log threads made types known cells p =
     Running forms script count log₀ threads₀ types₀ known₀ cells₀ p₀ log threads made types known cells p
 
-abbrev decreases-loop : tie.decreases-loop
+abbrev decreases-loop : tie.decreases-loop-p
 decreases-loop forms script count log₀ threads₀ made₀ types₀ known₀ cells₀ p₀ log threads made types known cells p =
     count - p.done
 
-turn-requires : tie.Need-turn-requires invariant-loop decreases-loop
+turn-requires : tie.Need-turn-p-requires invariant-loop decreases-loop
 turn-requires c κs = (search run_steps, search run_steps, search run_steps, search run_steps)
 
-loop-less : tie.Need-loop-smaller invariant-loop decreases-loop
+loop-less : tie.Need-loop-p-smaller invariant-loop decreases-loop
 loop-less c =
     run_falls _ _ _ _ _ _ _ _ _ _ _ _ _ _ _
-    c.before.before.before.before.before.before.before.before.before.before.before.before.before.before.before.before.before.before.before.before.before.loop.invariant.ongoing
-    c.before.before.before.before.before.before.before.before.before.before.before.before.turn.ensures
-    c.before.before.before.before.before.before.before.before.before.before.before.before.before.before.before.before.before.before.before.if1.true
+    c.loop-p.invariant.ongoing
+    c.turn-p.ensures
+    c.loop-p-test.true
 
 pub run_spec : {M : Type 1} → statement M
 run_spec =

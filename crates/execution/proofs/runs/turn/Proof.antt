@@ -5,10 +5,10 @@ use borrow.Author.Rules.{rules}
 use Rattle.execution.proofs.runs.turn.Statement.{statement}
 use Rattle.execution.proofs.runs.turn.Tie as tie
 
-step-requires : tie.Need-step-requires
+step-requires : tie.Need-step-moved-requires
 step-requires c κs = (
   record {
-    few = few_threads _ _ _ _ _ _ _ _ _ _ c.before.before.before.before.before.before.before.before.before.before.before.before.before.before.before.before.before.before.before.requires.0.going;
+    few = few_threads _ _ _ _ _ _ _ _ _ _ c.requires.0.going;
     thread_room = search rules;
     made_room = search rules;
     type_room = search rules;
@@ -18,11 +18,11 @@ step-requires c κs = (
   search turn_steps,
 )
 
-write-record-requires : tie.Need-write-record-requires
-write-record-requires c κs = record_room _ _ _ _ _ _ _ _ _ _ c.before.before.before.before.before.before.before.before.before.before.before.before.before.before.before.before.before.before.before.before.before.before.before.before.before.before.before.before.before.before.before.before.requires.0.going c.before.before.before.before.before.before.before.before.before.before.before.before.before.before.before.before.before.before.before.before.before.before.before.before.before.before.before.before.before.before.before.before.requires.2
+write-record-requires : tie.Need-write_record-requires
+write-record-requires c κs = record_room _ _ _ _ _ _ _ _ _ _ c.requires.0.going c.requires.2
 
-returns-2 : tie.Need-returns-2
-returns-2 c = all_turned _ _ _ _ _ _ _ _ _ c.before.before.before.before.before.before.before.before.before.before.before.before.before.before.before.before.before.before.before.before.before.before.before.before.before.before.before.before.before.before.before.before.before.before.before.requires.2 _ c.before.before.before.before.before.before.before.before.before.before.before.before.before.before.before.before.before.before.before.before.before.before.before.before.move_at.ensures _ c.before.before.before.before.before.before.before.before.before.before.before.before.before.before.before.before.before.before.before.before.before.before.read.given.1 _ _ _ _ _ _ c.before.before.before.before.before.before.before.before.before.before.before.before.before.before.before.before.before.before.before.before.before.before.before.before.before.before.before.before.before.before.before.before.before.before.before.requires.3 c.before.before.before.before.before.before.before.before.before.before.before.before.before.before.before.step.ensures c.before.before.write-record.ensures
+returns-2 : tie.Need-returns
+returns-2 c = all_turned _ _ _ _ _ _ _ _ _ c.requires.2 _ c.move_at-read.ensures _ c.in-Found.is _ _ _ _ _ _ c.requires.3 c.step-moved.ensures c.write_record.ensures
 
 pub turn_spec : {M : Type 1} → statement M
 turn_spec =

@@ -4,14 +4,14 @@ use Rattle.naming.proofs.LetterSteps.{letter_steps, Compared}
 use Rattle.naming.proofs.letters.same_at.Statement.{statement}
 use Rattle.naming.proofs.letters.same_at.Tie as tie
 
-abbrev invariant-loop : tie.invariant-loop
+abbrev invariant-loop : tie.invariant-loop-i
 invariant-loop s a b i₀ i = Compared s a b i
 
-abbrev decreases-loop : tie.decreases-loop
+abbrev decreases-loop : tie.decreases-loop-i
 decreases-loop s a b i₀ i = 20 - i
 
-pub same-at-spec : {M : Type 1} → statement M
-same-at-spec =
+pub same_at_spec : {M : Type 1} → statement M
+same_at_spec =
     tie.close
     (tie.spec
     invariant-loop

@@ -5,14 +5,14 @@ use Rattle.naming.proofs.NameSteps.{name_steps, NoneSoFar}
 use Rattle.naming.proofs.names.among.Statement.{statement}
 use Rattle.naming.proofs.names.among.Tie as tie
 
-abbrev invariant-loop : tie.invariant-loop
+abbrev invariant-loop : tie.invariant-loop-i
 invariant-loop s at places from i₀ i = NoneSoFar s at places from i
 
-abbrev decreases-loop : tie.decreases-loop
+abbrev decreases-loop : tie.decreases-loop-i
 decreases-loop s at places from i₀ i = length places - i
 
-pub among-spec : {M : Type 1} → statement M
-among-spec =
+pub among_spec : {M : Type 1} → statement M
+among_spec =
     tie.close
     (tie.spec
     invariant-loop

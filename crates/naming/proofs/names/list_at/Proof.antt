@@ -4,8 +4,8 @@ use borrow.Author.Rules.{rules}
 use Rattle.naming.proofs.names.list_at.Statement.{statement}
 use Rattle.naming.proofs.names.list_at.Tie as tie
 
-pub list-at-spec : {M : Type 1} → statement M
-list-at-spec =
+pub list_at_spec : {M : Type 1} → statement M
+list_at_spec =
     tie.close
     (tie.spec
     (λ c κs. search rules)

@@ -5,14 +5,14 @@ use borrow.Author.Rules.{rules}
 use Rattle.naming.proofs.names.name_at.Statement.{statement}
 use Rattle.naming.proofs.names.name_at.Tie as tie
 
-returns-2 : tie.Need-returns-2
+returns-2 : tie.Need-returns-then-byte_in-eq10
 returns-2 c = (
-  ended_well _ _ _ c.before.before.before.letters-at.ensures.0 c.before.before.if1.false _ c.before.byte-in.ensures.0 c.if2.true,
-  omega (arith, c.before.before.before.letters-at.ensures.1),
+  ended_well _ _ _ c.letters_at-len.ensures.0 c.if-len-eq0.false _ c.byte_in.ensures.0 c.if-byte_in-eq10.true,
+  omega (arith, c.letters_at-len.ensures.1),
 )
 
-pub name-at-spec : {M : Type 1} → statement M
-name-at-spec =
+pub name_at_spec : {M : Type 1} → statement M
+name_at_spec =
     tie.close
     (tie.spec
     (λ c κs. search rules)

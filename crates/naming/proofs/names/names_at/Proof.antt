@@ -5,14 +5,14 @@ use Rattle.naming.proofs.NameSteps.{name_steps, NamesSoFar}
 use Rattle.naming.proofs.names.names_at.Statement.{statement}
 use Rattle.naming.proofs.names.names_at.Tie as tie
 
-abbrev invariant-loop : tie.invariant-loop
+abbrev invariant-loop : tie.invariant-loop-i
 invariant-loop s at places₀ next₀ i₀ places next i = NamesSoFar s at places₀ places next i
 
-abbrev decreases-loop : tie.decreases-loop
+abbrev decreases-loop : tie.decreases-loop-i
 decreases-loop s at places₀ next₀ i₀ places next i = length places₀ - i
 
-pub names-at-spec : {M : Type 1} → statement M
-names-at-spec =
+pub names_at_spec : {M : Type 1} → statement M
+names_at_spec =
     tie.close
     (tie.spec
     invariant-loop

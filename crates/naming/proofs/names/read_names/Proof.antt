@@ -5,11 +5,11 @@ use borrow.Author.Rules.{rules}
 use Rattle.naming.proofs.names.read_names.Statement.{statement}
 use Rattle.naming.proofs.names.read_names.Tie as tie
 
-list-at-requires-2 : tie.Need-list-at-requires-2
-list-at-requires-2 c κs = (omega (arith, read_near _ _ _ c.before.before.first.given.1 c.before.before.before.before.before.before.list_at.ensures.1), search rules)
+list-at-requires-2 : tie.Need-list_at-second-requires
+list-at-requires-2 c κs = (omega (arith, read_near _ _ _ c.in-At.is c.list_at-first.ensures.1), search rules)
 
-pub read-names-spec : {M : Type 1} → statement M
-read-names-spec =
+pub read_names_spec : {M : Type 1} → statement M
+read_names_spec =
     tie.close
     (tie.spec
     (λ c κs. search rules)

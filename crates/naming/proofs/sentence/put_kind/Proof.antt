@@ -4,7 +4,7 @@ use borrow.Author.Rules.{rules}
 use Rattle.naming.proofs.sentence.put_kind.Statement.{statement}
 use Rattle.naming.proofs.sentence.put_kind.Tie as tie
 
-pub put-kind-spec : {M : Type 1} → statement M
-put-kind-spec =
+pub put_kind_spec : {M : Type 1} → statement M
+put_kind_spec =
     tie.close
-    (tie.spec (λ c. search rules) (λ c κs. search rules) (λ c κs. search rules) (λ c. search rules) (λ c. search sentence_steps))
+    (tie.spec (λ c κs. search rules) (λ c κs. search rules) (λ c. search rules) (λ c. search sentence_steps))

@@ -4,14 +4,14 @@ use Rattle.naming.proofs.LetterSteps.{letter_steps, Spelled}
 use Rattle.naming.proofs.sentence.put_letters.Statement.{statement}
 use Rattle.naming.proofs.sentence.put_letters.Tie as tie
 
-abbrev invariant-loop : tie.invariant-loop
+abbrev invariant-loop : tie.invariant-loop-i
 invariant-loop s place out₀ at next₀ i₀ out next i = Spelled s place out₀ at out next i
 
-abbrev decreases-loop : tie.decreases-loop
+abbrev decreases-loop : tie.decreases-loop-i
 decreases-loop s place out₀ at next₀ i₀ out next i = 20 - i
 
-pub put-letters-spec : {M : Type 1} → statement M
-put-letters-spec =
+pub put_letters_spec : {M : Type 1} → statement M
+put_letters_spec =
     tie.close
     (tie.spec
     invariant-loop

@@ -4,8 +4,8 @@ use borrow.Author.Rules.{rules}
 use Rattle.naming.proofs.sentence.put_name.Statement.{statement}
 use Rattle.naming.proofs.sentence.put_name.Tie as tie
 
-pub put-name-spec : {M : Type 1} → statement M
-put-name-spec =
+pub put_name_spec : {M : Type 1} → statement M
+put_name_spec =
     tie.close
     (tie.spec
     (λ c. search rules)

@@ -5,17 +5,17 @@ use Rattle.naming.proofs.SentenceSteps.{sentence_steps, step_at}
 use Rattle.naming.proofs.sentence.put_path.Statement.{statement}
 use Rattle.naming.proofs.sentence.put_path.Tie as tie
 
-abbrev invariant-loop : tie.invariant-loop
+abbrev invariant-loop : tie.invariant-loop-i
 invariant-loop s places out₀ groups len next₀ i₀ out next i = Writing (step_at s places groups) 21 len out₀ 0 out next i × (len ≤ 8)
 
-abbrev decreases-loop : tie.decreases-loop
+abbrev decreases-loop : tie.decreases-loop-i
 decreases-loop s places out₀ groups len next₀ i₀ out next i = len - i
 
 returns : tie.Need-returns invariant-loop decreases-loop
 returns c = (search sentence_steps, search sentence_steps)
 
-pub put-path-spec : {M : Type 1} → statement M
-put-path-spec =
+pub put_path_spec : {M : Type 1} → statement M
+put_path_spec =
     tie.close
     (tie.spec
     invariant-loop

@@ -6,15 +6,14 @@ use Rattle.naming.proofs.sentence.put_sentence.Tie as tie
 
 returns : tie.Need-returns
 returns c =
-    sentence_said _ _ _ _ _ _ _ _ _ _ _ _ _ _ _ c.before.before.before.before.before.before.before.before.before.before.before.before.before.before.before.put-path.ensures.0 c.before.before.before.before.before.before.before.before.before.before.put-text.ensures
-    c.before.before.before.before.before.before.put-verb.ensures.0 c.before.before.put-kind.ensures
+    sentence_said _ _ _ _ _ _ _ _ _ _ _ _ _ _ _ c.put_path-who.ensures.0 c.put_text-not.ensures
+    c.put_verb-what.ensures.0 c.put_kind.ensures
 
-pub put-sentence-spec : {M : Type 1} → statement M
-put-sentence-spec =
+pub put_sentence_spec : {M : Type 1} → statement M
+put_sentence_spec =
     tie.close
     (tie.spec
     (λ c κs. search rules)
-    (λ c. search rules)
     (λ c κs. search rules)
     (λ c κs. search rules)
     (λ c κs. search rules)

@@ -5,24 +5,20 @@ use borrow.Author.Rules.{rules}
 use Rattle.naming.proofs.sentence.put_verb.Statement.{statement}
 use Rattle.naming.proofs.sentence.put_verb.Tie as tie
 
-returns-4 : tie.Need-returns-4
+returns-4 : tie.Need-returns-in_default
 returns-4 c = (
-  disclose_said _ _ _ _ _ _ _ _ _ c.before.before.before.before.before.before.before.before.before.match.rest.0.0.1 c.before.before.before.before.before.before.before.before.before.match.rest.0.1 c.before.before.before.before.before.before.before.before.before.match.rest.1
-      c.before.before.before.before.before.before.put-text4.ensures c.before.before.put-name.ensures,
-  omega (arith, name_near _ _ _ _ _ _ _ c.before.before.put-name.ensures, c.before.before.before.before.before.before.put-text4.ensures.next),
+  disclose_said _ _ _ _ _ _ _ _ _ c.in_default.in_default-own.rest.0.0.1 c.in_default.in_default-own.rest.0.1 c.in_default.in_default-own.rest.1
+      c.put_text-next.ensures c.put_name.ensures,
+  omega (arith, name_near _ _ _ _ _ _ _ c.put_name.ensures, c.put_text-next.ensures.next),
 )
 
-pub put-verb-spec : {M : Type 1} → statement M
-put-verb-spec =
+pub put_verb_spec : {M : Type 1} → statement M
+put_verb_spec =
     tie.close
     (tie.spec
-    (λ c. search rules)
     (λ c κs. search rules)
-    (λ c. search rules)
     (λ c κs. search rules)
-    (λ c. search rules)
     (λ c κs. search rules)
-    (λ c. search rules)
     (λ c κs. search rules)
     (λ c κs. search rules)
     (λ c. search rules)

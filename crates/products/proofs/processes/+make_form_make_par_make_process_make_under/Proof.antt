@@ -85,11 +85,11 @@ make-par-returns t c =
     (search rules)
     (search rules)
     (search rules)
-    c.before.before.before.before.before.before.before.before.before.before.before.before.before.before.before.before.make_process.ensures
-    c.before.before.before.before.before.before.make-process2.ensures
+    c.make_process-left.ensures
+    c.make_process.ensures
 
-pub +make-form-make-par-make-process-make-under-spec : {M : Type 1} → statement M
-+make-form-make-par-make-process-make-under-spec =
+pub +make_form_make_par_make_process_make_under_spec : {M : Type 1} → statement M
++make_form_make_par_make_process_make_under_spec =
     close μ_make_form μ_make_par μ_make_process μ_make_under (λ t. make_form_lts.spec (
       make_par_below t,
       make_par.Post,

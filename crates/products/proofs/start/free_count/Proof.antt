@@ -4,6 +4,6 @@ use borrow.Author.Rules.{rules}
 use Rattle.products.proofs.start.free_count.Statement.{statement}
 use Rattle.products.proofs.start.free_count.Tie as tie
 
-pub free-count-spec : {M : Type 1} → statement M
-free-count-spec =
+pub free_count_spec : {M : Type 1} → statement M
+free_count_spec =
     tie.close (tie.spec (λ c κs. search rules) (λ c. search rules) (λ c. search rules) (λ c. search start_steps) (λ c. search start_steps))

@@ -4,6 +4,6 @@ use borrow.Author.Rules.{rules}
 use Rattle.products.proofs.start.give_free.Statement.{statement}
 use Rattle.products.proofs.start.give_free.Tie as tie
 
-pub give-free-spec : {M : Type 1} → statement M
-give-free-spec =
+pub give_free_spec : {M : Type 1} → statement M
+give_free_spec =
     tie.close (tie.spec (λ c κs. search rules) (λ c κs. search rules) (λ c. search rules) (λ c. search rules) (λ c. search start_steps))

@@ -5,14 +5,14 @@ use Prim.Native.Nat.{◌-◌}
 use Rattle.products.proofs.start.give_types.Statement.{statement}
 use Rattle.products.proofs.start.give_types.Tie as tie
 
-abbrev invariant-loop : tie.invariant-loop
+abbrev invariant-loop : tie.invariant-loop-given
 invariant-loop s at count types₀ cells₀ next₀ sizes₀ given₀ types cells next sizes given = Giving count s at types₀ cells₀ next given types cells sizes
 
-abbrev decreases-loop : tie.decreases-loop
+abbrev decreases-loop : tie.decreases-loop-given
 decreases-loop s at count types₀ cells₀ next₀ sizes₀ given₀ types cells next sizes given = count - given
 
-pub give-types-spec : {M : Type 1} → statement M
-give-types-spec =
+pub give_types_spec : {M : Type 1} → statement M
+give_types_spec =
     tie.close
     (tie.spec
     invariant-loop

@@ -5,14 +5,14 @@ use Prim.Native.Nat.{◌-◌}
 use Rattle.products.proofs.start.know_first.Statement.{statement}
 use Rattle.products.proofs.start.know_first.Tie as tie
 
-abbrev invariant-loop : tie.invariant-loop
+abbrev invariant-loop : tie.invariant-loop-i
 invariant-loop known₀ count i₀ known i = Knowing count known₀ i known
 
-abbrev decreases-loop : tie.decreases-loop
+abbrev decreases-loop : tie.decreases-loop-i
 decreases-loop known₀ count i₀ known i = count - i
 
-pub know-first-spec : {M : Type 1} → statement M
-know-first-spec =
+pub know_first_spec : {M : Type 1} → statement M
+know_first_spec =
     tie.close
     (tie.spec
     invariant-loop

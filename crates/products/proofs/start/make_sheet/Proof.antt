@@ -4,8 +4,8 @@ use borrow.Author.Rules.{rules}
 use Rattle.products.proofs.start.make_sheet.Statement.{statement}
 use Rattle.products.proofs.start.make_sheet.Tie as tie
 
-pub make-sheet-spec : {M : Type 1} → statement M
-make-sheet-spec =
+pub make_sheet_spec : {M : Type 1} → statement M
+make_sheet_spec =
     tie.close
     (tie.spec
     (λ c κs. search rules)

@@ -4,8 +4,8 @@ use borrow.Author.Rules.{rules}
 use Rattle.products.proofs.systems.make_component.Statement.{statement}
 use Rattle.products.proofs.systems.make_component.Tie as tie
 
-pub make-component-spec : {M : Type 1} → statement M
-make-component-spec =
+pub make_component_spec : {M : Type 1} → statement M
+make_component_spec =
     tie.close
     (tie.spec
     (λ c. search system_steps)

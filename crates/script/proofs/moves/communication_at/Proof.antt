@@ -6,9 +6,9 @@ use borrow.Author.Rules.{rules}
 use Rattle.script.proofs.moves.communication_at.Statement.{statement}
 use Rattle.script.proofs.moves.communication_at.Tie as tie
 
-pub communication-at-spec : {M : Type 1} → statement M
+pub communication_at_spec : {M : Type 1} → statement M
 unfolding communication_at move_of
-communication-at-spec =
+communication_at_spec =
     tie.close
     (tie.spec
     (λ c κs. search rules)

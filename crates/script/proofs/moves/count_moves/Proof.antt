@@ -5,14 +5,14 @@ use Prim.Native.Nat.{◌-◌}
 use Rattle.script.proofs.moves.count_moves.Statement.{statement}
 use Rattle.script.proofs.moves.count_moves.Tie as tie
 
-abbrev invariant-loop : tie.invariant-loop
+abbrev invariant-loop : tie.invariant-loop-at
 invariant-loop s at₀ n₀ at n = Turn s at n
 
-abbrev decreases-loop : tie.decreases-loop
+abbrev decreases-loop : tie.decreases-loop-at
 decreases-loop s at₀ n₀ at n = 1024 - n
 
-pub count-moves-spec : {M : Type 1} → statement M
-count-moves-spec =
+pub count_moves_spec : {M : Type 1} → statement M
+count_moves_spec =
     tie.close
     (tie.spec
     invariant-loop

@@ -6,8 +6,8 @@ use borrow.Author.Rules.{rules}
 use Rattle.script.proofs.moves.environment_name_at.Statement.{statement}
 use Rattle.script.proofs.moves.environment_name_at.Tie as tie
 
-pub environment-name-at-spec : {M : Type 1} → statement M
+pub environment_name_at_spec : {M : Type 1} → statement M
 unfolding environment_name_at move_of
-environment-name-at-spec =
+environment_name_at_spec =
     tie.close
     (tie.spec (λ c κs. search rules) (λ c. search rules) (λ c. search rules) (λ c κs. search rules) (λ c. search field_steps) (λ c. search field_steps))

@@ -4,8 +4,8 @@ use borrow.Author.Rules.{rules}
 use Rattle.script.proofs.moves.environment_name_span.Statement.{statement}
 use Rattle.script.proofs.moves.environment_name_span.Tie as tie
 
-pub environment-name-span-spec : {M : Type 1} → statement M
-environment-name-span-spec =
+pub environment_name_span_spec : {M : Type 1} → statement M
+environment_name_span_spec =
     tie.close
     (tie.spec
     (λ c. search rules)

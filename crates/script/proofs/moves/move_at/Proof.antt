@@ -5,9 +5,9 @@ use borrow.Author.Rules.{rules}
 use Rattle.script.proofs.moves.move_at.Statement.{statement}
 use Rattle.script.proofs.moves.move_at.Tie as tie
 
-pub move-at-spec : {M : Type 1} → statement M
+pub move_at_spec : {M : Type 1} → statement M
 unfolding move_at
-move-at-spec =
+move_at_spec =
     tie.close
     (tie.spec
     (λ c κs. search rules)

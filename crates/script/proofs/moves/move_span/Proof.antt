@@ -4,8 +4,8 @@ use borrow.Author.Rules.{rules}
 use Rattle.script.proofs.moves.move_span.Statement.{statement}
 use Rattle.script.proofs.moves.move_span.Tie as tie
 
-pub move-span-spec : {M : Type 1} → statement M
-move-span-spec =
+pub move_span_spec : {M : Type 1} → statement M
+move_span_spec =
     tie.close
     (tie.spec
     (λ c. (search span_steps, search rules))

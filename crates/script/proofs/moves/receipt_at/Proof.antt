@@ -6,9 +6,9 @@ use borrow.Author.Rules.{rules}
 use Rattle.script.proofs.moves.receipt_at.Statement.{statement}
 use Rattle.script.proofs.moves.receipt_at.Tie as tie
 
-pub receipt-at-spec : {M : Type 1} → statement M
+pub receipt_at_spec : {M : Type 1} → statement M
 unfolding receipt_at move_of
-receipt-at-spec =
+receipt_at_spec =
     tie.close
     (tie.spec
     (λ c κs. search rules)

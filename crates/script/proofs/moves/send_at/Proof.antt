@@ -6,8 +6,8 @@ use borrow.Author.Rules.{rules}
 use Rattle.script.proofs.moves.send_at.Statement.{statement}
 use Rattle.script.proofs.moves.send_at.Tie as tie
 
-pub send-at-spec : {M : Type 1} → statement M
+pub send_at_spec : {M : Type 1} → statement M
 unfolding send_at move_of
-send-at-spec =
+send_at_spec =
     tie.close
     (tie.spec (λ c κs. search rules) (λ c. search rules) (λ c. search rules) (λ c κs. search rules) (λ c. search field_steps) (λ c. search field_steps))

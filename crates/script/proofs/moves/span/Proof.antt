@@ -6,5 +6,5 @@ use Rattle.script.proofs.moves.span.Tie as tie
 
 ruleset fits = (rules, le-leb, lt-leb)
 
-pub span-spec : {M : Type 1} → statement M
-span-spec = tie.close (tie.spec (λ c. search fits) (λ c. search fits))
+pub span_spec : {M : Type 1} → statement M
+span_spec = tie.close (tie.spec (λ c. search fits) (λ c. search fits))

@@ -6,8 +6,8 @@ use borrow.Author.Rules.{rules}
 use Rattle.script.proofs.moves.unfold_at.Statement.{statement}
 use Rattle.script.proofs.moves.unfold_at.Tie as tie
 
-pub unfold-at-spec : {M : Type 1} → statement M
+pub unfold_at_spec : {M : Type 1} → statement M
 unfolding unfold_at move_of
-unfold-at-spec =
+unfold_at_spec =
     tie.close
     (tie.spec (λ c κs. search rules) (λ c. search rules) (λ c. search rules) (λ c κs. search rules) (λ c. search field_steps) (λ c. search field_steps))

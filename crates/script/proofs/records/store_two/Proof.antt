@@ -4,6 +4,6 @@ use borrow.Author.Rules.{rules}
 use Rattle.script.proofs.records.store_two.Statement.{statement}
 use Rattle.script.proofs.records.store_two.Tie as tie
 
-pub store-two-spec : {M : Type 1} → statement M
-store-two-spec =
+pub store_two_spec : {M : Type 1} → statement M
+store_two_spec =
     tie.close (tie.spec (λ c κs. search rules) (λ c. search rules) (λ c κs. search rules) (λ c. search rules) (λ c. search store_steps))

@@ -4,8 +4,8 @@ use borrow.Author.Rules.{rules}
 use Rattle.script.proofs.records.write_record.Statement.{statement}
 use Rattle.script.proofs.records.write_record.Tie as tie
 
-pub write-record-spec : {M : Type 1} → statement M
-write-record-spec =
+pub write_record_spec : {M : Type 1} → statement M
+write_record_spec =
     tie.close
     (tie.spec
     (λ c κs. search rules)

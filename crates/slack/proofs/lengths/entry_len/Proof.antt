@@ -3,8 +3,8 @@ use Rattle.slack.proofs.LengthSteps.{length_steps}
 use Rattle.slack.proofs.lengths.entry_len.Statement.{statement}
 use Rattle.slack.proofs.lengths.entry_len.Tie as tie
 
-pub entry-len-spec : {M : Type 1} → statement M
-entry-len-spec =
+pub entry_len_spec : {M : Type 1} → statement M
+entry_len_spec =
     tie.close
     (tie.spec
     (λ c κs. search length_steps)

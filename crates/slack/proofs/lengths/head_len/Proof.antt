@@ -3,8 +3,8 @@ use Rattle.slack.proofs.LengthSteps.{length_steps}
 use Rattle.slack.proofs.lengths.head_len.Statement.{statement}
 use Rattle.slack.proofs.lengths.head_len.Tie as tie
 
-pub head-len-spec : {M : Type 1} → statement M
-head-len-spec =
+pub head_len_spec : {M : Type 1} → statement M
+head_len_spec =
     tie.close
     (tie.spec
     (λ c κs. search length_steps)

@@ -4,14 +4,14 @@ use Rattle.slack.proofs.LengthSteps.{length_steps, RowCounted}
 use Rattle.slack.proofs.lengths.row_len.Statement.{statement}
 use Rattle.slack.proofs.lengths.row_len.Tie as tie
 
-abbrev invariant-loop : tie.invariant-loop
+abbrev invariant-loop : tie.invariant-loop-kind
 invariant-loop table component head len₀ kind₀ len kind = RowCounted table component len kind
 
-abbrev decreases-loop : tie.decreases-loop
+abbrev decreases-loop : tie.decreases-loop-kind
 decreases-loop table component head len₀ kind₀ len kind = 16 - kind
 
-pub row-len-spec : {M : Type 1} → statement M
-row-len-spec =
+pub row_len_spec : {M : Type 1} → statement M
+row_len_spec =
     tie.close
     (tie.spec
     invariant-loop

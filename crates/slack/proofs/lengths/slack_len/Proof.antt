@@ -4,14 +4,14 @@ use Rattle.slack.proofs.LengthSteps.{length_steps, Counted}
 use Rattle.slack.proofs.lengths.slack_len.Statement.{statement}
 use Rattle.slack.proofs.lengths.slack_len.Tie as tie
 
-abbrev invariant-loop : tie.invariant-loop
+abbrev invariant-loop : tie.invariant-loop-component
 invariant-loop table components len₀ component₀ len component = Counted table components len component
 
-abbrev decreases-loop : tie.decreases-loop
+abbrev decreases-loop : tie.decreases-loop-component
 decreases-loop table components len₀ component₀ len component = components - component
 
-pub slack-len-spec : {M : Type 1} → statement M
-slack-len-spec =
+pub slack_len_spec : {M : Type 1} → statement M
+slack_len_spec =
     tie.close
     (tie.spec
     invariant-loop

@@ -4,17 +4,17 @@ use borrow.Author.Rules.{rules}
 use Rattle.transitions.proofs.communication.communicate.Statement.{statement}
 use Rattle.transitions.proofs.communication.communicate.Tie as tie
 
-returns-3 : tie.Need-returns-3
+returns-3 : tie.Need-returns
 returns-3 c =
-    both_there _ _ _ _ _ _ c.before.before.before.before.before.before.before.before.before.before.before.before.before.before.before.before.before.before.before.before.before.before.before.before.before.before.before.before.requires.thread_room _ _ _ _ _ _
-    c.before.before.before.before.before.before.before.before.before.before.before.before.before.before.before.before.before.before.before.before.if1.false
-    c.before.before.before.before.before.before.before.before.before.before.before.before.before.before.before.before.before.if2.false
-    c.before.before.before.before.before.before.before.before.before.before.before.before.before.before.before.thread-at.ensures
-    c.before.before.before.before.before.before.before.before.before.before.before.before.before.thread-at2.ensures
-    c.before.before.before.before.before.before.before.before.communicate-threads.ensures
+    both_there _ _ _ _ _ _ c.requires.thread_room _ _ _ _ _ _
+    c.if-sizes-m.false
+    c.if-sizes-m-2.false
+    c.thread_at-t.ensures
+    c.thread_at-u.ensures
+    c.communicate_threads.ensures
 
-pub communicate-spec : {M : Type 1} → statement M
-communicate-spec =
+pub communicate_spec : {M : Type 1} → statement M
+communicate_spec =
     tie.close
     (tie.spec
     (λ c κs. search rules)

@@ -4,17 +4,17 @@ use borrow.Author.Rules.{rules}
 use Rattle.transitions.proofs.communication.communicate_both.Statement.{statement}
 use Rattle.transitions.proofs.communication.communicate_both.Tie as tie
 
-returns-2 : tie.Need-returns-2
+returns-2 : tie.Need-returns
 returns-2 c =
     communicate_both_step _ _ _ _ _ _ _ _ _ _ _ _ _ _ _
-    c.before.before.before.before.before.before.before.before.before.before.before.before.before.before.before.before.if1.false
-    c.before.before.before.before.before.before.before.before.before.before.before.before.before.before.before.continuation.ensures
-    c.before.before.before.before.before.before.before.before.before.before.before.before.before.before.continuation2.ensures
-    c.before.before.before.before.before.before.before.before.before.exchange.ensures
+    c.if-a-b.false
+    c.continuation.ensures
+    c.continuation-2.ensures
+    c.exchange-placed.ensures
     c.outcome.ensures
 
-pub communicate-both-spec : {M : Type 1} → statement M
-communicate-both-spec =
+pub communicate_both_spec : {M : Type 1} → statement M
+communicate_both_spec =
     tie.close
     (tie.spec
     (λ c κs. search rules)

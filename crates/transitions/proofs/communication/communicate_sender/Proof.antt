@@ -4,16 +4,16 @@ use borrow.Author.Rules.{rules}
 use Rattle.transitions.proofs.communication.communicate_sender.Statement.{statement}
 use Rattle.transitions.proofs.communication.communicate_sender.Tie as tie
 
-returns : tie.Need-returns
+returns : tie.Need-returns-in-Receives
 returns c =
     communicate_receives _ _ _ _ _ _ _ _ _
-    c.before.before.before.before.before.before.before.before.before.before.before.before.before.before.before.before.prefix-of.ensures
+    c.prefix_of-prefix.ensures
     _ _ _ _ _
-    c.before.before.before.before.before.before.before.before.before.before.before.before.before.before.prefix.given.1
-    c.before.before.before.before.before.before.before.before.communicate-both.ensures
+    c.in-Receives.is
+    c.communicate_both.ensures
 
-pub communicate-sender-spec : {M : Type 1} → statement M
-communicate-sender-spec =
+pub communicate_sender_spec : {M : Type 1} → statement M
+communicate_sender_spec =
     tie.close
     (tie.spec
     (λ c κs. search rules)

@@ -4,16 +4,16 @@ use borrow.Author.Rules.{rules}
 use Rattle.transitions.proofs.communication.communicate_threads.Statement.{statement}
 use Rattle.transitions.proofs.communication.communicate_threads.Tie as tie
 
-returns : tie.Need-returns
+returns : tie.Need-returns-in-Sends
 returns c =
     sender_sends _ _ _ _ _ _ _ _ _
-    c.before.before.before.before.before.before.before.before.before.before.before.before.before.before.before.before.prefix-of.ensures
+    c.prefix_of-prefix.ensures
     _ _ _ _ _
-    c.before.before.before.before.before.before.before.before.before.before.before.before.before.before.prefix.given.1
-    c.before.before.before.before.before.before.before.before.communicate-sender.ensures
+    c.in-Sends.is
+    c.communicate_sender.ensures
 
-pub communicate-threads-spec : {M : Type 1} → statement M
-communicate-threads-spec =
+pub communicate_threads_spec : {M : Type 1} → statement M
+communicate_threads_spec =
     tie.close
     (tie.spec
     (λ c κs. search rules)

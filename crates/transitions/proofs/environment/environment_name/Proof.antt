@@ -4,8 +4,8 @@ use borrow.Author.Rules.{rules}
 use Rattle.transitions.proofs.environment.environment_name.Statement.{statement}
 use Rattle.transitions.proofs.environment.environment_name.Tie as tie
 
-pub environment-name-spec : {M : Type 1} → statement M
-environment-name-spec =
+pub environment_name_spec : {M : Type 1} → statement M
+environment_name_spec =
     tie.close
     (tie.spec
     (λ c κs. search rules)

@@ -4,11 +4,11 @@ use borrow.Author.Rules.{rules}
 use Rattle.transitions.proofs.moves.step.Statement.{statement}
 use Rattle.transitions.proofs.moves.step.Tie as tie
 
-returns-3 : tie.Need-returns-3
+returns-3 : tie.Need-returns-in-ReceiveIn
 returns-3 c =
     step_receive _ _ _ _ _ _ _ _ _ _ _ _
-    c.before.before.before.before.before.before.before.before.before.before.before.before.before.before.before.m3.given.1
-    c.before.before.before.before.before.before.before.before.receive-in.ensures
+    c.in-ReceiveIn.is
+    c.receive_in.ensures
 
 pub step_spec : {M : Type 1} → statement M
 step_spec =

@@ -4,5 +4,5 @@ use borrow.Author.Rules.{rules}
 use Rattle.transitions.proofs.outcomes.know_sent.Statement.{statement}
 use Rattle.transitions.proofs.outcomes.know_sent.Tie as tie
 
-pub know-sent-spec : {M : Type 1} → statement M
-know-sent-spec = tie.close (tie.spec (λ c κs. search rules) (λ c. search rules) (λ c. search outcome_steps) (λ c. search outcome_steps) (λ c. search outcome_steps))
+pub know_sent_spec : {M : Type 1} → statement M
+know_sent_spec = tie.close (tie.spec (λ c κs. search rules) (λ c. search rules) (λ c. search outcome_steps) (λ c. search outcome_steps) (λ c. search outcome_steps))

@@ -4,5 +4,5 @@ use borrow.Author.Rules.{rules}
 use Rattle.transitions.proofs.outcomes.outcome.Statement.{statement}
 use Rattle.transitions.proofs.outcomes.outcome.Tie as tie
 
-pub outcome-spec : {M : Type 1} → statement M
-outcome-spec = tie.close (tie.spec (λ c κs. search rules) (λ c. search outcome_steps) (λ c. search outcome_steps))
+pub outcome_spec : {M : Type 1} → statement M
+outcome_spec = tie.close (tie.spec (λ c κs. search rules) (λ c. search outcome_steps) (λ c. search outcome_steps))

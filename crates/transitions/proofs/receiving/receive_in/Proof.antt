@@ -4,18 +4,18 @@ use borrow.Author.Rules.{rules}
 use Rattle.transitions.proofs.receiving.receive_in.Statement.{statement}
 use Rattle.transitions.proofs.receiving.receive_in.Tie as tie
 
-returns-2 : tie.Need-returns-2
+returns-2 : tie.Need-returns-in-Receives
 returns-2 c =
-    receive_receives _ _ _ _ _ _ _ c.before.before.before.before.before.before.before.before.before.before.before.before.before.before.before.before.before.before.before.before.before.before.before.before.before.before.before.before.before.requires.0.thread_room _ _
-    c.before.before.before.before.before.before.before.before.before.before.before.before.before.before.before.before.before.before.before.before.if1.false
-    c.before.before.before.before.before.before.before.before.before.before.before.before.before.before.before.before.before.before.thread-at.ensures
-    c.before.before.before.before.before.before.before.before.before.before.before.before.before.before.before.before.prefix-of.ensures
+    receive_receives _ _ _ _ _ _ _ c.requires.0.thread_room _ _
+    c.if-sizes-m.false
+    c.thread_at-t.ensures
+    c.prefix_of-prefix.ensures
     _ _ _ _ _
-    c.before.before.before.before.before.before.before.before.before.before.before.before.before.before.prefix.given.1
-    c.before.before.before.before.before.before.before.before.receive-at.ensures
+    c.in-Receives.is
+    c.receive_at.ensures
 
-pub receive-in-spec : {M : Type 1} → statement M
-receive-in-spec =
+pub receive_in_spec : {M : Type 1} → statement M
+receive_in_spec =
     tie.close
     (tie.spec
     (λ c κs. search rules)
@@ -37,10 +37,10 @@ receive-in-spec =
     returns-2
     (λ c. search rules)
     (λ c. search rules)
-    (λ c. search (receive_steps, c.before.before.before.before.before.before.before.before.before.before.before.before.before.before.before.before.requires.0.thread_room))
+    (λ c. search (receive_steps, c.requires.0.thread_room))
     (λ c. search rules)
     (λ c. search rules)
-    (λ c. search (receive_steps, c.before.before.before.before.before.before.before.before.before.before.before.before.before.before.before.before.requires.0.thread_room))
+    (λ c. search (receive_steps, c.requires.0.thread_room))
     (λ c. search rules)
     (λ c. search rules)
-    (λ c. search (receive_steps, c.before.before.before.before.before.before.before.before.before.before.before.before.before.before.before.before.requires.0.thread_room)))
+    (λ c. search (receive_steps, c.requires.0.thread_room)))

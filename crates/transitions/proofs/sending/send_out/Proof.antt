@@ -4,18 +4,18 @@ use borrow.Author.Rules.{rules}
 use Rattle.transitions.proofs.sending.send_out.Statement.{statement}
 use Rattle.transitions.proofs.sending.send_out.Tie as tie
 
-returns-2 : tie.Need-returns-2
+returns-2 : tie.Need-returns-in-Sends
 returns-2 c =
-    send_sends _ _ _ _ _ _ _ c.before.before.before.before.before.before.before.before.before.before.before.before.before.before.before.before.before.before.before.before.before.before.before.before.before.before.before.before.before.before.before.requires.0.thread_room _ _
-    c.before.before.before.before.before.before.before.before.before.before.before.before.before.before.before.before.before.before.before.before.before.before.before.if1.false
-    c.before.before.before.before.before.before.before.before.before.before.before.before.before.before.before.before.before.before.before.before.before.thread-at.ensures
-    c.before.before.before.before.before.before.before.before.before.before.before.before.before.before.before.before.before.before.before.prefix-of.ensures
+    send_sends _ _ _ _ _ _ _ c.requires.0.thread_room _ _
+    c.if-sizes-i.false
+    c.thread_at-t.ensures
+    c.prefix_of-prefix.ensures
     _ _ _ _ _ _
-    c.before.before.before.before.before.before.before.before.before.before.before.before.before.before.before.before.before.prefix.given.1
-    c.before.before.before.before.before.before.before.before.before.before.send_at.ensures
+    c.in-Sends.is
+    c.send_at.ensures
 
-pub send-out-spec : {M : Type 1} → statement M
-send-out-spec =
+pub send_out_spec : {M : Type 1} → statement M
+send_out_spec =
     tie.close
     (tie.spec
     (λ c κs. search rules)
@@ -38,10 +38,10 @@ send-out-spec =
     returns-2
     (λ c. search rules)
     (λ c. search rules)
-    (λ c. search (send_steps, c.before.before.before.before.before.before.before.before.before.before.before.before.before.before.before.requires.0.thread_room))
+    (λ c. search (send_steps, c.requires.0.thread_room))
     (λ c. search rules)
     (λ c. search rules)
-    (λ c. search (send_steps, c.before.before.before.before.before.before.before.before.before.before.before.before.before.before.before.requires.0.thread_room))
+    (λ c. search (send_steps, c.requires.0.thread_room))
     (λ c. search rules)
     (λ c. search rules)
-    (λ c. search (send_steps, c.before.before.before.before.before.before.before.before.before.before.before.before.before.before.before.requires.0.thread_room)))
+    (λ c. search (send_steps, c.requires.0.thread_room)))

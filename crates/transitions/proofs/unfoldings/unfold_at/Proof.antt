@@ -4,8 +4,8 @@ use borrow.Author.Rules.{rules}
 use Rattle.transitions.proofs.unfoldings.unfold_at.Statement.{statement}
 use Rattle.transitions.proofs.unfoldings.unfold_at.Tie as tie
 
-pub unfold-at-spec : {M : Type 1} → statement M
-unfold-at-spec =
+pub unfold_at_spec : {M : Type 1} → statement M
+unfold_at_spec =
     tie.close
     (tie.spec
     (λ c κs. search rules)

@@ -4,18 +4,18 @@ use borrow.Author.Rules.{rules}
 use Rattle.transitions.proofs.unfoldings.unfold_replication.Statement.{statement}
 use Rattle.transitions.proofs.unfoldings.unfold_replication.Tie as tie
 
-returns-2 : tie.Need-returns-2
+returns-2 : tie.Need-returns-in-Repeats
 returns-2 c =
-    unfold_replicates _ _ _ _ _ _ c.before.before.before.before.before.before.before.before.before.before.before.before.before.before.before.before.before.before.before.before.before.before.before.before.before.before.before.requires.thread_room _ _
-    c.before.before.before.before.before.before.before.before.before.before.before.before.before.before.before.before.before.before.before.before.if1.false
-    c.before.before.before.before.before.before.before.before.before.before.before.before.before.before.before.before.before.before.thread-at.ensures
-    c.before.before.before.before.before.before.before.before.before.before.before.before.before.before.before.before.prefix-of.ensures
+    unfold_replicates _ _ _ _ _ _ c.requires.thread_room _ _
+    c.if-sizes-i.false
+    c.thread_at-t.ensures
+    c.prefix_of-prefix.ensures
     _ _ _ _ _
-    c.before.before.before.before.before.before.before.before.before.before.before.before.before.before.prefix.given.1
-    c.before.before.before.before.before.before.before.before.unfold-at.ensures
+    c.in-Repeats.is
+    c.unfold_at.ensures
 
-pub unfold-replication-spec : {M : Type 1} → statement M
-unfold-replication-spec =
+pub unfold_replication_spec : {M : Type 1} → statement M
+unfold_replication_spec =
     tie.close
     (tie.spec
     (λ c κs. search rules)
