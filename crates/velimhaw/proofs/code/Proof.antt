@@ -4,8 +4,8 @@ use borrow.Author.Rules.{rules}
 use Rattle.velimhaw.proofs.code.Statement.{statement}
 use Rattle.velimhaw.proofs.code.Tie as tie
 
-pub code-spec : {M : Type 1} → statement M
-code-spec =
+pub code_spec : {M : Type 1} → statement M
+code_spec =
     tie.close
     (tie.spec
     (λ c. search rules)

@@ -4,5 +4,5 @@ use borrow.Author.Rules.{rules}
 use Rattle.velimhaw.proofs.velimhaw_check.Statement.{statement}
 use Rattle.velimhaw.proofs.velimhaw_check.Tie as tie
 
-pub velimhaw-check-spec : {M : Type 1} → statement M
-velimhaw-check-spec = tie.close (tie.spec (λ c κs. search rules) (λ c κs. search rules) (λ c. search rules) (λ c. search code_steps))
+pub velimhaw_check_spec : {M : Type 1} → statement M
+velimhaw_check_spec = tie.close (tie.spec (λ c κs. search rules) (λ c κs. search rules) (λ c. search rules) (λ c. search code_steps))

@@ -4,5 +4,5 @@ use borrow.Author.Rules.{rules}
 use Rattle.velimhaw.proofs.velimhaw_downgrade.Statement.{statement}
 use Rattle.velimhaw.proofs.velimhaw_downgrade.Tie as tie
 
-pub velimhaw-downgrade-spec : {M : Type 1} → statement M
-velimhaw-downgrade-spec = tie.close (tie.spec (λ c κs. search rules) (λ c κs. search rules) (λ c. search rules) (λ c. search code_steps))
+pub velimhaw_downgrade_spec : {M : Type 1} → statement M
+velimhaw_downgrade_spec = tie.close (tie.spec (λ c κs. search rules) (λ c κs. search rules) (λ c. search rules) (λ c. search code_steps))

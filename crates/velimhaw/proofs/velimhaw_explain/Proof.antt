@@ -4,5 +4,5 @@ use borrow.Author.Rules.{rules}
 use Rattle.velimhaw.proofs.velimhaw_explain.Statement.{statement}
 use Rattle.velimhaw.proofs.velimhaw_explain.Tie as tie
 
-pub velimhaw-explain-spec : {M : Type 1} → statement M
-velimhaw-explain-spec = tie.close (tie.spec (λ c κs. search rules) (λ c κs. search rules) (λ c. search rules) (λ c. search code_steps))
+pub velimhaw_explain_spec : {M : Type 1} → statement M
+velimhaw_explain_spec = tie.close (tie.spec (λ c κs. search rules) (λ c κs. search rules) (λ c. search rules) (λ c. search code_steps))

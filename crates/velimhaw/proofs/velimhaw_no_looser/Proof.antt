@@ -4,5 +4,5 @@ use Rattle.velimhaw.proofs.CodeSteps.{code_steps}
 use Rattle.velimhaw.proofs.velimhaw_no_looser.Statement.{statement}
 use Rattle.velimhaw.proofs.velimhaw_no_looser.Tie as tie
 
-pub velimhaw-no-looser-spec : {M : Type 1} → statement M
-velimhaw-no-looser-spec = tie.close (tie.spec (λ c κs. search rules) (λ c. search code_steps) (λ c. search code_steps))
+pub velimhaw_no_looser_spec : {M : Type 1} → statement M
+velimhaw_no_looser_spec = tie.close (tie.spec (λ c κs. search rules) (λ c. search code_steps) (λ c. search code_steps))

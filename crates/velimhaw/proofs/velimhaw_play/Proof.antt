@@ -4,5 +4,5 @@ use borrow.Author.Rules.{rules}
 use Rattle.velimhaw.proofs.velimhaw_play.Statement.{statement}
 use Rattle.velimhaw.proofs.velimhaw_play.Tie as tie
 
-pub velimhaw-play-spec : {M : Type 1} → statement M
-velimhaw-play-spec = tie.close (tie.spec (λ c κs. search rules) (λ c κs. search rules) (λ c. search rules) (λ c. search code_steps))
+pub velimhaw_play_spec : {M : Type 1} → statement M
+velimhaw_play_spec = tie.close (tie.spec (λ c κs. search rules) (λ c κs. search rules) (λ c. search rules) (λ c. search code_steps))

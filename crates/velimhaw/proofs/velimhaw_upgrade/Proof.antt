@@ -4,5 +4,5 @@ use borrow.Author.Rules.{rules}
 use Rattle.velimhaw.proofs.velimhaw_upgrade.Statement.{statement}
 use Rattle.velimhaw.proofs.velimhaw_upgrade.Tie as tie
 
-pub velimhaw-upgrade-spec : {M : Type 1} → statement M
-velimhaw-upgrade-spec = tie.close (tie.spec (λ c κs. search rules) (λ c κs. search rules) (λ c. search rules) (λ c. search code_steps))
+pub velimhaw_upgrade_spec : {M : Type 1} → statement M
+velimhaw_upgrade_spec = tie.close (tie.spec (λ c κs. search rules) (λ c κs. search rules) (λ c. search rules) (λ c. search code_steps))
