@@ -3,7 +3,7 @@
 use Prim.Native.Nat.{ℕ, ◌+◌, ◌<◌, ◌≤◌}
 use mathlib.Core.Path.{◌≡◌, refl}
 use mathlib.Core.List.{List}
-use mathlib.Core.Bool.{Bool, true}
+use mathlib.Core.Bool.{Bool, true, false}
 use native.Mathlib.Omega.{arith}
 use Rattle.service.specs.Questions.{Asked, passed, failed}
 use Rattle.service.specs.Check.{checked}
@@ -38,6 +38,7 @@ exported_play_assures sheet charter script log log' n p =
 -- Document 02, Q-8, from the exported contracts: where `velimhaw_no_looser` answers 1 of A and B, and `velimhaw_check` accepts a sheet under A,
 -- what it answers and writes under A it answers and writes under B.
 told_yes : (t : Bool) → TellsYesOrNo t 1 → t ≡ true
+told_yes false tells = elim tells [ ]
 told_yes true says_yes = refl
 
 pub exported_stricter_checks : (sheet a b output output' : List ℕ) (n : ℕ) → ComparedAs a b 1 → CheckedAs sheet a output output' (n + 64)
