@@ -1,7 +1,9 @@
 #!/usr/bin/env python3
 """Brings the repository's own definitions and lemmas to today's spelling, by the table respelled.txt beside this file.
 
-usage: python3 tools/respell.py            after the kit's port.py, with everything committed: the crates
+usage: python3 tools/respell.py            once, after the kit's port.py, with everything committed: the crates
+       python3 tools/respell.py OLD..      these names of the table alone (a second run over all of it would take a definition's new
+                                           name for the old one of a lemma)
        python3 tools/respell.py --pages    the names that README.md and docs/*.md cite between backquotes
 
 The rule of the spelling: words in snake case; types, modules and facts in upper camel case; no dashes in names of our own (an attribute
@@ -54,7 +56,7 @@ def names_here(path, text, names, crates):
     code = code_of(path, text)
     own, foreign, aliases = imports(code, crates)
     here = {o: n for o, n in names.items() if o not in foreign}
-    here.update({a: names.get(a, plain(a)) for a in aliases})
+    here.update({a: names.get(a, plain(a)) for a in aliases if a not in here})
     # a name that was in snake case may be a function's or a variable's too: it turns only where it is declared or imported
     for old in [o for o in here if re.fullmatch(r"[a-z0-9_']+", o)]:
         declared = re.search(r"(?m)^[ ]*(?:(?:abbrev|unfoldable|pub|private|opaque|ruleset)\s+)*" + re.escape(old) + r"(?=\s+:|\s*:(?=\s)|\s+=)", code)
@@ -151,8 +153,10 @@ def mended(path, text):
     return "\n".join(lines)
 
 
-def main(pages):
+def main(pages, only):
     names, crates = table()
+    if only:
+        names = {o: n for o, n in names.items() if o in only}
     if pages:
         paths, kind = ["README.md"] + sorted(glob.glob("docs/*.md")), lambda p, t, h: cited(t, names)
     else:
@@ -171,4 +175,4 @@ def main(pages):
 
 
 if __name__ == "__main__":
-    main("--pages" in sys.argv[1:])
+    main("--pages" in sys.argv[1:], [a for a in sys.argv[1:] if not a.startswith("--")])

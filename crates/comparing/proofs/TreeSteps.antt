@@ -79,14 +79,14 @@ module _ (a nodes : List ℕ) (trees : Trees) (b others : List ℕ) (choice : Tr
 
       module _ (k : u < choice.len) (m n : Span) (from : m.from ≡ start_of trees t) (to : m.to ≡ get_or trees.ends t 0)
           (start : n.from ≡ start_of choice u) (end : n.to ≡ get_or choice.ends u 0) (answer : Bool)
-          (rows-say : answer ≡ rows_within (flats a nodes m.from (m.to - m.from)) (flats b others n.from (n.to - n.from))) where
+          (rows_say : answer ≡ rows_within (flats a nodes m.from (m.to - m.from)) (flats b others n.from (n.to - n.from))) where
         of_tree : (q : List Tree) → AllHeld b others choice 0 q → (tree : Tree) → get_or trees.kinds t 0 ≡ tree.kind
             → flats a nodes (start_of trees t) (get_or trees.ends t 0 - start_of trees t) ≡ flatten 0 (alone tree.root)
             → root_within tree.root (tree_for tree.kind q) ≡ answer
         unfolding root_within
         of_tree q j tree of_kind_lem rows =
             let other = tree_rows b others choice q j bounded.few kinds (get_or trees.kinds t 0) u is k n.from n.to start end in
-            rw (← of_kind_lem, other.is, ← other.rows, ← rows, ← from, ← to) (sym rows-say)
+            rw (← of_kind_lem, other.is, ← other.rows, ← rows, ← from, ← to) (sym rows_say)
 
         pub trees_differ : not answer ≡ true → Decided false
         trees_differ y p q i j = let r = s.left p q i j in (one_more answer h r.held r.same (of_tree q j)).1 (not-true answer y)

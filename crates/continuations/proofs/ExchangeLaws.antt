@@ -137,19 +137,19 @@ module _ (forms : List ℕ) (x : Exchange) (z : Sizes) (turns : ℕ) (threads th
       threads_of d (chain cells x.theirs.names x.theirs.env ++ (x.sent ∷ []))
       (length state.types + length (news (remaining_at forms x.mine))) (remaining_at forms x.theirs)
 
-  module _ (few : turns + 1029 ≤ length cells) (known_room : length known ≡ 1024) (number-mine : c.number ≡ x.mine.component) (number-theirs : d.number ≡ x.theirs.component)
-      (fits-mine : Ranged x.mine z.cells) (fits-theirs : Ranged x.theirs z.cells) (binds : x.theirs.names + x.theirs.nest < 128) (small : x.sent < 65536)
+  module _ (few : turns + 1029 ≤ length cells) (known_room : length known ≡ 1024) (number_mine : c.number ≡ x.mine.component) (number_theirs : d.number ≡ x.theirs.component)
+      (fits_mine : Ranged x.mine z.cells) (fits_theirs : Ranged x.theirs z.cells) (binds : x.theirs.names + x.theirs.nest < 128) (small : x.sent < 65536)
       (apart : x.sender ≡ x.receiver → ⊥) (sender : x.sender < z.threads) (receiver : x.receiver < z.threads)
-      (threads-room : length threads ≡ 128) (made_room : length made ≡ 128) (types_room : length types ≡ 1024) (cells_room : length cells ≤ 2304)
+      (threads_room : length threads ≡ 128) (made_room : length made ≡ 128) (types_room : length types ≡ 1024) (cells_room : length cells ≤ 2304)
       (same_made : length made₁ ≡ length made) (same_types : length types₁ ≡ length types) (same_cells : length cells₁ ≡ length cells)
       (holds : Holds forms z turns threads types known cells state) where
     ready_mine : Ready x.mine before made types cells
     ready_mine = record {
-      component = fits-mine.component;
-      scope = fits-mine.scope;
-      deep = fits-mine.deep;
-      place = fits-mine.place;
-      env = fits-mine.env;
+      component = fits_mine.component;
+      scope = fits_mine.scope;
+      deep = fits_mine.deep;
+      place = fits_mine.place;
+      env = fits_mine.env;
       few = omega arith;
       given = omega (arith, holds.given);
       slack = omega (arith, holds.slack);
@@ -177,10 +177,10 @@ module _ (forms : List ℕ) (x : Exchange) (z : Sizes) (turns : ℕ) (threads th
 
       ready_theirs : Ready place begun made₁ types₁ widened
       ready_theirs = record {
-        component = fits-theirs.component;
+        component = fits_theirs.component;
         scope = omega arith;
-        deep = fits-theirs.deep;
-        place = fits-theirs.place;
+        deep = fits_theirs.deep;
+        place = fits_theirs.place;
         env = omega arith;
         few = omega (arith, m.grows.threads);
         given = omega (arith, m.grows.names);
@@ -195,10 +195,10 @@ module _ (forms : List ℕ) (x : Exchange) (z : Sizes) (turns : ℕ) (threads th
 
       names_theirs : chain widened (x.theirs.names + 1) cell ≡ chain cells x.theirs.names x.theirs.env ++ (x.sent ∷ [])
       names_theirs =
-          chain_bound cells₁ x.theirs.names cell x.theirs.env x.sent (omega (arith, fits-theirs.env, m.grows.cells))
+          chain_bound cells₁ x.theirs.names cell x.theirs.env x.sent (omega (arith, fits_theirs.env, m.grows.cells))
           (omega (arith, cell_inside, same_cells)) (omega (arith, cell_left)) small
           ∙ ap (λ l. l ++ (x.sent ∷ []))
-          (chain_kept cells₁ cells z.cells x.theirs.names x.theirs.env m.grows.kept fits-theirs.env)
+          (chain_kept cells₁ cells z.cells x.theirs.names x.theirs.env m.grows.kept fits_theirs.env)
 
       -- After the receiver's.
       module _ (n : Makes forms place (process_in place.nest forms place.at) begun made₁ made' types₁ types' widened cells' second) where
@@ -288,17 +288,17 @@ module _ (forms : List ℕ) (x : Exchange) (z : Sizes) (turns : ℕ) (threads th
             made_mine : Pairs (Runs forms widened (cell + 1)) (take first.threads made₁) mine
             unfolding remaining_at
             made_mine =
-                let made-threads = m.products few_first given_first c number-mine [] none in
-                let mine-are : Pairs (Runs forms cells₁ cell) (take first.threads made₁) mine = rw (← named) at made-threads in
-                all_kept_lem forms cells₁ widened cell (cell + 1) (bound_kept cells₁ cell cell x.theirs.env x.sent (omega arith)) (omega arith) mine-are
+                let made-threads = m.products few_first given_first c number_mine [] none in
+                let mine_are : Pairs (Runs forms cells₁ cell) (take first.threads made₁) mine = rw (← named) at made-threads in
+                all_kept_lem forms cells₁ widened cell (cell + 1) (bound_kept cells₁ cell cell x.theirs.env x.sent (omega arith)) (omega arith) mine_are
 
             made_both : Pairs (Runs forms cells' second.cells) (take (first.threads + (second.threads - first.threads)) made') (mine ++ theirs)
             unfolding remaining_at
             made_both =
                 let all : first.threads + (second.threads - first.threads) ≡ second.threads = omega (arith, mine_first) in
-                let both = n.products (omega (arith, few_made)) few_given d number-theirs mine made_mine in
-                let both-are : Pairs (Runs forms cells' second.cells) (take second.threads made') (mine ++ theirs) = rw (names_theirs, names_mine) at both in
-                rw all both-are
+                let both = n.products (omega (arith, few_made)) few_given d number_theirs mine made_mine in
+                let both_are : Pairs (Runs forms cells' second.cells) (take second.threads made') (mine ++ theirs) = rw (names_theirs, names_mine) at both in
+                rw all both_are
 
             threads_held : Pairs (Runs forms cells' second.cells) (take (z.threads - 2 + second.threads) threads')
                 (swapped state.threads x.sender x.receiver mine theirs)

@@ -68,7 +68,7 @@ module _ (forms : List ℕ) (process : Place) (at from : ℕ) (z : Sizes) (turns
 
   module _ (few : turns + 1028 ≤ length cells) (known_room : length known ≡ 1024) (number : c.number ≡ process.component) (fits : Ranged process z.cells)
       (made_room : length made ≡ 128) (types_room : length types ≡ 1024) (cells_room : length cells ≤ 2304)
-      (ordered : at ≤ from) (inside : from ≤ z.threads) (threads-room : length threads ≡ 128)
+      (ordered : at ≤ from) (inside : from ≤ z.threads) (threads_room : length threads ≡ 128)
       (holds : Holds forms z turns threads types known cells state) where
     pub process_ready : Ready process before made types cells
     process_ready = record {
@@ -136,8 +136,8 @@ module _ (forms : List ℕ) (process : Place) (at from : ℕ) (z : Sizes) (turns
           slack = omega (arith, m.grows.slack, holds.slack);
           threads =
               let made-threads = m.products (omega (arith, few_made)) few_given c number [] none in
-              let mine-are : Pairs (Runs forms cells' products.cells) (take products.threads made') mine = rw (← named) at made-threads in
-              rw (p.placed yes) (pairs_replaced at from (all_kept_lem forms cells cells' z.cells products.cells m.grows.kept m.grows.cells holds.threads) mine-are);
+              let mine_are : Pairs (Runs forms cells' products.cells) (take products.threads made') mine = rw (← named) at made-threads in
+              rw (p.placed yes) (pairs_replaced at from (all_kept_lem forms cells cells' z.cells products.cells m.grows.kept m.grows.cells holds.threads) mine_are);
           types = m.given few_given ∙ ap (λ l. l ++ news (remaining_at forms process)) holds.types;
           known =
               ap (λ k. take k known) new_names

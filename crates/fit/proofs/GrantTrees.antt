@@ -142,7 +142,7 @@ module _ (c nodes : List ℕ) (policy : List Tree) (kind start end : ℕ) (tree 
   -- Question 17 of an entry.
   pub entry_reached : (e : Entry) → e.kind ≡ kind → e.component.path ≡ path → path_reached policy e ≡ every (λ row. ltb row 64) rows
   unfolding path_reached
-  entry_reached e of_kind_lem of-path = rw (of_kind_lem, of-path) path_reached_lem
+  entry_reached e of_kind_lem of_path = rw (of_kind_lem, of_path) path_reached_lem
 
   pub tree_gives : (purpose : ℕ) → Gives c nodes policy kind path purpose (granting_rows purpose nodes rows)
   unfolding flag_granted count_granted granting_to
@@ -201,19 +201,19 @@ span_gives c nodes trees policy held few kinds kind path rows given purpose = go
 
 -- The verdict on one permission of an entry.
 module _ {c nodes : List ℕ} {policy : List Tree} {kind : ℕ} {path : List ℕ} {purpose : ℕ} {rows : List ℕ} (gives : Gives c nodes policy kind path purpose rows)
-    (required : Required) (e : Entry) (of_kind_lem : e.kind ≡ kind) (of-path : e.component.path ≡ path) (of-purpose : e.component.purpose ≡ purpose) where
+    (required : Required) (e : Entry) (of_kind_lem : e.kind ≡ kind) (of_path : e.component.path ≡ path) (of_purpose : e.component.purpose ≡ purpose) where
   pub on_reading : verdict_of policy required e reading ≡ flag reading (any (λ row. has_bit 1 (given_at c nodes row).map) rows)
   unfolding verdict_of
-  on_reading = ap (flag reading) (rw of_kind_lem (gives.flag 1 e.component of-path of-purpose))
+  on_reading = ap (flag reading) (rw of_kind_lem (gives.flag 1 e.component of_path of_purpose))
 
   pub on_writing : verdict_of policy required e writing ≡ flag writing (any (λ row. has_bit 2 (given_at c nodes row).map) rows)
   unfolding verdict_of
-  on_writing = ap (flag writing) (rw of_kind_lem (gives.flag 2 e.component of-path of-purpose))
+  on_writing = ap (flag writing) (rw of_kind_lem (gives.flag 2 e.component of_path of_purpose))
 
   pub on_accessing : verdict_of policy required e accessing ≡ flag accessing (any (λ row. has_bit 4 (given_at c nodes row).map) rows)
   unfolding verdict_of
-  on_accessing = ap (flag accessing) (rw of_kind_lem (gives.flag 4 e.component of-path of-purpose))
+  on_accessing = ap (flag accessing) (rw of_kind_lem (gives.flag 4 e.component of_path of_purpose))
 
   pub on_disclosing : (h : ℕ) → verdict_of policy required e (disclosing h) ≡ counts h (needed required e h) (joined_at h c nodes rows)
   unfolding verdict_of
-  on_disclosing h = ap (counts h (needed required e h)) (rw of_kind_lem (gives.count h e.component of-path of-purpose))
+  on_disclosing h = ap (counts h (needed required e h)) (rw of_kind_lem (gives.count h e.component of_path of_purpose))

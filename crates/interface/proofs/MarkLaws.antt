@@ -68,10 +68,10 @@ module _ {rows : ℕ} (table : List ℕ) (n : ℕ) (small : n < rows) (long : le
       go (yes f) e = absurd (omega (arith, mark_set, rw f at e))
       go (no f) e = (f, sym (mark_other table n t (cell_of n k 11) (λ p h. f (sym (cell_inj_kind n k t 11 11 (omega arith) (omega arith) h)))) ∙ e)
 
-  off_kind : (t column c : ℕ) (repeated : Bool) (charged-column : ℕ) → mark (charge_column table n t charged-column repeated) n k ≡ 0
+  off_kind : (t column c : ℕ) (repeated : Bool) (charged_column : ℕ) → mark (charge_column table n t charged_column repeated) n k ≡ 0
       → (lands_in t column k c ≡ 0) × (mark table n k ≡ 0)
-  off_kind t column c repeated charged-column e =
-      let h = column_mark t charged-column repeated e in
+  off_kind t column c repeated charged_column e =
+      let h = column_mark t charged_column repeated e in
       (lands_off_kind t column k c h.0, h.1)
 
   charge_mark : (at : ℕ → ℕ) (need : Need) (repeated : Bool) (c : ℕ) → mark (charge table n need repeated) n k ≡ 0

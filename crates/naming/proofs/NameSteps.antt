@@ -177,24 +177,24 @@ module _ (s : List ℕ) (at n : ℕ) (places : List ℕ) (read : End) (told : en
     list_repeats g r f = rw (← told, e, ← d, g, f) refl
 
 -- The whole file.
-module _ (s groups kinds : List ℕ) (m n : ℕ) (of-groups : m ≡ 64) (of-kinds : n ≡ 16) (first : End) (told : ends first (words_at s groups) ≡ list_at m s 0) where
+module _ (s groups kinds : List ℕ) (m n : ℕ) (of_groups : m ≡ 64) (of_kinds : n ≡ 16) (first : End) (told : ends first (words_at s groups) ≡ list_at m s 0) where
   pub groups_broken : (q : Refusal) → first ≡ end_case.Refused q → ends first (names_at_places s groups kinds) ≡ read_names s
   unfolding read_names and_then
-  groups_broken q e = rw (← of-groups, ← told, e) refl
+  groups_broken q e = rw (← of_groups, ← told, e) refl
 
   module _ (k : ℕ) (e : first ≡ end_case.At k) (second : End) (more : ends second (words_at s kinds) ≡ list_at n s k) where
     pub kinds_broken : (q : Refusal) → second ≡ end_case.Refused q → ends second (names_at_places s groups kinds) ≡ read_names s
     unfolding read_names and_then
-    kinds_broken q f = rw (← of-groups, ← told, e, ← of-kinds, ← more, f) refl
+    kinds_broken q f = rw (← of_groups, ← told, e, ← of_kinds, ← more, f) refl
 
     module _ (l : ℕ) (f : second ≡ end_case.At l) where
       pub names_whole : l ≡ length s → ends (end_case.At l) (names_at_places s groups kinds) ≡ read_names s
       unfolding read_names and_then whole_at names_at_places
-      names_whole g = rw (← of-groups, ← told, e, ← of-kinds, ← more, f, eq-eqb l (length s) g) refl
+      names_whole g = rw (← of_groups, ← told, e, ← of_kinds, ← more, f, eq-eqb l (length s) g) refl
 
       pub names_over : (l ≡ length s → ⊥) → (r : End) → Broken l r → ends r (names_at_places s groups kinds) ≡ read_names s
       unfolding read_names and_then whole_at
-      names_over g r h = rw (← of-groups, ← told, e, ← of-kinds, ← more, f, ne_eqb l (length s) g, h) refl
+      names_over g r h = rw (← of_groups, ← told, e, ← of_kinds, ← more, f, ne_eqb l (length s) g, h) refl
 
 pub ruleset name_steps = (
   rules,

@@ -172,20 +172,20 @@ module _ (given u : ℕ) (types types₁ cells cells₁ : List ℕ) (z z₁ : Si
       let cells_are : z.cells ≡ given + 1 = ap (λ x. x.cells) n.sizes in
       let k = given_small z z₁ u given types types₁ cells cells₁ (omega (arith, names_are)) (omega (arith, cells_are)) g in
       let types_are : types₁ ≡ set types given u = rw names_are at k.1 in
-      let bound-are : cells₁ ≡ bound cells (given + 1) given given = rw (names_are, cells_are) at k.2 in
+      let bound_are : cells₁ ≡ bound cells (given + 1) given given = rw (names_are, cells_are) at k.2 in
       let length_types : length types₁ ≡ 1024 = rw types_are (length-set types given u ∙ n.room.type_room) in
-      let length-cells : length cells₁ ≡ length cells = rw bound-are (bound_length cells (given + 1) given given) in (
+      let length_cells : length cells₁ ≡ length cells = rw bound_are (bound_length cells (given + 1) given given) in (
         rw (types_are, add-one given) (take-suc-set types given u (omega (arith, n.room.type_room))),
         record {
           room = record {
             type_room = length_types;
-            cell_room = omega (arith, length-cells, n.room.cell_room);
-            cell_few = omega (arith, length-cells, n.room.cell_few);
+            cell_room = omega (arith, length_cells, n.room.cell_room);
+            cell_few = omega (arith, length_cells, n.room.cell_few);
           };
           sizes = k.0 ∙ rw n.sizes refl;
           typed = refl;
           chained =
-              rw (bound-are, chain_bound cells given (given + 1) given given (omega arith) (omega (arith, n.room.cell_room)) (omega arith) (omega arith), n.chained)
+              rw (bound_are, chain_bound cells given (given + 1) given given (omega arith) (omega (arith, n.room.cell_room)) (omega arith) (omega arith), n.chained)
               (let zero_more : 0 + given ≡ given = omega arith in rw zero_more at (rising_last 0 given));
         },
       )
@@ -275,7 +275,7 @@ module _ (s forms₀ forms threads threads' types types₁ types' cells cells₁
       let few : count ≤ 32 = (free_counted s sheet p).1 in
       let b = f.given room free p.at p.free_types_lem in
       let n = b.1 in
-      let threads-are : g.sizes.threads ≡ 0 = ap (λ x. x.threads) n.sizes in
+      let threads_are : g.sizes.threads ≡ 0 = ap (λ x. x.threads) n.sizes in
       let names_are : g.sizes.names ≡ count = ap (λ x. x.names) n.sizes in
       let cells_are : g.sizes.cells ≡ count + 1 = ap (λ x. x.cells) n.sizes in
       let body : read_system 64 s count [] 0 g.next ≡ got sheet.system p.end = rw b.0 p.body in
@@ -285,7 +285,7 @@ module _ (s forms₀ forms threads threads' types types₁ types' cells cells₁
         deep = omega arith;
         place = omega (arith, short, system_in_lem s g.next 64 count [] 0 body);
         env = omega (arith, names_are, cells_are);
-        few = omega (arith, threads-are);
+        few = omega (arith, threads_are);
         given = omega (arith, names_are);
         slack = omega (arith, names_are, cells_are, n.room.cell_room);
         made_room = long;
@@ -299,12 +299,12 @@ module _ (s forms₀ forms threads threads' types types₁ types' cells cells₁
       let scope : chain cells₁ g.sizes.names g.sizes.names ≡ rising 0 count = rw names_are n.chained in
       let types_are : take g.sizes.names types₁ ≡ free = rw names_are n.typed in
       record {
-        crowded = omega (arith, w.grows.threads, threads-are, system_crowd_counts 0 [] (rising 0 count) count sheet.system);
+        crowded = omega (arith, w.grows.threads, threads_are, system_crowd_counts 0 [] (rising 0 count) count sheet.system);
         named = omega (arith, w.grows.names, names_are, length-append free (system_news sheet.system));
         slack = omega (arith, w.grows.slack, names_are, cells_are);
         types = λ fits. rw types_are at (w.given fits);
         threads = λ fit fits.
-            let q = w.products fit fits [] [] (rw threads-are none) in
+            let q = w.products fit fits [] [] (rw threads_are none) in
             rw (scope, names_are) at q;
       }
 
@@ -318,7 +318,7 @@ unfolding start
 started s forms₀ forms threads threads' types types' known known' cells cells' c z blank e f makes sheet end short read =
     let count = free_counted s sheet (sheet_parts s sheet end read) in
     let m = makes blank.form_room (omega (arith, blank.thread_room)) (record { type_room = blank.type_room; cell_room = blank.cell_room; cell_few = blank.cell_few }) sheet end short read in
-    let known-are : known' ≡ first_known (length sheet.free) known = rw (e, count.0) at f in
+    let known_are : known' ≡ first_known (length sheet.free) known = rw (e, count.0) at f in
     record {
       crowded = m.crowded;
       named = m.named;
@@ -332,8 +332,8 @@ started s forms₀ forms threads threads' types types' known known' cells cells'
             slack = m.slack;
             threads = m.threads fit fits;
             types = m.types fits;
-            known = rw (known-are, ← others) (known_first (length sheet.free) z.names known blank.unknown (omega arith) (omega (arith, blank.known_room)));
-            quiet = λ i h. rw known-are (known_after_lem (length sheet.free) i known blank.unknown (omega arith));
+            known = rw (known_are, ← others) (known_first (length sheet.free) z.names known blank.unknown (omega arith) (omega (arith, blank.known_room)));
+            quiet = λ i h. rw known_are (known_after_lem (length sheet.free) i known blank.unknown (omega arith));
           };
     }
 

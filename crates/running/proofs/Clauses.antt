@@ -77,7 +77,7 @@ named_fails = refl
 
 -- `typed`: W's sender and receiver; a dangling name where a link is sent, and where plain data of kind 0 is sent; a channel of the
 -- wrong type; a channel whose group is not in the path.
-pub typed-fails :
+pub typed_fails :
     map is_typed (
     state (sender ∷ receiver ∷ []) ∷
     state (thread 0 (0 ∷ 1 ∷ []) (0 ∷ 7 ∷ []) sending ∷ []) ∷
@@ -86,10 +86,10 @@ pub typed-fails :
     state (thread 0 (1 ∷ []) (0 ∷ 1 ∷ []) sending ∷ []) ∷ [])
     ≡ true ∷ false ∷ false ∷ false ∷ false ∷ []
 unfolding guarantees_computed
-typed-fails = refl
+typed_fails = refl
 
 -- `placed`: W's threads; a thread with another path, with a wider one, and with another component's number.
-pub placed-fails :
+pub placed_fails :
     map (all_located w) (
     state (sender ∷ receiver ∷ []) ∷
     state (thread 0 (0 ∷ 2 ∷ []) (0 ∷ 1 ∷ []) sending ∷ []) ∷
@@ -97,18 +97,18 @@ pub placed-fails :
     state (thread 1 (0 ∷ 1 ∷ []) (0 ∷ 1 ∷ []) sending ∷ []) ∷ [])
     ≡ true ∷ false ∷ false ∷ false ∷ []
 unfolding guarantees_computed
-placed-fails = refl
+placed_fails = refl
 
 -- `no_error_lem`: W's threads under W's charter; under one whose node 1 lacks the list; a next act with a dangling name; and a dangling
 -- name behind a repeat, which has no next act.
-pub error-found :
+pub error_found :
     no_error (charter once) (state (sender ∷ receiver ∷ []))
     ∷ no_error (charter never) (state (sender ∷ receiver ∷ []))
     ∷ no_error (charter once) (state (thread 0 (0 ∷ 1 ∷ []) (0 ∷ 7 ∷ []) sending ∷ []))
     ∷ no_error (charter once) (state (thread 0 (0 ∷ 1 ∷ []) (0 ∷ 7 ∷ []) (repl sending) ∷ [])) ∷ []
     ≡ true ∷ false ∷ false ∷ true ∷ []
 unfolding guarantees_computed
-error-found = refl
+error_found = refl
 
 -- `not_beyond`: what W's receiver infers is not beyond itself; it is beyond a start that infers nothing, by its flag, and two
 -- senders are beyond one, by their count.
@@ -128,24 +128,24 @@ count_beyond h = true_is_not_false (h.counts 0 0)
 
 -- `within`, where the charter's count is 1: one disclosed and none left, none disclosed and one left; two disclosed; two left; one
 -- of each. And whatever there is where it is unlimited.
-pub within-fails :
+pub within_fails :
     is_within (fin 1) 1 (fin 0) ∷ is_within (fin 1) 0 (fin 1)
     ∷ is_within (fin 1) 2 (fin 0) ∷ is_within (fin 1) 0 (fin 2) ∷ is_within (fin 1) 1 (fin 1) ∷ is_within (fin 1) 0 unlimited
     ∷ is_within unlimited 2 unlimited ∷ []
     ≡ true ∷ true ∷ false ∷ false ∷ false ∷ false ∷ true ∷ []
 unfolding guarantees_computed
-within-fails = refl
+within_fails = refl
 
 -- What component 0 has disclosed and still infers along W's moves: at the start; after its communication; after one that is refused,
 -- since the receiver is named as the sender; after an output to the environment, and a second one, which is refused.
 abbrev along : List Move → List Count
 along ms = fin (disclosed_by 0 0 0 (start w) ms) ∷ disclosed 0 0 (of_component 0 (state_acts (run_states (start w) ms))) ∷ []
 
-pub counts-along :
+pub counts_along :
     map along ([] ∷ (communicate 0 1 ∷ []) ∷ (communicate 1 0 ∷ []) ∷ (send_out 0 ∷ []) ∷ (send_out 0 ∷ send_out 0 ∷ []) ∷ [])
     ≡ (fin 0 ∷ fin 1 ∷ []) ∷ (fin 1 ∷ fin 0 ∷ []) ∷ (fin 0 ∷ fin 1 ∷ []) ∷ (fin 1 ∷ fin 0 ∷ []) ∷ (fin 1 ∷ fin 0 ∷ []) ∷ []
 unfolding guarantees_computed
-counts-along = refl
+counts_along = refl
 
 -- A sheet of three that send as W's component 0 does: the first two have the paths 0.1 and 1.0, and so share; the third has 0.1.2.
 abbrev three : Sheet
@@ -163,11 +163,11 @@ second = record { number = 1; path = 1 ∷ 0 ∷ []; purpose = 0 }
 abbrev third : Component
 third = record { number = 2; path = 0 ∷ 1 ∷ 2 ∷ []; purpose = 0 }
 
-pub classes-told :
+pub classes_told :
     map (shares first) (first ∷ second ∷ third ∷ []) ∷ map (shares second) (first ∷ second ∷ third ∷ []) ∷ map (shares third) (first ∷ second ∷ third ∷ []) ∷ []
     ≡ (true ∷ true ∷ false ∷ []) ∷ (true ∷ true ∷ false ∷ []) ∷ (false ∷ false ∷ true ∷ []) ∷ []
 unfolding guarantees_computed
-classes-told = refl
+classes_told = refl
 
 -- W's charter grants each of the three one.
 pub classes_granted : map (count_granted 0 (charter once) 0) (first ∷ second ∷ third ∷ []) ≡ fin 1 ∷ fin 1 ∷ fin 1 ∷ []
@@ -181,11 +181,11 @@ shared_along ms =
     fin (disclosed_by 0 0 0 (start three) ms) ∷ fin (disclosed_where (shares first) 0 0 (start three) ms)
     ∷ disclosed 0 0 (acts_where (shares first) (state_acts (run_states (start three) ms))) ∷ []
 
-pub counts-shared :
+pub counts_shared :
     map shared_along ([] ∷ (send_out 0 ∷ []) ∷ (send_out 1 ∷ []) ∷ (send_out 0 ∷ send_out 0 ∷ []) ∷ (send_out 2 ∷ []) ∷ [])
     ≡ (fin 0 ∷ fin 0 ∷ fin 2 ∷ []) ∷ (fin 1 ∷ fin 1 ∷ fin 1 ∷ []) ∷ (fin 0 ∷ fin 1 ∷ fin 1 ∷ []) ∷ (fin 1 ∷ fin 2 ∷ fin 0 ∷ []) ∷ (fin 0 ∷ fin 0 ∷ fin 2 ∷ []) ∷ []
 unfolding guarantees_computed
-counts-shared = refl
+counts_shared = refl
 
 -- `within` for a component and moves, by itself as in document 01, and with its class. Each of the three keeps to the count of 1 by
 -- itself; the first two do not together, whether they still infer their links or have handed them over; the third does, whatever
@@ -200,13 +200,13 @@ together c ms =
     is_within (count_granted 0 (charter once) 0 c) (disclosed_where (shares c) 0 0 (start three) ms)
     (disclosed 0 0 (acts_where (shares c) (state_acts (run_states (start three) ms))))
 
-pub shared-fails :
+pub shared_fails :
     map (λ c. alone c (send_out 0 ∷ send_out 0 ∷ [])) (first ∷ second ∷ third ∷ [])
     ∷ map (λ c. together c (send_out 0 ∷ send_out 0 ∷ [])) (first ∷ second ∷ third ∷ [])
     ∷ map (λ c. together c []) (first ∷ second ∷ third ∷ []) ∷ []
     ≡ (true ∷ true ∷ true ∷ []) ∷ (false ∷ false ∷ true ∷ []) ∷ (false ∷ false ∷ true ∷ []) ∷ []
 unfolding guarantees_computed
-shared-fails = refl
+shared_fails = refl
 
 -- Purposes (document 02, Q-6). A thread of W's sender with another purpose, and charters whose node 1 discloses once for purpose 0 alone and
 -- for purpose 1 alone.
@@ -226,13 +226,13 @@ unfolding guarantees_computed
 purpose_placed = refl
 
 -- `no_error_lem`: the sender with purposes 0 and 1, each under both charters, and under one that grants for no purpose.
-pub purpose-error :
+pub purpose_error :
     map (λ t. no_error (charter (once_for 1)) (state (t ∷ []))) (for 0 sender ∷ for 1 sender ∷ [])
     ∷ map (λ t. no_error (charter (once_for 2)) (state (t ∷ []))) (for 0 sender ∷ for 1 sender ∷ [])
     ∷ map (λ t. no_error (charter (once_for 0)) (state (t ∷ []))) (for 0 sender ∷ for 1 sender ∷ []) ∷ []
     ≡ (true ∷ false ∷ []) ∷ (false ∷ true ∷ []) ∷ (false ∷ false ∷ []) ∷ []
 unfolding guarantees_computed
-purpose-error = refl
+purpose_error = refl
 
 -- A sheet of three that send alike, all of path 0.1: the first two with purpose 0, the third with purpose 1, which so does not share.
 abbrev purposes : Sheet
@@ -263,12 +263,12 @@ abbrev of_path : List Move → List Count
 of_path ms =
     fin (disclosed_where (λ c. true) 0 0 (start purposes) ms) ∷ disclosed 0 0 (state_acts (run_states (start purposes) ms)) ∷ []
 
-pub purpose-within :
+pub purpose_within :
     map (λ c. kept c []) (ordinary ∷ other ∷ []) ∷ map (λ c. kept c (send_out 0 ∷ [])) (ordinary ∷ other ∷ [])
     ∷ map (λ c. kept c (send_out 2 ∷ [])) (ordinary ∷ other ∷ []) ∷ []
     ≡ (false ∷ true ∷ []) ∷ (false ∷ true ∷ []) ∷ (false ∷ true ∷ []) ∷ []
 unfolding guarantees_computed
-purpose-within = refl
+purpose_within = refl
 
 pub path_without : of_path (send_out 2 ∷ []) ≡ fin 1 ∷ fin 2 ∷ []
 unfolding guarantees_computed

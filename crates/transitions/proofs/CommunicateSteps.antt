@@ -144,7 +144,7 @@ module _ (forms : List ℕ) (m : Communication) (sender : Actor) (u : Place) (z 
       g v w send (prefixed.receives ∙ ap (receiving_of forms u) q) (prefixed.binds d q) small state turns known few room av aw hv hw h
 
 -- Two indices.
-module _ (forms : List ℕ) (m : Communication) (z : Sizes) (threads types cells : List ℕ) (threads-room : length threads ≡ 128) where
+module _ (forms : List ℕ) (m : Communication) (z : Sizes) (threads types cells : List ℕ) (threads_room : length threads ≡ 128) where
   abbrev Told : List ℕ → List ℕ → List ℕ → Moved → Type 0
   Told threads' types' cells' r =
       SteppedAny forms z threads types cells threads' types' cells' (λ state. communicate_step state m.sender m.receiver) r
@@ -153,22 +153,22 @@ module _ (forms : List ℕ) (m : Communication) (z : Sizes) (threads types cells
   unfolding communicate_step given
   no_sender r k e state turns known few room h =
       answers_refused forms turns threads types known cells state 30 z (communicate_step state m.sender m.receiver) r (lit< tt)
-      (rw (no_thread forms z turns threads types known cells state threads-room h m.sender k) refl) e h
+      (rw (no_thread forms z turns threads types known cells state threads_room h m.sender k) refl) e h
 
   pub no_other : (r : Moved) → m.sender < z.threads → z.threads ≤ m.receiver → r ≡ refusal 30 z → Told threads types cells r
   unfolding communicate_step given
   no_other r k l e state turns known few room h =
-      let found = thread_is forms z turns threads types known cells state threads-room h m.sender k in
+      let found = thread_is forms z turns threads types known cells state threads_room h m.sender k in
       answers_refused forms turns threads types known cells state 30 z (communicate_step state m.sender m.receiver) r (lit< tt)
-      (rw (found.here, no_thread forms z turns threads types known cells state threads-room h m.receiver l) refl) e h
+      (rw (found.here, no_thread forms z turns threads types known cells state threads_room h m.receiver l) refl) e h
 
   pub both_there : (t u : Place) (r : Moved) (threads' types' cells' : List ℕ) → m.sender < z.threads → m.receiver < z.threads
       → t ≡ unpacked (get_or threads m.sender 0) → u ≡ unpacked (get_or threads m.receiver 0)
       → ((v w : Thread) → Met forms z m t u v w threads types cells threads' types' cells' r)
       → Told threads' types' cells' r
   both_there t u r threads' types' cells' k l e f g state turns known few room h =
-      let a = thread_is forms z turns threads types known cells state threads-room h m.sender k in
-      let b = thread_is forms z turns threads types known cells state threads-room h m.receiver l in
+      let a = thread_is forms z turns threads types known cells state threads_room h m.sender k in
+      let b = thread_is forms z turns threads types known cells state threads_room h m.receiver l in
       g a.thread b.thread state turns known few room (rw e a.acts) (rw f b.acts) a.here b.here h
 
 -- Two threads, and the prefix of the first.

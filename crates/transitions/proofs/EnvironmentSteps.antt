@@ -19,7 +19,7 @@ use Rattle.transitions.specs.Steps.{Answers, refusal}
 use Rattle.transitions.proofs.MoveLaws.{record_bytes_lem, answers_refused, count, join_singles}
 
 module _ (t : ℕ) (z : Sizes) (types : List ℕ) (known : List Bool) (types_room : length types ≡ 1024) (known_room : length known ≡ 1024)
-    (forms threads cells : List ℕ) (state : State) (turns : ℕ) (threads-room : length threads ≡ 128) (h : Holds forms z turns threads types known cells state) where
+    (forms threads cells : List ℕ) (state : State) (turns : ℕ) (threads_room : length threads ≡ 128) (h : Holds forms z turns threads types known cells state) where
   -- The state with the new name.
   abbrev next : State
   next = record { threads = state.threads; types = state.types ++ (t ∷ []); known = state.known ++ (true ∷ []) }
@@ -36,7 +36,7 @@ module _ (t : ℕ) (z : Sizes) (types : List ℕ) (known : List Bool) (types_roo
       rw (join_singles state.threads, named, set_at state.known false [] true z.names flagged) refl
 
   crowd : length state.threads ≤ 64
-  crowd = omega (arith, count forms z turns threads types known cells state threads-room h 0, h.few)
+  crowd = omega (arith, count forms z turns threads types known cells state threads_room h 0, h.few)
 
   names_after : length (state.types ++ (t ∷ [])) ≡ z.names + 1
   names_after = omega (arith, length-append state.types (t ∷ []), named)

@@ -86,13 +86,13 @@ module _ (forms : List ℕ) (t : Place) (act : Action) (m : Receipt) (z : Sizes)
       → (u : Thread) → t.names + (t.nest - 1) < 128 → m.name < 65536
       → ActedAny forms z t m.thread u threads types cells threads' types' cells' (λ state. received forms t act m state u) r
   receive_on_step cells_room ef eb ew ec replacing o u names small state turns known few room a here holds =
-      let process-is : body ≡ process = unfold under_cell in rw (eb, ef, lt-ltb t.names 128 (omega arith)) refl in
-      let wider-is : wider ≡ record { threads = z.threads; names = z.names; cells = z.cells + 1 }
+      let process_is : body ≡ process = unfold under_cell in rw (eb, ef, lt-ltb t.names 128 (omega arith)) refl in
+      let wider_is : wider ≡ record { threads = z.threads; names = z.names; cells = z.cells + 1 }
       = unfold with_cell in rw (ew, lt-ltb z.cells 2304 (omega (arith, holds.slack, holds.given))) refl in
-      let fits : Ranged process wider.cells = rw wider-is (record { component = a.small; scope = omega arith; deep = omega (arith, a.deep); place = mod-lt act.next (lit< tt); env = omega arith }) in
+      let fits : Ranged process wider.cells = rw wider_is (record { component = a.small; scope = omega arith; deep = omega (arith, a.deep); place = mod-lt act.next (lit< tt); env = omega arith }) in
       let held : Holds forms wider (turns + 1) threads types known cells₁ state = rw (ew, ec) (holds_cell forms z turns threads types known cells state t.env m.name cells_room few holds) in
       let rs : Replaces forms process m.thread (m.thread + 1) wider (turns + 1) threads' types' known cells₁ cells' state u.component placed
-      = rw process-is at (replacing state u.component (turns + 1) known (omega (arith, ap length ec, bound_length cells z.cells t.env m.name)) room (a.component ∙ ap (λ p. p.component) (sym process-is)) (rw process-is fits) held) in
+      = rw process_is at (replacing state u.component (turns + 1) known (omega (arith, ap length ec, bound_length cells z.cells t.env m.name)) room (a.component ∙ ap (λ p. p.component) (sym process_is)) (rw process_is fits) held) in
       let names_are : chain cells₁ (t.names + 1) z.cells ≡ u.names ++ (m.name ∷ [])
       = rw ec (chain_bound cells t.names z.cells t.env m.name a.env (omega (arith, holds.slack, holds.given)) (omega (arith, holds.slack, holds.given)) small)
       ∙ ap (λ ns. ns ++ (m.name ∷ [])) (sym a.names) in
@@ -182,7 +182,7 @@ module _ (forms : List ℕ) (t : Place) (act : Action) (m : Receipt) (z : Sizes)
             → Received threads' types' cells' r
         unfolding guard
         receive_at_step threads' types' cells' r ty g u names receive state turns few a here holds =
-            let given-name : m.name < z.names = known_given known z.names m.name (sym ev ∙ not-false v hv) (omega (arith, holds.given)) in
+            let given_name : m.name < z.names = known_given known z.names m.name (sym ev ∙ not-false v hv) (omega (arith, holds.given)) in
             rw (
               receiving state u here receive,
               known_is act.channel b e holds,
@@ -193,7 +193,7 @@ module _ (forms : List ℕ) (t : Place) (act : Action) (m : Receipt) (z : Sizes)
               eq-eqb y act.object ty,
             ) (g u names (omega (arith, holds.given)) state turns known few room a here holds)
 
-module _ (forms : List ℕ) (m : Receipt) (z : Sizes) (threads types : List ℕ) (known : List Bool) (cells : List ℕ) (threads-room : length threads ≡ 128) where
+module _ (forms : List ℕ) (m : Receipt) (z : Sizes) (threads types : List ℕ) (known : List Bool) (cells : List ℕ) (threads_room : length threads ≡ 128) where
   abbrev Told : List ℕ → List ℕ → List ℕ → Moved → Type 0
   Told threads' types' cells' r =
       Stepped forms z threads types known cells threads' types' known cells' (λ state. receive_step state m.thread m.name) r
@@ -202,14 +202,14 @@ module _ (forms : List ℕ) (m : Receipt) (z : Sizes) (threads types : List ℕ)
   unfolding receive_step given
   receive_no_thread r k e state turns few h =
       answers_refused forms turns threads types known cells state 30 z (receive_step state m.thread m.name) r (lit< tt)
-      (rw (no_thread forms z turns threads types known cells state threads-room h m.thread k) refl) e h
+      (rw (no_thread forms z turns threads types known cells state threads_room h m.thread k) refl) e h
 
   module _ (t : Place) (st : Prefix) (k : m.thread < z.threads) (e : t ≡ unpacked (get_or threads m.thread 0)) (f : PrefixFound forms cells t st) where
     -- 31: its prefix is no receive.
     pub receive_other : (r : Moved) → receiving_of forms t st ≡ none → r ≡ refusal 31 z → Told threads types cells r
     unfolding receive_step given
     receive_other r n o state turns few h =
-        let l = look forms z turns threads types known cells state m.thread t st threads-room h k e f in
+        let l = look forms z turns threads types known cells state m.thread t st threads_room h k e f in
         answers_refused forms turns threads types known cells state 31 z (receive_step state m.thread m.name) r (lit< tt) (rw (l.here, l.prefixed.receives, n) refl) o h
 
     pub receive_receives : (r : Moved) (d : Action) (threads' types' cells' : List ℕ) → st ≡ prefix.Receives d
@@ -217,7 +217,7 @@ module _ (forms : List ℕ) (m : Receipt) (z : Sizes) (threads types : List ℕ)
         → Acted forms z t m.thread u threads types known cells threads' types' known cells' (λ state. receive_step state m.thread m.name) r)
         → Told threads' types' cells' r
     receive_receives r d threads' types' cells' q g state turns few h =
-        let l = look forms z turns threads types known cells state m.thread t st threads-room h k e f in
+        let l = look forms z turns threads types known cells state m.thread t st threads_room h k e f in
         g l.thread (l.prefixed.binds d q) (l.prefixed.receives ∙ ap (receiving_of forms t) q) state turns few l.acts l.here h
 
 pub ruleset receive_at_steps = (rules, channel_unknown, name_unknown, other_type)

@@ -110,7 +110,7 @@ module _ (forms : List ℕ) (t : Place) (act : Action) (i : ℕ) (z : Sizes) (th
         (rw (k, y) (holds_known forms placed.sizes turns threads' types' known cells' next act.object room (rs.taken y))))
         (λ y. later forms turns threads' types' known' cells' state placed.sizes (rw (k, y, (rs.kept y).0) (rs.kept y).1))
 
-module _ (forms : List ℕ) (i : ℕ) (z : Sizes) (threads types : List ℕ) (known : List Bool) (cells : List ℕ) (threads-room : length threads ≡ 128) where
+module _ (forms : List ℕ) (i : ℕ) (z : Sizes) (threads types : List ℕ) (known : List Bool) (cells : List ℕ) (threads_room : length threads ≡ 128) where
   abbrev Told : List ℕ → List ℕ → List Bool → List ℕ → Moved → Type 0
   Told threads' types' known' cells' r = Stepped forms z threads types known cells threads' types' known' cells' (λ state. send_step state i) r
 
@@ -118,14 +118,14 @@ module _ (forms : List ℕ) (i : ℕ) (z : Sizes) (threads types : List ℕ) (kn
   unfolding send_step given
   send_no_thread r k e state turns few h =
       answers_refused forms turns threads types known cells state 30 z (send_step state i) r (lit< tt)
-      (rw (no_thread forms z turns threads types known cells state threads-room h i k) refl) e h
+      (rw (no_thread forms z turns threads types known cells state threads_room h i k) refl) e h
 
   module _ (t : Place) (st : Prefix) (k : i < z.threads) (e : t ≡ unpacked (get_or threads i 0)) (f : PrefixFound forms cells t st) where
     -- 31: its prefix is no send.
     pub send_other : (r : Moved) → sending_of forms t st ≡ none → r ≡ refusal 31 z → Told threads types known cells r
     unfolding send_step given
     send_other r n o state turns few h =
-        let l = look forms z turns threads types known cells state i t st threads-room h k e f in
+        let l = look forms z turns threads types known cells state i t st threads_room h k e f in
         answers_refused forms turns threads types known cells state 31 z (send_step state i) r (lit< tt) (rw (l.here, l.prefixed.sends, n) refl) o h
 
     pub send_sends : (r : Moved) (d : Action) (threads' types' cells' : List ℕ) (known' : List Bool) → st ≡ prefix.Sends d
@@ -133,7 +133,7 @@ module _ (forms : List ℕ) (i : ℕ) (z : Sizes) (threads types : List ℕ) (kn
         → Acted forms z t i u threads types known cells threads' types' known' cells' (λ state. send_step state i) r)
         → Told threads' types' known' cells' r
     send_sends r d threads' types' cells' known' q g state turns few h =
-        let l = look forms z turns threads types known cells state i t st threads-room h k e f in
+        let l = look forms z turns threads types known cells state i t st threads_room h k e f in
         g l.thread (l.prefixed.sends ∙ ap (sending_of forms t) q) state turns few l.acts l.here h
 
 pub ruleset line_steps = (rules, line_old, line_new)

@@ -71,7 +71,7 @@ unfold_at_step forms t next i z threads threads' types types' cells cells' body 
     (λ y. later forms turns threads' types' known cells' (put forms body i i cells state u.component) placed.sizes (rs.taken y))
     (λ y. later forms turns threads' types' known cells' state placed.sizes (rw (rs.kept y).0 (rs.kept y).1))
 
-module _ (forms : List ℕ) (i : ℕ) (z : Sizes) (threads types cells : List ℕ) (threads-room : length threads ≡ 128) where
+module _ (forms : List ℕ) (i : ℕ) (z : Sizes) (threads types cells : List ℕ) (threads_room : length threads ≡ 128) where
   abbrev Told : List ℕ → List ℕ → List ℕ → Moved → Type 0
   Told threads' types' cells' r = SteppedAny forms z threads types cells threads' types' cells' (λ state. unfold_step state i) r
 
@@ -79,14 +79,14 @@ module _ (forms : List ℕ) (i : ℕ) (z : Sizes) (threads types cells : List �
   unfolding unfold_step given
   unfold_no_thread r k e state turns known few room h =
       answers_refused forms turns threads types known cells state 30 z (unfold_step state i) r (lit< tt)
-      (rw (no_thread forms z turns threads types known cells state threads-room h i k) refl) e h
+      (rw (no_thread forms z turns threads types known cells state threads_room h i k) refl) e h
 
   module _ (t : Place) (st : Prefix) (k : i < z.threads) (e : t ≡ unpacked (get_or threads i 0)) (f : PrefixFound forms cells t st) where
     -- 31: its prefix is no replication.
     pub unfold_other : (r : Moved) → repeat_of forms t st ≡ none → r ≡ refusal 31 z → Told threads types cells r
     unfolding unfold_step given
     unfold_other r n o state turns known few room h =
-        let l = look forms z turns threads types known cells state i t st threads-room h k e f in
+        let l = look forms z turns threads types known cells state i t st threads_room h k e f in
         answers_refused forms turns threads types known cells state 31 z (unfold_step state i) r (lit< tt) (rw (l.here, l.prefixed.repeats, n) refl) o h
 
     pub unfold_replicates : (r : Moved) (next : ℕ) (threads' types' cells' : List ℕ) → st ≡ prefix.Repeats next
@@ -94,7 +94,7 @@ module _ (forms : List ℕ) (i : ℕ) (z : Sizes) (threads types cells : List �
         → ActedAny forms z t i u threads types cells threads' types' cells' (λ state. unfold_step state i) r)
         → Told threads' types' cells' r
     unfold_replicates r next threads' types' cells' q g state turns known few room h =
-        let l = look forms z turns threads types known cells state i t st threads-room h k e f in
+        let l = look forms z turns threads types known cells state i t st threads_room h k e f in
         g l.thread (l.prefixed.repeats ∙ ap (repeat_of forms t) q) state turns known few room l.acts l.here h
 
 pub ruleset unfold_at_steps = (rules, unfold_at_step)
