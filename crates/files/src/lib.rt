@@ -1,17 +1,34 @@
 // What the programs share: a file read into a buffer, the first bytes of a buffer, and the one line of a refusal.
 #![tactic(auto)]
 
-use libc::STDOUT_FILENO;
+use std::fs::File;
+use std::io;
+use std::io::{Print, Read};
+use std::rt::Files;
+
+// Reads into a buffer until it is full, nothing more comes or a read fails; how many bytes there were.
+pub fn read_full(source: &mut impl Read, buf: &mut [u8]) -> usize {
+    let mut done: usize = 0;
+    while done < buf.len() {
+        match source.read(&mut buf[done..]) {
+            Ok(n) => {
+                if n == 0 {
+                    return done;
+                }
+                done += n;
+            }
+            Err(_) => return done,
+        }
+    }
+    done
+}
 
 // Reads a file into a buffer, as much as fits; an absent file has no bytes.
-pub fn load(path: &[u8], buf: &mut [u8]) -> usize {
-    let fd = os::open_read(path);
-    if fd < 0 {
-        return 0;
+pub fn load(rt: &impl Files, path: &str, buf: &mut [u8]) -> usize {
+    match File::open(rt, path) {
+        Ok(mut file) => read_full(&mut file, buf),
+        Err(_) => 0,
     }
-    let n = io::read_full(fd, buf);
-    libc::close(fd);
-    n
 }
 
 // The first bytes of a buffer. What is read, composed or answered fits its buffer, so the whole buffer is never taken.
@@ -23,13 +40,11 @@ pub fn first(buf: &[u8], n: usize) -> &[u8] {
 }
 
 // Prints the number of the question that failed, and no newline.
-pub fn print_refusal(number: usize) {
-    io::write_all(STDOUT_FILENO, b"refused ");
-    io::print_decimal(STDOUT_FILENO, number as u64);
+pub fn print_refusal(rt: &impl Print, number: usize) -> io::Result<()> {
+    print!(rt; "refused {number}")
 }
 
 // The same as a line.
-pub fn print_refused(number: usize) {
-    print_refusal(number);
-    io::write_all(STDOUT_FILENO, b"\n");
+pub fn print_refused(rt: &impl Print, number: usize) -> io::Result<()> {
+    println!(rt; "refused {number}")
 }

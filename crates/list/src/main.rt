@@ -2,6 +2,8 @@
 // 18 the sentence, with the names in `names.bin`.
 #![tactic(auto)]
 
-fn main() {
-    commands::list();
+use std::io;
+
+fn main(rt: HostRuntime) -> io::Result<()> {
+    commands::list(&rt)
 }

@@ -1,6 +1,8 @@
 // The program `list` in a folder without files: each is read as empty, so that question 2 fails.
 #![tactic(auto)]
 
-fn main() {
-    commands::list();
+use std::io;
+
+fn main(rt: HostRuntime) -> io::Result<()> {
+    commands::list(&rt)
 }

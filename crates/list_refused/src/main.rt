@@ -2,6 +2,8 @@
 // sentence below it, and nothing else.
 #![tactic(auto)]
 
-fn main() {
-    commands::list();
+use std::io;
+
+fn main(rt: HostRuntime) -> io::Result<()> {
+    commands::list(&rt)
 }

@@ -2,6 +2,8 @@
 // or `refused N`.
 #![tactic(auto)]
 
-fn main() {
-    commands::run();
+use std::io;
+
+fn main(rt: HostRuntime) -> io::Result<()> {
+    commands::run(&rt)
 }

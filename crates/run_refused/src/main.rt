@@ -1,6 +1,8 @@
 // The program `run` on a sheet that its charter refuses with 18: what is written is `refused 18`, and nothing else.
 #![tactic(auto)]
 
-fn main() {
-    commands::run();
+use std::io;
+
+fn main(rt: HostRuntime) -> io::Result<()> {
+    commands::run(&rt)
 }

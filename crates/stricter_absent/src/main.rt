@@ -1,6 +1,8 @@
 // The program `stricter` in a folder without files: both charters are read as empty, which fails question 11, so that it says `no`.
 #![tactic(auto)]
 
-fn main() {
-    commands::stricter();
+use std::io;
+
+fn main(rt: HostRuntime) -> io::Result<()> {
+    commands::stricter(&rt)
 }

@@ -10,11 +10,13 @@ ghost use Rattle.std.specs.Prelude.{◌<◌};
 
 use commands::{print_compared, print_listing};
 use execution::play;
-use files::{first, print_refused};
+use files::{first, print_refused, read_full};
 use fixtures::{put, say};
-use libc::STDOUT_FILENO;
 use moving::{downgrade, upgrade};
 use service::Answer;
+use std::fs::File;
+use std::io;
+use std::io::{Print, Read};
 
 fn wide(b: u8) -> usize
     ensures { result < 256 }
@@ -27,11 +29,11 @@ fn two_bytes(low: u8, high: u8) -> usize {
 }
 
 // Reads the next `n` bytes of the file, as many as there are and fit the buffer.
-fn next_bytes(fd: i32, buf: &mut [u8], n: usize) -> usize {
+fn next_bytes(file: &mut impl Read, buf: &mut [u8], n: usize) -> usize {
     if buf.len() < n {
-        return io::read_full(fd, buf);
+        return read_full(file, buf);
     }
-    io::read_full(fd, &mut buf[..n])
+    read_full(file, &mut buf[..n])
 }
 
 // The hexadecimal digit of the low half of a byte.
@@ -59,174 +61,193 @@ fn put_pairs(text: &mut [u8], bytes: &[u8]) -> usize {
 }
 
 // Prints at most 8,192 bytes in hexadecimal, and a newline.
-fn say_bytes(bytes: &[u8]) {
+fn say_bytes(rt: &impl Print, bytes: &[u8]) -> io::Result<()> {
     let mut text = [0u8; 24576];
     let n = put_pairs(&mut text, bytes);
-    say(first(&text, n));
-    say(b"\n");
+    say(rt, first(&text, n))?;
+    say(rt, b"\n")
 }
 
-fn say_refused(number: usize) {
-    say(b" ");
-    print_refused(number);
+fn say_refused(rt: &impl Print, number: usize) -> io::Result<()> {
+    say(rt, b" ")?;
+    print_refused(rt, number)
 }
 
-fn show_listing(number: u64, sheet: &[u8], charter: &[u8], names: &[u8]) {
-    io::print_decimal(STDOUT_FILENO, number);
-    say(b" list: ");
-    print_listing(sheet, charter, names, b"; ");
+fn show_listing(
+    rt: &impl Print,
+    number: u64,
+    sheet: &[u8],
+    charter: &[u8],
+    names: &[u8],
+) -> io::Result<()> {
+    print!(rt; "{number} list: ")?;
+    print_listing(rt, sheet, charter, names, b"; ")
 }
 
-fn show_run(number: u64, sheet: &[u8], charter: &[u8], script: &[u8]) {
+fn show_run(
+    rt: &impl Print,
+    number: u64,
+    sheet: &[u8],
+    charter: &[u8],
+    script: &[u8],
+) -> io::Result<()> {
     let mut log = [0u8; 8192];
-    io::print_decimal(STDOUT_FILENO, number);
-    say(b" run:");
+    print!(rt; "{number} run:")?;
     let answer = play(sheet, charter, script, &mut log);
     match answer {
         Answer::Accepted(n) => {
             if n <= 1024 {
-                say_bytes(first(&log, n * 8));
+                say_bytes(rt, first(&log, n * 8))?;
             }
+            Ok(())
         }
-        Answer::Refused(n) => say_refused(n),
+        Answer::Refused(n) => say_refused(rt, n),
     }
 }
 
 // Prints the bytes of a moved sheet, or its refusal.
-fn say_moved(answer: Answer, output: &[u8]) {
+fn say_moved(rt: &impl Print, answer: Answer, output: &[u8]) -> io::Result<()> {
     match answer {
-        Answer::Accepted(n) => say_bytes(first(output, n)),
-        Answer::Refused(n) => say_refused(n),
+        Answer::Accepted(n) => say_bytes(rt, first(output, n)),
+        Answer::Refused(n) => say_refused(rt, n),
     }
 }
 
-fn show_upgrade(number: u64, sheet: &[u8]) {
+fn show_upgrade(rt: &impl Print, number: u64, sheet: &[u8]) -> io::Result<()> {
     let mut output = [0u8; 4096];
-    io::print_decimal(STDOUT_FILENO, number);
-    say(b" upgrade:");
+    print!(rt; "{number} upgrade:")?;
     let answer = upgrade(sheet, &mut output);
-    say_moved(answer, &output);
+    say_moved(rt, answer, &output)
 }
 
-fn show_downgrade(number: u64, sheet: &[u8]) {
+fn show_downgrade(rt: &impl Print, number: u64, sheet: &[u8]) -> io::Result<()> {
     let mut output = [0u8; 4096];
-    io::print_decimal(STDOUT_FILENO, number);
-    say(b" downgrade:");
+    print!(rt; "{number} downgrade:")?;
     let answer = downgrade(sheet, &mut output);
-    say_moved(answer, &output);
+    say_moved(rt, answer, &output)
 }
 
-fn show_stricter(number: u64, charter: &[u8], before: &[u8]) {
-    io::print_decimal(STDOUT_FILENO, number);
-    say(b" stricter: ");
-    print_compared(charter, before);
+fn show_stricter(rt: &impl Print, number: u64, charter: &[u8], before: &[u8]) -> io::Result<()> {
+    print!(rt; "{number} stricter: ")?;
+    print_compared(rt, charter, before)
 }
 
 // Reads a case of `list` and `run` whose parts have these lengths, and shows it.
 fn show_parts(
-    fd: i32,
+    rt: &impl Print,
+    file: &mut impl Read,
     number: u64,
     sheet_len: usize,
     charter_len: usize,
     script_len: usize,
     names_len: usize,
-) {
+) -> io::Result<()> {
     let mut sheet = [0u8; 4097];
     let mut charter = [0u8; 4097];
     let mut script = [0u8; 7169];
     let mut names = [0u8; 1681];
-    let s = next_bytes(fd, &mut sheet, sheet_len);
-    let c = next_bytes(fd, &mut charter, charter_len);
-    let m = next_bytes(fd, &mut script, script_len);
-    let n = next_bytes(fd, &mut names, names_len);
+    let s = next_bytes(file, &mut sheet, sheet_len);
+    let c = next_bytes(file, &mut charter, charter_len);
+    let m = next_bytes(file, &mut script, script_len);
+    let n = next_bytes(file, &mut names, names_len);
     show_listing(
+        rt,
         number,
         first(&sheet, s),
         first(&charter, c),
         first(&names, n),
-    );
+    )?;
     show_run(
+        rt,
         number,
         first(&sheet, s),
         first(&charter, c),
         first(&script, m),
-    );
+    )
 }
 
 // Shows a case of `list` and `run`; whether its lengths stood in the file.
-fn show_checked(fd: i32, number: u64) -> bool {
+fn show_checked(rt: &impl Print, file: &mut impl Read, number: u64) -> io::Result<bool> {
     let mut h = [0u8; 8];
-    if io::read_full(fd, &mut h) < 8 {
-        return false;
+    if read_full(file, &mut h) < 8 {
+        return Ok(false);
     }
     let sheet_len = two_bytes(h[0], h[1]);
     let charter_len = two_bytes(h[2], h[3]);
     let script_len = two_bytes(h[4], h[5]);
     let names_len = two_bytes(h[6], h[7]);
-    show_parts(fd, number, sheet_len, charter_len, script_len, names_len);
-    true
+    show_parts(
+        rt,
+        file,
+        number,
+        sheet_len,
+        charter_len,
+        script_len,
+        names_len,
+    )?;
+    Ok(true)
 }
 
 // Shows a case of `upgrade`, kind 1, or of `downgrade`; whether its length stood in the file.
-fn show_moved(fd: i32, number: u64, kind: u8) -> bool {
+fn show_moved(rt: &impl Print, file: &mut impl Read, number: u64, kind: u8) -> io::Result<bool> {
     let mut h = [0u8; 2];
-    if io::read_full(fd, &mut h) < 2 {
-        return false;
+    if read_full(file, &mut h) < 2 {
+        return Ok(false);
     }
     let mut sheet = [0u8; 4097];
-    let n = next_bytes(fd, &mut sheet, two_bytes(h[0], h[1]));
+    let n = next_bytes(file, &mut sheet, two_bytes(h[0], h[1]));
     if kind == 1 {
-        show_upgrade(number, first(&sheet, n));
+        show_upgrade(rt, number, first(&sheet, n))?;
     } else {
-        show_downgrade(number, first(&sheet, n));
+        show_downgrade(rt, number, first(&sheet, n))?;
     }
-    true
+    Ok(true)
 }
 
 // Shows a case of `stricter`; whether its lengths stood in the file.
-fn show_compared(fd: i32, number: u64) -> bool {
+fn show_compared(rt: &impl Print, file: &mut impl Read, number: u64) -> io::Result<bool> {
     let mut h = [0u8; 4];
-    if io::read_full(fd, &mut h) < 4 {
-        return false;
+    if read_full(file, &mut h) < 4 {
+        return Ok(false);
     }
     let mut charter = [0u8; 4097];
     let mut before = [0u8; 4097];
-    let c = next_bytes(fd, &mut charter, two_bytes(h[0], h[1]));
-    let b = next_bytes(fd, &mut before, two_bytes(h[2], h[3]));
-    show_stricter(number, first(&charter, c), first(&before, b));
-    true
+    let c = next_bytes(file, &mut charter, two_bytes(h[0], h[1]));
+    let b = next_bytes(file, &mut before, two_bytes(h[2], h[3]));
+    show_stricter(rt, number, first(&charter, c), first(&before, b))?;
+    Ok(true)
 }
 
 // Shows the next case of the file; whether there was one.
-fn show_next(fd: i32, number: u64) -> bool {
+fn show_next(rt: &impl Print, file: &mut impl Read, number: u64) -> io::Result<bool> {
     let mut kind = [0u8; 1];
-    if io::read_full(fd, &mut kind) < 1 {
-        return false;
+    if read_full(file, &mut kind) < 1 {
+        return Ok(false);
     }
     if kind[0] == 0 {
-        return show_checked(fd, number);
+        return show_checked(rt, file, number);
     }
     if kind[0] == 3 {
-        return show_compared(fd, number);
+        return show_compared(rt, file, number);
     }
-    show_moved(fd, number, kind[0])
+    show_moved(rt, file, number, kind[0])
 }
 
 // Shows the cases of the file, at most 65,535.
-fn show_all(fd: i32) {
+fn show_all(rt: &impl Print, file: &mut impl Read) -> io::Result<()> {
     let mut number: u64 = 1;
     while number < 65536 {
-        if !show_next(fd, number) {
-            return;
+        if !show_next(rt, file, number)? {
+            return Ok(());
         }
         number += 1;
     }
+    Ok(())
 }
 
-fn main() {
-    let fd = os::open_read(b"cases.bin");
-    if 0 <= fd {
-        show_all(fd);
-        libc::close(fd);
+fn main(rt: HostRuntime) -> io::Result<()> {
+    match File::open(&rt, "cases.bin") {
+        Ok(mut file) => show_all(&rt, &mut file),
+        Err(_) => Ok(()),
     }
 }
