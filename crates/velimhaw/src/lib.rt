@@ -1,6 +1,6 @@
-// The services for programs in C and Rust: `rt staticlib velimhaw` writes them into a static library. An answer is one number: below 64
-// it is the number of the question that failed, from 64 on the call was accepted and the length written, or the number of moves, is 64
-// less. Of `velimhaw_no_looser`, which refuses nothing, it is 1 for yes and 0 for no.
+// The services as programs in C and Rust call them; the crate `velimhaw_c` exports them in a static library. An answer is one number:
+// below 64 it is the number of the question that failed, from 64 on the call was accepted and the length written, or the number of moves,
+// is 64 less. Of `velimhaw_no_looser`, which refuses nothing, it is 1 for yes and 0 for no.
 #![tactic(auto)]
 
 ghost use Rattle.std.specs.Prelude.{◌≡◌};
@@ -26,16 +26,14 @@ fn code(answer: Answer) -> u64
 }
 
 // Checks a sheet against a charter, and writes the interface into the output.
-#[unsafe(no_mangle)]
-pub extern "C" fn velimhaw_check(sheet: &[u8], charter: &[u8], output: &mut [u8]) -> u64
+pub fn velimhaw_check(sheet: &[u8], charter: &[u8], output: &mut [u8]) -> u64
     ensures { CheckedAs sheet.now charter.now output.old output.new result }
 {
     code(check(sheet, charter, output))
 }
 
 // Plays a script on a sheet that its charter accepts, and writes a record of eight bytes for each move into the log.
-#[unsafe(no_mangle)]
-pub extern "C" fn velimhaw_play(sheet: &[u8], charter: &[u8], script: &[u8], log: &mut [u8]) -> u64
+pub fn velimhaw_play(sheet: &[u8], charter: &[u8], script: &[u8], log: &mut [u8]) -> u64
     ensures { PlayedAs sheet.now charter.now script.now log.old log.new result }
 {
     code(play(sheet, charter, script, log))
@@ -43,13 +41,7 @@ pub extern "C" fn velimhaw_play(sheet: &[u8], charter: &[u8], script: &[u8], log
 
 // Writes the sentence for the first uncovered permission of a sheet that question 18 refuses into the line; 64 where the sheet passes
 // questions 1 to 18.
-#[unsafe(no_mangle)]
-pub extern "C" fn velimhaw_explain(
-    sheet: &[u8],
-    charter: &[u8],
-    names: &[u8],
-    line: &mut [u8],
-) -> u64
+pub fn velimhaw_explain(sheet: &[u8], charter: &[u8], names: &[u8], line: &mut [u8]) -> u64
     ensures { ExplainedAs sheet.now charter.now names.now line.old line.new result }
 {
     code(explain(sheet, charter, names, line))
@@ -57,32 +49,28 @@ pub extern "C" fn velimhaw_explain(
 
 // Writes for each entry of a sheet that its charter accepts, and for each group that it discloses to, the granted sum beside the needed
 // one into the output.
-#[unsafe(no_mangle)]
-pub extern "C" fn velimhaw_slack(sheet: &[u8], charter: &[u8], output: &mut [u8]) -> u64
+pub fn velimhaw_slack(sheet: &[u8], charter: &[u8], output: &mut [u8]) -> u64
     ensures { ToldAs sheet.now charter.now output.old output.new result }
 {
     code(slack(sheet, charter, output))
 }
 
 // Writes the new form of an old sheet, purpose 0 at each component, into the output.
-#[unsafe(no_mangle)]
-pub extern "C" fn velimhaw_upgrade(sheet: &[u8], output: &mut [u8]) -> u64
+pub fn velimhaw_upgrade(sheet: &[u8], output: &mut [u8]) -> u64
     ensures { UpgradedAs sheet.now output.old output.new result }
 {
     code(upgrade(sheet, output))
 }
 
 // Writes the old form of a sheet whose components all have purpose 0 into the output.
-#[unsafe(no_mangle)]
-pub extern "C" fn velimhaw_downgrade(sheet: &[u8], output: &mut [u8]) -> u64
+pub fn velimhaw_downgrade(sheet: &[u8], output: &mut [u8]) -> u64
     ensures { DowngradedAs sheet.now output.old output.new result }
 {
     code(downgrade(sheet, output))
 }
 
 // Is charter `a` no looser than charter `b`? 1 for yes, 0 for no.
-#[unsafe(no_mangle)]
-pub extern "C" fn velimhaw_no_looser(a: &[u8], b: &[u8]) -> u64
+pub fn velimhaw_no_looser(a: &[u8], b: &[u8]) -> u64
     ensures { ComparedAs a.now b.now result }
 {
     if no_looser(a, b) { 1 } else { 0 }
