@@ -8,7 +8,7 @@ usage: python3 tools/respell.py            once, after the kit's port.py, with e
 
 The rule of the spelling: words in snake case; types, modules and facts in upper camel case; no dashes in names of our own (an attribute
 `using(..)` takes Rust's identifiers alone); a lemma that would have its definition's name ends in _lem. A line of the table is
-`OLD NEW CRATE..`: the crates whose specs/ or proofs/ declare the name, as a definition, lemma, field, constructor or helper (two lines are of modules' aliases).
+`OLD NEW CRATE..`: the crates whose specs/ or proofs/ declare the name, as a definition, lemma, field, constructor, parameter, helper or alias.
 
 What it turns: .antt of specs/ and proofs/; clauses, imports and backquoted names of comments in src/*.rt; the lines old: and new: of
 must-fail edits, whose other words it brings to the spelling that port.py gave the files (port.py leaves edits alone).

@@ -288,8 +288,8 @@ module _ (forms : List ℕ) (x : Exchange) (z : Sizes) (turns : ℕ) (threads th
             made_mine : Pairs (Runs forms widened (cell + 1)) (take first.threads made₁) mine
             unfolding remaining_at
             made_mine =
-                let made-threads = m.products few_first given_first c number_mine [] none in
-                let mine_are : Pairs (Runs forms cells₁ cell) (take first.threads made₁) mine = rw (← named) at made-threads in
+                let made_threads = m.products few_first given_first c number_mine [] none in
+                let mine_are : Pairs (Runs forms cells₁ cell) (take first.threads made₁) mine = rw (← named) at made_threads in
                 all_kept_lem forms cells₁ widened cell (cell + 1) (bound_kept cells₁ cell cell x.theirs.env x.sent (omega arith)) (omega arith) mine_are
 
             made_both : Pairs (Runs forms cells' second.cells) (take (first.threads + (second.threads - first.threads)) made') (mine ++ theirs)
@@ -355,7 +355,7 @@ module _ (forms : List ℕ) (x : Exchange) (z : Sizes) (turns : ℕ) (threads th
         → Makes forms place (process_in place.nest forms place.at) begun made₁ made' types₁ types' widened cells' second)
         → (first.threads ≤ second.threads → PutsBoth z x (record { mine = first.threads; sizes = second }) made' threads threads' r)
         → Exchanges forms x z turns threads' types' known cells cells' state c d r
-    communicates walk-mine walk_theirs put =
-        let m = walk-mine ready_mine in
+    communicates walk_mine walk_theirs put =
+        let m = walk_mine ready_mine in
         let n = walk_theirs (cell_left m) (ready_theirs m) in
         exchanges m n (put (mine_first m n))

@@ -135,8 +135,8 @@ module _ (forms : List ℕ) (process : Place) (at from : ℕ) (z : Sizes) (turns
           given = few_given;
           slack = omega (arith, m.grows.slack, holds.slack);
           threads =
-              let made-threads = m.products (omega (arith, few_made)) few_given c number [] none in
-              let mine_are : Pairs (Runs forms cells' products.cells) (take products.threads made') mine = rw (← named) at made-threads in
+              let made_threads = m.products (omega (arith, few_made)) few_given c number [] none in
+              let mine_are : Pairs (Runs forms cells' products.cells) (take products.threads made') mine = rw (← named) at made_threads in
               rw (p.placed yes) (pairs_replaced at from (all_kept_lem forms cells cells' z.cells products.cells m.grows.kept m.grows.cells holds.threads) mine_are);
           types = m.given few_given ∙ ap (λ l. l ++ news (remaining_at forms process)) holds.types;
           known =

@@ -159,17 +159,17 @@ par_begun s at nest some next begins second before left between after r same n e
     let b = parts (read_process down s names a.place) (λ y k. got (par a.value y) k) a.rest in
     let v : par a.value b.value ≡ p = let z = b.rest in cc in
     let w : b.place ≡ end = let z = b.rest in cc in
-    let left-noted = n fitted names a.value a.place a.first in
-    let m : second ≡ a.place = left-noted.next in
+    let left_noted = n fitted names a.value a.place a.first in
+    let m : second ≡ a.place = left_noted.next in
     let wide : Fitted s left = record { short = fitted.short; long = omega (arith, fitted.long) } in
-    let right-noted = k (fitted_set s left between at (packed_form Par next second) e wide) names b.value b.place (rw m b.first) in
+    let right_noted = k (fitted_set s left between at (packed_form Par next second) e wide) names b.value b.place (rw m b.first) in
     rw (v, w) at (noted_parts (λ forms. process_in down forms next) (λ forms. process_in down forms a.place) (λ forms. process_in (suc down) forms at)
     par a.value b.value at next a.place b.place (packed_form Par next a.place) before left between after second r
     (omega (arith, fitted.long)) same lt
     (omega (arith, process_later down s names next a.first)) (omega (arith, process_later down s names a.place b.first))
     (λ forms i. process_two down forms at next a.place (omega (arith, fitted.short, process_in_lem s next down names a.first))
     (omega (arith, fitted.short, process_in_lem s a.place down names b.first)) i)
-    left-noted (rw m at e) (rw m at right-noted)))
+    left_noted (rw m at e) (rw m at right_noted)))
 
 -- Where the walk over a process stands, on its way from `from` on: once the process at `at` is noted, so is the whole.
 pub record Walking (s : List ℕ) (from levels : ℕ) (forms₀ : List ℕ) (at nest : ℕ) (forms : List ℕ) : Type 0 where

@@ -4,7 +4,7 @@ ghost use Rattle.reading.specs.Told.{path_of};
 ghost use Rattle.inference.specs.Lists.{every, any};
 ghost use Rattle.sharing.specs.Sums.{sum_count};
 ghost use Rattle.policy.specs.Syntax.{has_bit};
-ghost use Rattle.fit.specs.Grants.{stored_count, listed as listedIn};
+ghost use Rattle.fit.specs.Grants.{stored_count, listed as listed_in};
 ghost use Rattle.policy.specs.Rows.{items_at, permissions_of, flats};
 ghost use Rattle.fit.specs.Givers.{index_of, giver_in, Marked, row_in, given_rows, given_at, granting_row, granting_rows, joined_at};
 
@@ -245,7 +245,7 @@ pub fn flag_granted(nodes: &[u16], givers: Givers, value: usize) -> bool
 // The stored count for a group in a list, 0 where it is absent.
 fn listed(c: &[u8], p: Permissions, group: usize) -> usize
     requires { (p.list < 8192) × (p.count < 128) }
-    ensures result_value { stored_count result ≡ listedIn group (items_at p.count c.now p.list) }
+    ensures result_value { stored_count result ≡ listed_in group (items_at p.count c.now p.list) }
     ensures upper_bound { result < 65536 }
 {
     let mut i: usize = 0;
@@ -260,7 +260,7 @@ fn listed(c: &[u8], p: Permissions, group: usize) -> usize
 
 // The stored count for a group that a row gives.
 fn count_at(c: &[u8], nodes: &[u16], row: usize, group: usize) -> usize
-    ensures result_value { stored_count result ≡ listedIn group (given_at c.now nodes.now row).list }
+    ensures result_value { stored_count result ≡ listed_in group (given_at c.now nodes.now row).list }
     ensures upper_bound { result < 65536 }
 {
     listed(c, given_at(nodes, row), group)

@@ -193,9 +193,9 @@ module _ (s : List ℕ) (c : Component) (b : Bool) (at nest names : ℕ) (scope 
           → (scope₁ : List ℕ) → scope₁ ≡ set scope names v
           → Finds c b (process_tree (nest - 1) s (names + 1) next) (names + 1) scope₁ scope' table table' w → Here scope' table' w
       unfolding process_grown
-      new_walked v next found room e wide scope₁ bound-as h =
+      new_walked v next found room e wide scope₁ bound_as h =
           grown (New v) next (new_at s at nest names deep here e room found) scope' table' w
-          (under_new (process_tree (nest - 1) s (names + 1) next) names v c b scope scope₁ scope' table table' w bound-as wide room h)
+          (under_new (process_tree (nest - 1) s (names + 1) next) names v c b scope scope₁ scope' table table' w bound_as wide room h)
 
       pub repl_walked : get_or s at 0 ≡ 7
           → Finds c true (process_tree (nest - 1) s names (at + 1)) names scope scope' table table' w → Here scope' table' w
@@ -211,10 +211,10 @@ module _ (s : List ℕ) (c : Component) (b : Bool) (at nest names : ℕ) (scope 
             → table₁ ≡ charge table c.number (need_on false (get_elem? (take names scope) x)) b
             → Finds c b (process_tree (nest - 1) s (names + 1) next) (names + 1) scope₁ scope' table₁ table' w → Here scope' table' r
         unfolding process_grown
-        input_walked v next found room e wide scope₁ bound-as x table₁ i p q h =
+        input_walked v next found room e wide scope₁ bound_as x table₁ i p q h =
             grown (Input (record { channel = x; object = v })) next (rw i (input_at s at nest names deep here e room found)) scope' table' r
             (after_input (process_tree (nest - 1) s (names + 1) next) x v names c b scope scope' table table₁ table' z w r together p q
-            (under_new (process_tree (nest - 1) s (names + 1) next) names v c b scope scope₁ scope' table₁ table' w bound-as wide room h))
+            (under_new (process_tree (nest - 1) s (names + 1) next) names v c b scope scope₁ scope' table₁ table' w bound_as wide room h))
 
         pub output_walked : (x o : ℕ) (table₁ : List ℕ) → get_or s at 0 ≡ 6 → at + 2 < length s
             → x ≡ get_or s (at + 1) 0 → o ≡ get_or s (at + 2) 0

@@ -138,17 +138,17 @@ once_more g (twice_more {g = x} {rest = rest} e more) h =
 
 -- A path with one more group fits a row.
 fits_more : (path : List ℕ) (g : ℕ) → FitsRow path → length path < 8 → NewTo path g → FitsRow (path ++ (g ∷ []))
-fits_more path g h short new-to = record {
+fits_more path g h short new_to = record {
   short = rw (length-append path (g ∷ [])) (omega arith);
   groups = λ i p. each i (rw (length-append path (g ∷ [])) at p);
-  once = once_more g h.once new-to.fresh;
+  once = once_more g h.once new_to.fresh;
 }
   where
     each : (i : ℕ) → i < length path + 1 → get_or (path ++ (g ∷ [])) i 0 < 64
     each i p = go (ℕ_discrete i (length path))
       where
         go : Dec (i ≡ length path) → get_or (path ++ (g ∷ [])) i 0 < 64
-        go (yes e) = rw (e, get_or-append_seam path g [] 0) new-to.small
+        go (yes e) = rw (e, get_or-append_seam path g [] 0) new_to.small
         go (no f) =
             let lt : i < length path = omega arith in
             rw (get_or-append path (g ∷ []) 0 i lt) (h.groups i lt)

@@ -292,8 +292,8 @@ module _ (s forms₀ forms threads threads' types types₁ types' cells cells₁
         types_room = n.room.type_room;
         cells_room = n.room.cell_few;
       } in
-      let n-forms = notes (record { short = short; long = wide }) count [] 0 sheet.system p.end body in
-      let tree : system_in 64 forms g.next ≡ sheet.system = n-forms.decoded forms (λ i h k. refl) in
+      let n_forms = notes (record { short = short; long = wide }) count [] 0 sheet.system p.end body in
+      let tree : system_in 64 forms g.next ≡ sheet.system = n_forms.decoded forms (λ i h k. refl) in
       let few_components : components sheet.system ≤ 32 = (let f = components_few current 64 s count [] 0 g.next (omega arith) body in omega arith) in
       let w = rw tree at (makes (rw tree (omega (arith, few_components))) ready) in
       let scope : chain cells₁ g.sizes.names g.sizes.names ≡ rising 0 count = rw names_are n.chained in

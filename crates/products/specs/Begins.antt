@@ -52,9 +52,9 @@ pub record GivenFree (s types types' cells cells' : List ℕ) (r : Made) : Type 
       → (r.next ≡ at) × Named (length free) free types' cells' r.sizes
 
 -- The threads and names of a sheet at its start: how many there are, and which, where all fit.
-pub record MadeSheet (forms : List ℕ) (sheet : Sheet) (threadTable type_table cells : List ℕ) (z : Sizes) : Type 0 where
+pub record MadeSheet (forms : List ℕ) (sheet : Sheet) (thread_table type_table cells : List ℕ) (z : Sizes) : Type 0 where
   pub crowded : z.threads ≡ min 65 (length (start sheet).threads)
   pub named : z.names ≡ min 1025 (length (start sheet).types)
   pub slack : z.cells ≤ z.names + 1
   pub types : z.names ≤ 1024 → take z.names type_table ≡ (start sheet).types
-  pub threads : z.threads ≤ 64 → z.names ≤ 1024 → Pairs (Runs forms cells z.cells) (take z.threads threadTable) (start sheet).threads
+  pub threads : z.threads ≤ 64 → z.names ≤ 1024 → Pairs (Runs forms cells z.cells) (take z.threads thread_table) (start sheet).threads

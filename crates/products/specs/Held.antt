@@ -18,12 +18,12 @@ pub record Runs (forms cells : List ℕ) (top w : ℕ) (t : Thread) : Type 0 whe
   pub deep : (unpacked w).nest ≤ 64
 
 -- The state that memory holds after at most `turns` receives. No name that is yet to come is known to the environment.
-pub record Holds (forms : List ℕ) (z : Sizes) (turns : ℕ) (threadTable type_table : List ℕ) (known_table : List Bool) (cells : List ℕ)
+pub record Holds (forms : List ℕ) (z : Sizes) (turns : ℕ) (thread_table type_table : List ℕ) (known_table : List Bool) (cells : List ℕ)
     (state : State) : Type 0 where
   pub few : z.threads ≤ 64
   pub given : z.names ≤ 1024
   pub slack : z.cells ≤ z.names + turns
-  pub threads : Pairs (Runs forms cells z.cells) (take z.threads threadTable) state.threads
+  pub threads : Pairs (Runs forms cells z.cells) (take z.threads thread_table) state.threads
   pub types : take z.names type_table ≡ state.types
   pub known : take z.names known_table ≡ state.known
   pub quiet : (i : ℕ) → z.names ≤ i → get_or known_table i false ≡ false

@@ -19,7 +19,7 @@ use Rattle.reading.specs.declared.Number.{Number}
 use Rattle.reading.specs.declared.NumberRead.{NumberRead}
 use Rattle.reading.specs.declared.NumberRead.TheVariants as number_read
 use Rattle.reading.specs.declared.Refusal.{Refusal}
-use Rattle.reading.proofs.Parts.{never, passed as test-passed}
+use Rattle.reading.proofs.Parts.{never, passed as test_passed}
 use Rattle.reading.proofs.ReadLaws.{one_tree}
 use Rattle.reading.proofs.TreeLaws.{SheetParts, sheet_parts}
 use Rattle.inference.specs.Interface.{Entry, interface, Required, required_of}
@@ -167,7 +167,7 @@ pub ruleset policy_judging = (rules, charter_unread, bounded, policy_fails, entr
 -- Questions 7 to 18 of a sheet that reads.
 pub sheet_reads : (s c : List ℕ) (sheet : Sheet) (k : ℕ) → sheet_of s c ≡ got sheet k → read_sheet s ≡ got sheet k
 unfolding sheet_of_in
-sheet_reads s c sheet k e = (test-passed (leb (length s) 4096 && leb (length c) 4096) (read_sheet s) 1 4096 e).then
+sheet_reads s c sheet k e = (test_passed (leb (length s) 4096 && leb (length c) 4096) (read_sheet s) 1 4096 e).then
 
 abbrev Infers : List ℕ → List ℕ → List ℕ → SystemWalk → Type 0
 Infers s table table' walk = (sheet : Sheet) (k : ℕ) → read_sheet s ≡ got sheet k → InferredSheet sheet table table' walk

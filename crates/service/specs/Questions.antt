@@ -56,10 +56,10 @@ pub record Accepted : Type 0 where
 
 -- Questions 1 to 18, from what the readings of a sheet and of a charter answer.
 unfoldable pub judged_from : Read Sheet → Read (List Tree) → Asked Accepted
-judged_from sheetRead charterRead =
-    after_reading sheetRead (λ sheet.
+judged_from sheet_read charter_read =
+    after_reading sheet_read (λ sheet.
     typed (sheet_acts sheet)
-    (after_reading charterRead (λ policy.
+    (after_reading charter_read (λ policy.
     well_formed policy
     (satisfied policy (required_of sheet) (passed (record { sheet = sheet; policy = policy }))))))
 

@@ -4,12 +4,12 @@ use mathlib.Core.Path.{◌≡◌, refl}
 use lib.ListN.{replicate}
 use Rattle.service.specs.Questions.{passed, failed}
 use Rattle.service.specs.Check.{Outcome}
-use Rattle.service.proofs.Computed.{computed as service-computed, Row, row, writes, refuses, output, wanted}
+use Rattle.service.proofs.Computed.{computed as service_computed, Row, row, writes, refuses, output, wanted}
 use Rattle.service.proofs.Table.{w, w_charter}
 use Rattle.slack.specs.Slack.{count_bytes, verdict_bytes, on_group, sums_bytes, slack_entry, slack_bytes, slack_for, slack_told}
 
 unfoldable pub computed : Unit {0}
-unfolding service-computed count_bytes verdict_bytes on_group sums_bytes slack_entry slack_bytes slack_for slack_told
+unfolding service_computed count_bytes verdict_bytes on_group sums_bytes slack_entry slack_bytes slack_for slack_told
 computed = tt
 
 abbrev got : Row → Outcome
