@@ -1,7 +1,7 @@
 /* Velimhaw's seven services for C and C++: check a sheet against a charter, tell how much the charter leaves over, explain a refusal with
  * 18, play a script on an accepted sheet, move an old sheet over to the form with purposes and a sheet back to the old form, and say
- * whether a charter is no looser than another; and what takes the bytes they write apart. Link target/staticlib/libvelimhaw.a, which
- * `rt staticlib velimhaw` writes (x86-64 Linux).
+ * whether a charter is no looser than another; and what takes the bytes they write apart. Link target/staticlib/libvelimhaw.a
+ * (x86-64 Linux), a copy of crates/velimhaw_c/out/libvelimhaw_c.a, which `rt lib` in crates/velimhaw_c writes.
  *
  * An answer is one number; that of velimhaw_no_looser is 1 for yes and 0 for no. Of all others: below VELIMHAW_ACCEPTED it is the number
  * of the first question that fails (docs/REFERENCE.md, question N; velimhaw_question gives its line), and the output, line or log keeps
