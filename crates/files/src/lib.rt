@@ -1,13 +1,17 @@
 // What the programs share: a file read into a buffer, the first bytes of a buffer, and the one line of a refusal.
 #![tactic(auto)]
 
+ghost use Rattle.std.specs.Prelude.{◌≤◌, length};
+
 use std::fs::File;
 use std::io;
 use std::io::{Print, Read};
 use std::rt::Files;
 
 // Reads into a buffer until it is full, nothing more comes or a read fails; how many bytes there were.
-pub fn read_full(source: &mut impl Read, buf: &mut [u8]) -> usize {
+pub fn read_full(source: &mut impl Read, buf: &mut [u8]) -> usize
+    ensures { result ≤ length buf.new }
+{
     let mut done: usize = 0;
     while done < buf.len() {
         match source.read(&mut buf[done..]) {
@@ -24,7 +28,9 @@ pub fn read_full(source: &mut impl Read, buf: &mut [u8]) -> usize {
 }
 
 // Reads a file into a buffer, as much as fits; an absent file has no bytes.
-pub fn load(rt: &impl Files, path: &str, buf: &mut [u8]) -> usize {
+pub fn load(rt: &impl Files, path: &str, buf: &mut [u8]) -> usize
+    ensures { result ≤ length buf.new }
+{
     match File::open(rt, path) {
         Ok(mut file) => read_full(&mut file, buf),
         Err(_) => 0,
