@@ -1,5 +1,5 @@
 -- What the walk over a stored sheet does, on its bytes alone: form by form, and how a copy into another dialect goes. Where the bytes are
--- the stored form of a sheet, the copy is its stored form in the other dialect (`Copy-is` of proofs/CopyLaws.antt).
+-- the stored form of a sheet, the copy is its stored form in the other dialect (`copy_is` of proofs/CopyLaws.antt).
 use Rattle.std.specs.Prelude.{ℕ, zero, suc, ◌+◌, ◌-◌, min, ◌≡◌, List, [], ◌∷◌, ◌++◌, cond, length, get_or, take, drop, ltb, eqb}
 use Rattle.reading.specs.declared.Dialect.{Dialect}
 use Rattle.encoding.specs.Encoding.{purpose_bytes}
