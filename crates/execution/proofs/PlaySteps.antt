@@ -67,17 +67,17 @@ module _ (script log : List ℕ) (n : ℕ) (h : n ≡ moves_in (read_script scri
 
 -- The same for every state that memory holds.
 module _ (forms script log threads types : List ℕ) (known : List Bool) (cells : List ℕ) (z : Sizes) (n : ℕ) (h : n ≡ moves_in (read_script script)) where
-  abbrev Played_so : List ℕ → Answer → Type 0
-  Played_so log' a = (state : State) → Holds forms z 1 threads types known cells state → Comes (played_script state script log) log' a
+  abbrev PlayedSo : List ℕ → Answer → Type 0
+  PlayedSo log' a = (state : State) → Holds forms z 1 threads types known cells state → Comes (played_script state script log) log' a
 
   abbrev first_point : Point
   first_point = record { at = 0; done = 0; sizes = z }
 
-  pub script_fails : n ≡ 65535 → Played_so log (answer_case.Refused 21)
+  pub script_fails : n ≡ 65535 → PlayedSo log (answer_case.Refused 21)
   script_fails k state holds = refused_so script log n h state k
 
   module _ (read : n ≡ 65535 → ⊥) where
-    pub log_short : length log / 8 < n → Played_so log (answer_case.Refused 22)
+    pub log_short : length log / 8 < n → PlayedSo log (answer_case.Refused 22)
     log_short k state holds = short_so script log n h read state k
 
     module _ (k : n ≤ length log / 8) where
@@ -103,7 +103,7 @@ module _ (forms script log threads types : List ℕ) (known : List Bool) (cells 
 
       pub log_written : (log' : List ℕ)
           → ((run : List ℕ) → Going forms script run n first_point log threads types known cells → log' ≡ ran_over run log)
-          → Played_so log' (answer_case.Accepted n)
+          → PlayedSo log' (answer_case.Accepted n)
       log_written log' w state holds =
           written_so script log n h read state log' k (w (run_log state (moves_of script)) (begins_so state holds))
 

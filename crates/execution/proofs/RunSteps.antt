@@ -24,7 +24,7 @@ use Rattle.script.specs.declared.Move.{Move as Step}
 use Rattle.script.specs.declared.Move.TheVariants as step_case
 use Rattle.script.specs.declared.MovePlace.{MovePlace}
 use Rattle.script.specs.declared.MoveRead.{MoveRead}
-use Rattle.script.specs.declared.MoveRead.TheVariants as Move_read
+use Rattle.script.specs.declared.MoveRead.TheVariants as move_read_variants
 use Rattle.script.proofs.ScriptLaws.{More, more_moves, no_more}
 use Rattle.transitions.specs.Steps.{TypeFits, Stepped}
 use Rattle.transitions.specs.declared.Moved.{Moved}
@@ -65,7 +65,7 @@ fits_so (step_case.ReceiveIn p) h = h
 fits_so (step_case.Communicate p) h = h
 fits_so (step_case.EnvironmentName t) h = h
 
-pub move_fits : (s : List ℕ) (at : ℕ) (r : MoveRead) (f : MovePlace) → move_read r ≡ move_at s at → r ≡ Move_read.Found f → TypeFits f.step
+pub move_fits : (s : List ℕ) (at : ℕ) (r : MoveRead) (f : MovePlace) → move_read r ≡ move_at s at → r ≡ move_read_variants.Found f → TypeFits f.step
 move_fits s at r f e found = fits_so f.step (of_found Brings (move_at s at) (brings s at) (sym e ∙ ap move_read found))
 
 -- The step that a move of a run makes.
@@ -90,10 +90,10 @@ module _ (forms script run : List ℕ) (count : ℕ) (p : Point) (log threads ty
       go (no f) = more_moves (1024 - p.done) script p.at g.reads f
 
   module _ (h : p.done < count) (r : MoveRead) (e : move_read r ≡ move_at script p.at) where
-    pub never_refused : (q : Refusal) → r ≡ Move_read.Refused q → Turned forms script run count p log log threads types known cells p
+    pub never_refused : (q : Refusal) → r ≡ move_read_variants.Refused q → Turned forms script run count p log log threads types known cells p
     never_refused q f = never (ap move_read (sym f) ∙ e ∙ (next_there h).next.first)
 
-    module _ (f : MovePlace) (found : r ≡ Move_read.Found f) where
+    module _ (f : MovePlace) (found : r ≡ move_read_variants.Found f) where
       record Reached : Type 0 where
         others : List Move
         all : g.rest ≡ move_of f.step ∷ others
@@ -143,11 +143,11 @@ module _ (forms script run : List ℕ) (count : ℕ) (p : Point) (log threads ty
 -- The same for every run that goes on so.
 module _ (forms script : List ℕ) (count : ℕ) (p : Point) (log threads types : List ℕ) (known : List Bool) (cells : List ℕ) (h : p.done < count)
     (r : MoveRead) (e : move_read r ≡ move_at script p.at) where
-  pub none_refused : (q : Refusal) → r ≡ Move_read.Refused q → (run : List ℕ) → Going forms script run count p log threads types known cells
+  pub none_refused : (q : Refusal) → r ≡ move_read_variants.Refused q → (run : List ℕ) → Going forms script run count p log threads types known cells
       → Turned forms script run count p log log threads types known cells p
   none_refused q f run g = never_refused forms script run count p log threads types known cells g h r e q f
 
-  pub all_turned : (f : MovePlace) → r ≡ Move_read.Found f → (threads' types' : List ℕ) (known' : List Bool) (cells' : List ℕ) (moved : Moved) (log' : List ℕ)
+  pub all_turned : (f : MovePlace) → r ≡ move_read_variants.Found f → (threads' types' : List ℕ) (known' : List Bool) (cells' : List ℕ) (moved : Moved) (log' : List ℕ)
       → count + 1029 ≤ length cells
       → Steps forms threads types known cells p f threads' types' known' cells' moved
       → log' ≡ take (p.done * 8) log ++ (bytes_of moved.line ++ drop (p.done * 8 + 8) log)

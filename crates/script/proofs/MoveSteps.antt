@@ -14,10 +14,10 @@ use Rattle.running.specs.Script.{move_from}
 use Rattle.script.specs.Fields.{unfold_at, send_at, receipt_at, communication_at, environment_name_at}
 use Rattle.script.specs.Told.{move_read}
 use Rattle.script.specs.declared.MoveRead.{MoveRead}
-use Rattle.script.specs.declared.MoveRead.TheVariants as Move_read
+use Rattle.script.specs.declared.MoveRead.TheVariants as move_read_variants
 
 pub stops_move : (r : MoveRead) (n : NumberRead) (x : Read ℕ) (f : ℕ → ℕ → Read Move) (q : Refusal)
-    → r ≡ Move_read.Refused (refusal_of n) → n ≡ number_read.Refused q → number n ≡ x → move_read r ≡ and_then x f
+    → r ≡ move_read_variants.Refused (refusal_of n) → n ≡ number_read.Refused q → number n ≡ x → move_read r ≡ and_then x f
 unfolding and_then
 stops_move r n x f q e h p = rw (← p, e, h)
 

@@ -5,7 +5,7 @@ use Rattle.running.specs.Moves.{Move as Transition, unfold_repl, send_out, recei
 use Rattle.script.specs.declared.Move.{Move}
 use Rattle.script.specs.declared.Move.TheVariants as move
 use Rattle.script.specs.declared.MoveRead.{MoveRead}
-use Rattle.script.specs.declared.MoveRead.TheVariants as Move_read
+use Rattle.script.specs.declared.MoveRead.TheVariants as move_read_variants
 use Rattle.script.specs.declared.Record.{Record}
 
 unfoldable pub move_of : Move → Transition
@@ -16,8 +16,8 @@ move_of (move.Communicate m) = communicate m.sender m.receiver
 move_of (move.EnvironmentName t) = environment_name t
 
 abbrev pub move_read : MoveRead → Read Transition
-move_read (Move_read.Found p) = got (move_of p.step) p.next
-move_read (Move_read.Refused r) = refused r.question r.at
+move_read (move_read_variants.Found p) = got (move_of p.step) p.next
+move_read (move_read_variants.Refused r) = refused r.question r.at
 
 -- n is how many bytes a move has that was read from a place on; 0 where none was read
 unfoldable pub Spans : ℕ → Read Transition → ℕ → Type 0
