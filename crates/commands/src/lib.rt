@@ -94,9 +94,9 @@ pub fn list(rt: &(impl Files + Print)) -> io::Result<()> {
     let mut sheet = [0u8; 4097];
     let mut charter = [0u8; 4097];
     let mut names = [0u8; 1681];
-    let s = load(rt, "sheet.bin", &mut sheet);
-    let c = load(rt, "charter.bin", &mut charter);
-    let n = load(rt, "names.bin", &mut names);
+    let s = load(rt, b"sheet.bin", &mut sheet);
+    let c = load(rt, b"charter.bin", &mut charter);
+    let n = load(rt, b"names.bin", &mut names);
     print_listing(
         rt,
         first(&sheet, s),
@@ -113,9 +113,9 @@ pub fn run(rt: &(impl Files + Print)) -> io::Result<()> {
     let mut charter = [0u8; 4097];
     let mut script = [0u8; 7169];
     let mut log = [0u8; 8192];
-    let s = load(rt, "sheet.bin", &mut sheet);
-    let c = load(rt, "charter.bin", &mut charter);
-    let m = load(rt, "script.bin", &mut script);
+    let s = load(rt, b"sheet.bin", &mut sheet);
+    let c = load(rt, b"charter.bin", &mut charter);
+    let m = load(rt, b"script.bin", &mut script);
     let answer = play(
         first(&sheet, s),
         first(&charter, c),
@@ -146,7 +146,7 @@ pub fn write_moved(rt: &impl Print, answer: Answer, output: &[u8]) -> io::Result
 pub fn upgrade(rt: &(impl Files + Print)) -> io::Result<()> {
     let mut sheet = [0u8; 4097];
     let mut output = [0u8; 4096];
-    let s = load(rt, "sheet.bin", &mut sheet);
+    let s = load(rt, b"sheet.bin", &mut sheet);
     let answer = moving::upgrade(first(&sheet, s), &mut output);
     write_moved(rt, answer, &output)
 }
@@ -155,7 +155,7 @@ pub fn upgrade(rt: &(impl Files + Print)) -> io::Result<()> {
 pub fn downgrade(rt: &(impl Files + Print)) -> io::Result<()> {
     let mut sheet = [0u8; 4097];
     let mut output = [0u8; 4096];
-    let s = load(rt, "sheet.bin", &mut sheet);
+    let s = load(rt, b"sheet.bin", &mut sheet);
     let answer = moving::downgrade(first(&sheet, s), &mut output);
     write_moved(rt, answer, &output)
 }
@@ -173,7 +173,7 @@ pub fn print_compared(rt: &impl Print, charter: &[u8], before: &[u8]) -> io::Res
 pub fn stricter(rt: &(impl Files + Print)) -> io::Result<()> {
     let mut charter = [0u8; 4097];
     let mut before = [0u8; 4097];
-    let c = load(rt, "charter.bin", &mut charter);
-    let b = load(rt, "before.bin", &mut before);
+    let c = load(rt, b"charter.bin", &mut charter);
+    let b = load(rt, b"before.bin", &mut before);
     print_compared(rt, first(&charter, c), first(&before, b))
 }

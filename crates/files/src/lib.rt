@@ -27,11 +27,14 @@ pub fn read_full(source: &mut impl Read, buf: &mut [u8]) -> usize
     done
 }
 
-// Reads a file into a buffer, as much as fits; an absent file has no bytes.
-pub fn load(rt: &impl Files, path: &str, buf: &mut [u8]) -> usize
+// Reads a file into a buffer, as much as fits; an absent file has no bytes, nor has one whose path is not text: std opens none such.
+pub fn load(rt: &impl Files, path: &[u8], buf: &mut [u8]) -> usize
     ensures { result ≤ length buf.new }
 {
-    match File::open(rt, path) {
+    let Ok(text) = str::from_utf8(path) else {
+        return 0;
+    };
+    match File::open(rt, text) {
         Ok(mut file) => read_full(&mut file, buf),
         Err(_) => 0,
     }
