@@ -4,16 +4,18 @@
 usage: python3 tools/respell.py            once, after the kit's port.py, with everything committed: the crates
        python3 tools/respell.py OLD..      these names of the table alone (a second run over all of it would take a definition's new
                                            name for the old one of a lemma)
-       python3 tools/respell.py --pages    the names that README.md and docs/*.md cite between backquotes
+       python3 tools/respell.py --pages    once too: the names that README.md and docs/*.md but PORT.md cite between backquotes; a function's
+                                           name that is a lemma's old one is taken for it, so read the diff
 
 The rule of the spelling: words in snake case; types, modules and facts in upper camel case; no dashes in names of our own (an attribute
 `using(..)` takes Rust's identifiers alone); a lemma that would have its definition's name ends in _lem. A line of the table is
-`OLD NEW CRATE..`: the crates whose specs/ or proofs/ declare the name, as a definition, lemma, field, constructor, parameter, helper or alias.
+`OLD NEW CRATE..`: the name as port.py left it, the new one, and the crates whose specs/ or proofs/ declare it, as a definition, lemma,
+field, constructor, parameter, helper or alias.
 
 What it turns: .antt of specs/ and proofs/; clauses, imports and backquoted names of comments in src/*.rt; the lines old: and new: of
 must-fail edits, whose other words it brings to the spelling that port.py gave the files (port.py leaves edits alone).
-What it leaves: functions and variables of src/, strings, names that a file imports from a library, and names that Rattle makes
-(those after `tie.`, `goal.`, `X-lts.`, and `f-spec`). It gives no verdict: rt check and rt ci do.
+What it leaves: functions and variables of src/, strings, names that a file imports from a library, names that Rattle makes (those
+after `tie.`, `goal.`, `X-lts.`, and `f-spec`), and helpers inside a walk (proofs/F/Proof.antt), which are named after its goals. It gives no verdict: rt check and rt ci do.
 """
 import glob, os, re, sys
 
@@ -158,7 +160,7 @@ def main(pages, only):
     if only:
         names = {o: n for o, n in names.items() if o in only}
     if pages:
-        paths, kind = ["README.md"] + sorted(glob.glob("docs/*.md")), lambda p, t, h: cited(t, names)
+        paths, kind = ["README.md"] + [p for p in sorted(glob.glob("docs/*.md")) if p != "docs/PORT.md"], lambda p, t, h: cited(t, names)
     else:
         paths = [p for pattern in ("specs/**/*.antt", "proofs/**/*.antt", "src/**/*.rt", "must-fail/*.edit")
                  for p in sorted(glob.glob("crates/*/" + pattern, recursive=True))]
