@@ -10,7 +10,7 @@ use reading::Shape;
 use reading::types::shape_of;
 
 // The permission that an act needs, for data of a base type (document 01: kind).
-#[derive(Clone, Copy)]
+#[derive(Clone, Copy, Debug, PartialEq, Eq)]
 pub enum Need {
     Nothing,
     Read(usize),
@@ -20,7 +20,7 @@ pub enum Need {
 }
 
 // What a channel carries: plain data, a channel of plain data, or anything deeper.
-#[derive(Clone, Copy)]
+#[derive(Clone, Copy, Debug, PartialEq, Eq)]
 enum Carried {
     Data(usize),
     Link(usize),

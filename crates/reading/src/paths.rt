@@ -5,6 +5,15 @@ ghost use Rattle.reading.specs.Told.{path_of};
 
 use crate::Path;
 
+impl Path {
+    /// The groups of the path, the innermost last.
+    pub fn groups(&self) -> &[u16]
+        ensures { result.now ≡ path_of self.now }
+    {
+        &self.groups[..self.len.min(8)]
+    }
+}
+
 pub fn empty() -> Path
     ensures { path_of result ≡ [] }
 {
