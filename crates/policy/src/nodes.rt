@@ -13,6 +13,7 @@ fn wide(x: u16) -> usize
     x as usize
 }
 
+#[tactic(auto, using(crate::proofs::NodeLaws::node_steps))]
 fn cell(nodes: &[u16], at: usize) -> usize
     ensures { result ≡ get_or nodes.now at 0 }
 {
@@ -20,6 +21,7 @@ fn cell(nodes: &[u16], at: usize) -> usize
 }
 
 // The node in a row, each cell within its range.
+#[tactic(auto, using(crate::proofs::NodeLaws::node_steps))]
 pub fn node_at(nodes: &[u16], row: usize) -> Node
     requires { row ≤ 64 }
     ensures { result ≡ node_at nodes.now row }
@@ -38,6 +40,7 @@ pub fn node_at(nodes: &[u16], row: usize) -> Node
     }
 }
 
+#[tactic(auto, using(crate::proofs::NodeLaws::node_steps))]
 fn put(nodes: &mut [u16], at: usize, value: usize)
     ensures { nodes.new ≡ set nodes.old at (value % 65536) }
 {
@@ -62,6 +65,7 @@ pub fn store_node(nodes: &mut [u16], row: usize, node: Node)
 }
 
 // The two-byte number at a place of a policy, the low byte first.
+#[tactic(auto, using(crate::proofs::NodeLaws::node_steps), unfolding(crate::specs::Rows::word_in))]
 pub fn word_in(c: &[u8], at: usize) -> usize
     requires { at < 1000000 }
     ensures value { result ≡ word_in c.now at }
@@ -71,6 +75,7 @@ pub fn word_in(c: &[u8], at: usize) -> usize
 }
 
 // Bit 2 ^ k of a map; `value` is 2 ^ k.
+#[tactic(auto, unfolding(crate::specs::Syntax::has_bit))]
 pub fn has_bit(map: usize, value: usize) -> bool
     requires { 0 < value }
     ensures { result ≡ has_bit value map }
@@ -79,6 +84,7 @@ pub fn has_bit(map: usize, value: usize) -> bool
 }
 
 // Bit `place` of a map.
+#[tactic(auto, using(crate::proofs::BitSteps::bit_steps))]
 pub fn bit_at(map: usize, place: usize) -> bool
     ensures { result ≡ bit_at place map }
 {
@@ -99,6 +105,7 @@ pub fn wide_byte(b: u8) -> usize
 }
 
 // The rows of the t-th tree.
+#[tactic(auto, using(crate::proofs::SpanSteps::span_steps))]
 pub fn span_of(trees: Trees, t: usize) -> Span
     requires { t < 16 }
     ensures { (result.from ≡ start_of trees t) × (result.to ≡ get_or trees.ends t 0) }

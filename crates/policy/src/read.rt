@@ -37,6 +37,7 @@ fn fault(at: usize) -> NumberRead
 }
 
 // A two-byte number, the low byte first.
+#[tactic(auto, using(crate::proofs::ListSteps::word_steps), unfolding(crate::specs::Reading::two_bytes))]
 pub fn two_bytes(c: &[u8], at: usize) -> NumberRead
     ensures { number result ≡ two_bytes c.now at }
 {
@@ -55,6 +56,7 @@ pub fn two_bytes(c: &[u8], at: usize) -> NumberRead
 }
 
 // 1 to 4,095, or 65,535 for unlimited.
+#[tactic(auto, using(crate::proofs::ListSteps::count_steps))]
 fn is_count(n: usize) -> bool
     ensures { result ≡ is_count n }
 {
@@ -68,6 +70,7 @@ fn is_count(n: usize) -> bool
 }
 
 // An item of a disclose list, whose group is at least `lowest`; the number found is its group.
+#[tactic(auto, using(crate::proofs::ListSteps::item_steps))]
 fn item_at(c: &[u8], at: usize, lowest: usize) -> NumberRead
     ensures { number result ≡ group_only (item_at c.now lowest at) }
 {
@@ -93,6 +96,7 @@ fn item_at(c: &[u8], at: usize, lowest: usize) -> NumberRead
 }
 
 // Reads past `count` items, groups strictly rising; the number found is `count`.
+#[tactic(auto, using(crate::proofs::ListSteps::list_steps))]
 fn read_list(c: &[u8], at: usize, count: usize) -> NumberRead
     ensures { number result ≡ count_only (read_list count c.now 0 at) }
 {
@@ -112,6 +116,7 @@ fn read_list(c: &[u8], at: usize, count: usize) -> NumberRead
 }
 
 // A counted list: 1 to 64 items.
+#[tactic(auto, using(crate::proofs::ListSteps::counted_steps))]
 fn counted_list(c: &[u8], at: usize) -> NumberRead
     ensures { number result ≡ count_only (counted_list c.now at) }
 {
@@ -132,6 +137,7 @@ fn not_permissions(read: NumberRead) -> PermissionsRead
 }
 
 // The list of a permission map, where bit 4 announces one; the number found is how many items it has.
+#[tactic(auto, using(crate::proofs::PermissionSteps::announced_steps))]
 fn list_at(c: &[u8], at: usize, map: usize) -> NumberRead
     ensures { number result ≡ count_only (cond (has_bit 16 map) (counted_list c.now at) (got [] at)) }
 {
@@ -143,6 +149,7 @@ fn list_at(c: &[u8], at: usize, map: usize) -> NumberRead
 }
 
 // The purposes of a permission map: two bytes where bit 5 announces them, and otherwise all sixteen.
+#[tactic(auto, using(crate::proofs::PermissionSteps::announced_steps))]
 fn purposes_at(c: &[u8], at: usize, map: usize) -> NumberRead
     ensures { number result ≡ read_purposes map c.now at }
 {
@@ -157,6 +164,7 @@ fn purposes_at(c: &[u8], at: usize, map: usize) -> NumberRead
 }
 
 // A permission map with its list and its purposes: where the list stands, not what it holds.
+#[tactic(auto, using(crate::proofs::PermissionSteps::permission_steps))]
 fn permissions_at(c: &[u8], at: usize) -> PermissionsRead
     requires { length c.now ≤ 4096 }
     ensures result_value { permissions_read c.now result ≡ read_permissions c.now at }
@@ -203,6 +211,7 @@ fn not_opening(read: NumberRead) -> OpeningRead
 }
 
 // A node without its children, at a depth.
+#[tactic(auto, using(crate::proofs::OpeningSteps::opening_steps))]
 fn read_opening(c: &[u8], at: usize, depth: usize) -> OpeningRead
     requires { (depth < 8) × (length c.now ≤ 4096) }
     ensures result_value { opening_read c.now result ≡ read_opening c.now at }
@@ -246,6 +255,7 @@ fn why_not(read: OpeningRead) -> Refusal
 // Reads a node and the nodes below it into the table from row `used` on; the number found is that of the rows then used.
 // `level` more nodes may be nested.
 #[cycle(read_children_read_node)]
+#[tactic(auto, using(crate::proofs::NodeSteps::child_steps, crate::proofs::NodeSteps::root_steps))]
 fn read_node(c: &[u8], at: usize, level: usize, used: usize, nodes: &mut [u16]) -> NumberRead
     requires { (level ≤ 8) × (length nodes.old ≡ 384) × (length c.now ≤ 4096) }
     ensures { Loaded c.now (node_read (read_node level c.now used at)) (8 - level) used nodes.old
@@ -275,6 +285,7 @@ fn read_node(c: &[u8], at: usize, level: usize, used: usize, nodes: &mut [u16]) 
 
 // Reads `count` nodes, one after another.
 #[cycle(read_children_read_node)]
+#[tactic(auto, using(crate::proofs::NodeSteps::child_steps))]
 fn read_children(
     c: &[u8],
     at: usize,
@@ -312,6 +323,7 @@ fn unread(at: usize) -> PolicyRead
     }
 }
 
+#[tactic(auto, using(crate::proofs::TreeSteps::place_kept))]
 fn not_policy(read: NumberRead) -> PolicyRead
     ensures { result.end ≡ End.Refused (record { question = 11; at = (refusal_of read).at }) }
 {
@@ -320,6 +332,7 @@ fn not_policy(read: NumberRead) -> PolicyRead
 }
 
 // One tree more: its kind, and the row after its last node.
+#[tactic(auto, unfolding(crate::specs::Loads::with_tree))]
 fn with_tree(trees: Trees, kind: usize, end: usize) -> Trees
     requires { trees.len < 16 }
     ensures { result ≡ with_tree trees kind end }
@@ -336,6 +349,7 @@ fn with_tree(trees: Trees, kind: usize, end: usize) -> Trees
     }
 }
 
+#[tactic(auto, unfolding(crate::specs::Loads::no_trees))]
 pub fn no_trees() -> Trees
     ensures { result ≡ no_trees }
 {
@@ -347,6 +361,7 @@ pub fn no_trees() -> Trees
 }
 
 // Reads `count` trees, one after another, to the end of the policy.
+#[tactic(auto, using(crate::proofs::TreeSteps::tree_steps))]
 fn read_trees(c: &[u8], at: usize, count: usize, nodes: &mut [u16]) -> PolicyRead
     requires { (count ≤ 16) × (length nodes.old ≡ 384) × (length c.now ≤ 4096) }
     ensures { LoadedPolicy c.now (trees_to_end count c.now at) nodes.new result }
@@ -378,6 +393,7 @@ fn read_trees(c: &[u8], at: usize, count: usize, nodes: &mut [u16]) -> PolicyRea
 }
 
 // Reads a policy to its end.
+#[tactic(auto, using(crate::proofs::TreeSteps::policy_steps))]
 pub fn read_policy(c: &[u8], nodes: &mut [u16]) -> PolicyRead
     requires { (length nodes.old ≡ 384) × (length c.now ≤ 4096) }
     ensures { LoadedPolicy c.now (read_policy c.now) nodes.new result }
