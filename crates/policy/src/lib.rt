@@ -2,6 +2,9 @@
 // reading order.
 #![tactic(auto)]
 
+ghost use Rattle.std.specs.Prelude.{◌≡◌, length};
+ghost use Rattle.policy.specs.Loads.{Bounded};
+
 pub mod nodes;
 pub mod read;
 
@@ -73,4 +76,15 @@ pub struct PolicyRead {
 pub struct Span {
     pub from: usize,
     pub to: usize,
+}
+
+/// A policy that was read, as its parts are lent: the bytes of its charter, the table of its nodes and its trees. The table has 64
+/// rows of six cells, and every tree's rows are among them.
+#[derive(Clone, Copy)]
+pub struct Policy<'a> {
+    pub charter: &'a [u8],
+    pub nodes: &'a [u16],
+    pub trees: Trees,
+    pub ghost whole_table: { length nodes.now ≡ 384 },
+    pub ghost bounded: { Bounded trees },
 }

@@ -1,10 +1,11 @@
 // The table of a policy's nodes, in lent memory: a row of six cells of two bytes for each node, at most 64 rows.
-ghost use Rattle.std.specs.Prelude.{◌≡◌, ◌<◌, ◌≤◌, ◌%◌, get_or, set};
+ghost use Rattle.std.specs.Prelude.{◌≡◌, ◌<◌, ◌≤◌, ◌%◌, get_or, set, take, eqb};
+ghost use Rattle.std.specs.List.{position};
 ghost use Rattle.policy.specs.Syntax.{has_bit, bit_at};
 ghost use Rattle.policy.specs.Rows.{node_at, with_node, word_in};
 ghost use Rattle.policy.specs.Loads.{start_of};
 
-use crate::{Node, Permissions, Span, Trees};
+use crate::{Node, Permissions, Policy, Span, Trees};
 use reading::bytes::byte_in;
 
 fn wide(x: u16) -> usize
@@ -121,5 +122,49 @@ pub fn span_of(trees: Trees, t: usize) -> Span
             from: wide_byte(ends[t - 1]),
             to: wide_byte(ends[t]),
         }
+    }
+}
+
+impl<'a> Policy<'a> {
+    /// The node in a row of the table.
+    pub fn node(&self, row: usize) -> Node
+        requires { row ≤ 64 }
+        ensures { result ≡ node_at self.now.nodes.now row }
+    {
+        node_at(self.nodes, row)
+    }
+
+    /// How many trees there are, at most 16.
+    pub fn tree_count(&self) -> usize
+        ensures value { result ≡ self.now.trees.len }
+        ensures few { result ≤ 16 }
+    {
+        self.trees.len
+    }
+
+    /// The kind of the t-th tree.
+    pub fn kind(&self, t: usize) -> usize
+        requires { t < 16 }
+        ensures { result ≡ get_or self.now.trees.kinds t 0 }
+    {
+        self.trees.kinds[t] as usize
+    }
+
+    /// The rows of the t-th tree, which are rows of the table.
+    pub fn span(&self, t: usize) -> Span
+        requires { t < 16 }
+        ensures value { (result.from ≡ start_of self.now.trees t) × (result.to ≡ get_or self.now.trees.ends t 0) }
+        ensures in_table { result.to ≤ 64 }
+    {
+        span_of(self.trees, t)
+    }
+
+    /// The number of the first tree of a kind, where there is one.
+    pub fn tree_for(&self, kind: usize) -> Option<usize>
+        ensures { result ≡ position (λ k. eqb k kind) (take self.now.trees.len self.now.trees.kinds) }
+    {
+        self.trees.kinds[..self.trees.len]
+            .iter()
+            .position(|&k| k as usize == kind)
     }
 }
