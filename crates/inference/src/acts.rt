@@ -11,6 +11,7 @@ use reading::types::shape_of;
 use reading::{Path, Shape, paths};
 
 // What a send or a receive needs where the channel's name may be out of scope.
+#[tactic(auto, using(crate::proofs::NeedSteps::need_steps))]
 pub fn need_on(sends: bool, channel: Known) -> Need
     ensures { result ≡ need_on sends (known channel) }
 {
@@ -21,6 +22,7 @@ pub fn need_on(sends: bool, channel: Known) -> Need
 }
 
 // Questions 8 to 10 of an act whose names are in scope.
+#[tactic(auto, using(crate::proofs::NeedSteps::need_steps))]
 fn typed_fault(channel: usize, object: usize, path: Path) -> usize
     ensures { result ≡ fault (known (Known.Type channel)) (known (Known.Type object)) (path_of path) }
 {
@@ -37,6 +39,7 @@ fn typed_fault(channel: usize, object: usize, path: Path) -> usize
 }
 
 // The first of questions 7 to 10 that an act fails, or 11.
+#[tactic(auto, using(crate::proofs::NeedSteps::need_steps))]
 pub fn fault_of(channel: Known, object: Known, path: Path) -> usize
     ensures { result ≡ fault (known channel) (known object) (path_of path) }
 {

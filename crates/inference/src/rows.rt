@@ -32,6 +32,7 @@ use needs::Need;
 use reading::Path;
 
 // One more, or unlimited under a repeat.
+#[tactic(auto, using(crate::proofs::RowSteps::row_steps))]
 pub fn bump(count: u16, repeated: bool) -> u16
     ensures { result ≡ bumped count repeated }
 {
@@ -43,6 +44,7 @@ pub fn bump(count: u16, repeated: bool) -> u16
 }
 
 // The place of the cell of a component, a kind and a column.
+#[tactic(auto, using(crate::proofs::RowSteps::row_steps))]
 pub fn cell_of(component: usize, kind: usize, column: usize) -> usize
     requires { (component < 32) × (kind < 16) × (column < 12) }
     ensures { result ≡ cell_of component kind column }
@@ -50,6 +52,7 @@ pub fn cell_of(component: usize, kind: usize, column: usize) -> usize
     component * 211 + (18 + (kind * 12 + column))
 }
 
+#[tactic(auto, using(crate::proofs::RowSteps::row_steps))]
 fn charge_at(table: &mut [u16], at: usize, repeated: bool)
     ensures { table.new ≡ charge_at table.old at repeated }
 {
@@ -59,6 +62,7 @@ fn charge_at(table: &mut [u16], at: usize, repeated: bool)
 }
 
 // Counts once in the cell of a component's row for a kind and a column.
+#[tactic(auto, using(crate::proofs::RowSteps::row_steps))]
 fn charge_cell(table: &mut [u16], component: usize, kind: usize, column: usize, repeated: bool)
     requires { component < 32 }
     ensures { table.new ≡ charge_cell table.old component kind column repeated }
@@ -71,6 +75,7 @@ fn charge_cell(table: &mut [u16], component: usize, kind: usize, column: usize, 
 }
 
 // Marks a kind as one that a component needs something of.
+#[tactic(auto, using(crate::proofs::RowSteps::row_steps))]
 fn mark(table: &mut [u16], component: usize, kind: usize)
     requires { component < 32 }
     ensures { table.new ≡ marked table.old component kind }
@@ -81,6 +86,7 @@ fn mark(table: &mut [u16], component: usize, kind: usize)
 }
 
 // Counts once in a column of a kind, and marks the kind.
+#[tactic(auto, using(crate::proofs::RowSteps::row_steps))]
 fn charge_column(table: &mut [u16], component: usize, kind: usize, column: usize, repeated: bool)
     requires { component < 32 }
     ensures { table.new ≡ charge_column table.old component kind column repeated }
@@ -90,6 +96,7 @@ fn charge_column(table: &mut [u16], component: usize, kind: usize, column: usize
 }
 
 // How many groups a component's path has.
+#[tactic(auto, using(crate::proofs::RowSteps::row_steps))]
 pub fn group_count(table: &[u16], component: usize) -> usize
     requires { component < 32 }
     ensures value { result ≡ group_count table.now component }
@@ -100,6 +107,7 @@ pub fn group_count(table: &[u16], component: usize) -> usize
 }
 
 // The group at a place among these groups, which rise.
+#[tactic(auto, using(crate::proofs::RowSteps::row_steps))]
 pub fn group_at(table: &[u16], component: usize, place: usize) -> usize
     requires { (component < 32) × (place < 8) }
     ensures { result ≡ group_at table.now component place }
@@ -108,6 +116,7 @@ pub fn group_at(table: &[u16], component: usize, place: usize) -> usize
 }
 
 // The place of a group among them, or 11.
+#[tactic(auto, using(crate::proofs::RowSteps::row_steps))]
 fn place_of(table: &[u16], component: usize, group: usize) -> usize
     requires { component < 32 }
     ensures { result ≡ place_from table.now component group 0 (group_count table.now component) }
@@ -124,6 +133,7 @@ fn place_of(table: &[u16], component: usize, group: usize) -> usize
 }
 
 // The kind of which an act needs something, or 16.
+#[tactic(auto, using(crate::proofs::RowSteps::row_steps))]
 fn kind_of(need: Need) -> usize
     ensures { result ≡ kind_of need }
 {
@@ -137,6 +147,7 @@ fn kind_of(need: Need) -> usize
 }
 
 // The column in which it counts, or 11.
+#[tactic(auto, using(crate::proofs::RowSteps::row_steps))]
 fn column_of(table: &[u16], component: usize, need: Need) -> usize
     requires { component < 32 }
     ensures { result ≡ column_of table.now component need }
@@ -151,6 +162,7 @@ fn column_of(table: &[u16], component: usize, need: Need) -> usize
 }
 
 // Counts what an act needs in its component's row.
+#[tactic(auto, using(crate::proofs::RowSteps::row_steps))]
 pub fn charge_need(table: &mut [u16], component: usize, need: Need, repeated: bool)
     requires { component < 32 }
     ensures { table.new ≡ charge table.old component need repeated }
@@ -160,6 +172,7 @@ pub fn charge_need(table: &mut [u16], component: usize, need: Need, repeated: bo
 }
 
 // How many groups a path has.
+#[tactic(auto, using(crate::proofs::RowSteps::row_steps))]
 pub fn path_len(path: Path) -> usize
     ensures { result ≡ length (path_of path) }
 {
@@ -167,6 +180,7 @@ pub fn path_len(path: Path) -> usize
 }
 
 // The nearer of the group found so far and one more group, of those from a group on.
+#[tactic(auto, using(crate::proofs::RowSteps::row_steps))]
 fn nearer(best: usize, group: usize, from: usize) -> usize
     requires { best ≤ 64 }
     ensures { result ≡ min best (candidate group from) }
@@ -178,6 +192,7 @@ fn nearer(best: usize, group: usize, from: usize) -> usize
 }
 
 // The first group of a path from a group on, or 64.
+#[tactic(auto, using(crate::proofs::GroupRows::near_steps))]
 fn next_group(path: Path, from: usize) -> usize
     ensures value { result ≡ next_group (path_of path) from }
     ensures few { result ≤ 64 }
@@ -197,6 +212,7 @@ fn next_group(path: Path, from: usize) -> usize
 }
 
 // Stores the groups of a component's path, rising, in its row.
+#[tactic(auto, using(crate::proofs::GroupRows::rise_steps))]
 fn store_groups(table: &mut [u16], component: usize, path: Path)
     requires { component < 32 }
     ensures { table.new ≡ with_groups table.old component (rising_groups (path_of path)) }
@@ -213,6 +229,7 @@ fn store_groups(table: &mut [u16], component: usize, path: Path)
 }
 
 // Stores a component's path in its row, group by group as it stands.
+#[tactic(auto, using(crate::proofs::PathRows::path_rows))]
 fn store_steps(table: &mut [u16], component: usize, path: Path)
     requires { component < 32 }
     ensures { table.new ≡ stored table.old (component * 211) (length (path_of path) ∷ path_of path) }
@@ -229,6 +246,7 @@ fn store_steps(table: &mut [u16], component: usize, path: Path)
 }
 
 // Stores a component's path in its row, as it stands and rising.
+#[tactic(auto, using(crate::proofs::GroupRows::rise_steps))]
 pub fn store_path(table: &mut [u16], component: usize, path: Path)
     requires { component < 32 }
     ensures { table.new ≡ with_path table.old component (path_of path) }
@@ -238,6 +256,7 @@ pub fn store_path(table: &mut [u16], component: usize, path: Path)
 }
 
 // Stores a component's purpose in its row.
+#[tactic(auto, unfolding(crate::specs::Rows::with_purpose))]
 pub fn store_purpose(table: &mut [u16], component: usize, purpose: usize)
     requires { component < 32 }
     ensures { table.new ≡ with_purpose table.old component purpose }
@@ -246,6 +265,7 @@ pub fn store_purpose(table: &mut [u16], component: usize, purpose: usize)
 }
 
 // The purpose in a component's row.
+#[tactic(auto, unfolding(crate::specs::Rows::purpose_at))]
 pub fn purpose_of(table: &[u16], component: usize) -> usize
     requires { component < 32 }
     ensures { result ≡ purpose_at table.now component }
@@ -254,6 +274,7 @@ pub fn purpose_of(table: &[u16], component: usize) -> usize
 }
 
 // What stands in a cell, 0 past the table's end.
+#[tactic(auto, using(crate::proofs::RowSteps::row_steps))]
 fn stored_at(table: &[u16], at: usize) -> u16
     ensures { result ≡ get_or table.now at 0 }
 {
@@ -273,6 +294,7 @@ fn wide(x: u16) -> usize
     x as usize
 }
 
+#[tactic(auto, using(crate::proofs::RowSteps::row_steps))]
 fn put(table: &mut [u16], at: usize, value: usize)
     ensures { table.new ≡ set table.old at (value % 65536) }
 {
@@ -294,6 +316,7 @@ fn stored_len(table: &[u16], row: usize) -> usize
 }
 
 // The path in a component's row.
+#[tactic(auto, using(crate::proofs::PathRows::path_rows))]
 pub fn path_of(table: &[u16], component: usize) -> Path
     requires { component < 32 }
     ensures { path_of result ≡ path_at table.now component }

@@ -6,6 +6,7 @@ ghost use Rattle.inference.specs.Told.{known};
 use crate::Known;
 
 // The type of a name.
+#[tactic(auto, using(crate::proofs::RowSteps::row_steps))]
 pub fn type_of(scope: &[usize], names: usize, name: usize) -> Known
     ensures { known result ≡ get_elem? (take names scope.now) name }
 {
@@ -18,6 +19,7 @@ pub fn type_of(scope: &[usize], names: usize, name: usize) -> Known
 }
 
 // Binds the next name, at level `names`.
+#[tactic(auto, using(crate::proofs::RowSteps::row_steps))]
 pub fn bind(scope: &mut [usize], names: usize, t: usize)
     ensures { scope.new ≡ set scope.old names t }
 {

@@ -13,6 +13,7 @@ use reading::types::type_at;
 use reading::{Dialect, Number, NumberRead, paths};
 
 // Binds the types that stand from a place on, `count` of them; the number bound and the place after them.
+#[tactic(auto, using(crate::proofs::SheetSteps::sheet_steps))]
 fn load_types(s: &[u8], at: usize, count: usize, scope: &mut [usize]) -> Number
     requires { length scope.old ≡ 64 }
     ensures { LoadedTypes count s.now at scope.new result }
@@ -32,6 +33,7 @@ fn load_types(s: &[u8], at: usize, count: usize, scope: &mut [usize]) -> Number
 }
 
 // Binds the free names of a sheet.
+#[tactic(auto, using(crate::proofs::SheetSteps::sheet_steps))]
 fn load_free(s: &[u8], scope: &mut [usize]) -> Number
     requires { length scope.old ≡ 64 }
     ensures { LoadedFree s.now scope.new result }
@@ -44,6 +46,7 @@ fn load_free(s: &[u8], scope: &mut [usize]) -> Number
 }
 
 // The same, then the sheet's system; `scope` is room for the types of the names.
+#[tactic(auto, using(crate::proofs::SheetSteps::sheet_steps))]
 fn infer_within(s: &[u8], scope: &mut [usize], table: &mut [u16]) -> SystemWalk
     requires { length scope.old ≡ 64 }
     ensures { (sheet : Sheet) (end : ℕ) → read_sheet s.now ≡ got sheet end

@@ -15,6 +15,7 @@ use reading::forms::system_at;
 use reading::{Dialect, Form, FormRead, OwnFields, Path, paths};
 
 // What a walk found, with what was found before it.
+#[tactic(auto, using(crate::proofs::SystemSteps::system_steps))]
 fn with_fault(fault: usize, rest: SystemWalk) -> SystemWalk
     ensures { result ≡ record { next = rest.next; fault = min fault rest.fault; components = rest.components } }
 {
@@ -59,6 +60,7 @@ fn infer_component(
 
 // The system at a place.
 #[cycle(infer_form_infer_par_infer_system_infer_under)]
+#[tactic(auto, using(crate::proofs::SystemSteps::system_steps))]
 pub fn infer_system(
     s: &[u8],
     spot: Spot,
@@ -95,6 +97,7 @@ pub fn infer_system(
 
 // The system that begins with a form at `at`; `inner` is where its parts begin.
 #[cycle(infer_form_infer_par_infer_system_infer_under)]
+#[tactic(auto, using(crate::proofs::SystemSteps::system_steps))]
 fn infer_form(
     s: &[u8],
     at: usize,
@@ -140,6 +143,7 @@ fn infer_form(
 
 // Two systems, one after the other; the second counts on from the components of the first.
 #[cycle(infer_form_infer_par_infer_system_infer_under)]
+#[tactic(auto, using(crate::proofs::SystemSteps::system_steps))]
 fn infer_par(
     s: &[u8],
     spot: Spot,

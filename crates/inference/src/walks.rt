@@ -26,6 +26,7 @@ pub fn least(a: usize, b: usize) -> usize
 }
 
 // Types an act and counts what it needs; the first question that it fails, or 11.
+#[tactic(auto, using(crate::proofs::WalkSteps::act_steps))]
 fn infer_act(
     sends: bool,
     channel: Known,
@@ -48,6 +49,7 @@ fn infer_act(
 }
 
 // An input's act: its channel is a name in scope, the name that it binds has the type that it states.
+#[tactic(auto, using(crate::proofs::WalkSteps::act_steps))]
 fn input_fault(
     act: Act,
     names: usize,
@@ -65,6 +67,7 @@ fn input_fault(
 }
 
 // An output's act: its channel and what it sends are names in scope.
+#[tactic(auto, using(crate::proofs::WalkSteps::act_steps))]
 fn output_fault(
     act: Act,
     names: usize,
@@ -84,6 +87,7 @@ fn output_fault(
 }
 
 // What a walk found, with what was found before it.
+#[tactic(auto, using(crate::proofs::WalkSteps::act_steps))]
 fn with_fault(fault: usize, rest: Walk) -> Walk
     ensures { result ≡ record { next = rest.next; fault = min fault rest.fault } }
 {
@@ -95,6 +99,7 @@ fn with_fault(fault: usize, rest: Walk) -> Walk
 
 // The process at a place, by its code byte: nothing (0), two parts in parallel (1), a new name (3), an input (5), an output (6), a
 // repeat (7). What the reader would refuse counts as nothing.
+#[tactic(auto, using(crate::proofs::WalkSteps::walk_steps))]
 pub fn infer_process(
     s: &[u8],
     spot: Spot,

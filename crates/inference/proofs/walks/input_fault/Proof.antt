@@ -1,8 +1,0 @@
--- An input's act, with its channel's type looked up in the scope.
-use Rattle.inference.proofs.WalkSteps.{act_steps}
-use borrow.Author.Rules.{rules}
-use Rattle.inference.proofs.walks.input_fault.Statement.{statement}
-use Rattle.inference.proofs.walks.input_fault.Tie as tie
-
-pub input_fault_spec : {M : Type 1} → statement M
-input_fault_spec = tie.close (tie.spec (λ c κs. search rules) (λ c κs. search rules) (λ c. search rules) (λ c. search act_steps))
