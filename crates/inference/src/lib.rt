@@ -8,6 +8,7 @@ pub mod rows;
 pub mod scope;
 pub mod sheet;
 pub mod systems;
+pub mod table;
 pub mod walks;
 
 use reading::Path;
