@@ -28,6 +28,7 @@ enum Carried {
 }
 
 // The three that T of a channel G[T] can be.
+#[tactic(auto, using(crate::proofs::NeedSteps::need_steps))]
 fn carried_by(t: usize) -> Carried
     ensures { result ≡ carries (shape t) }
 {
@@ -48,6 +49,7 @@ fn carried_by(t: usize) -> Carried
 
 // The six cases of an act on a channel of a group that carries T: (i), (ii), (iii) of rule (In) for a receive, then those of
 // rule (Out) for a send.
+#[tactic(auto, using(crate::proofs::NeedSteps::need_steps))]
 fn case_need(sends: bool, group: usize, t: usize) -> Need
     ensures { result ≡ case_need sends group (carries (shape t)) }
 {
@@ -69,6 +71,7 @@ fn case_need(sends: bool, group: usize, t: usize) -> Need
 }
 
 // What a send or a receive on a channel of type t needs.
+#[tactic(auto, using(crate::proofs::NeedSteps::need_steps))]
 pub fn need_of(sends: bool, t: usize) -> Need
     ensures { result ≡ need sends t }
 {

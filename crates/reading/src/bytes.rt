@@ -12,6 +12,7 @@ fn wide(b: u8) -> usize
 }
 
 // The byte at a place, 0 past the end.
+#[tactic(auto, using(crate::proofs::Tables::unread))]
 pub fn byte_in(s: &[u8], at: usize) -> usize
     ensures value { result ≡ get_or s.now at 0 }
     ensures upper_bound { result < 256 }
@@ -23,6 +24,7 @@ pub fn byte_in(s: &[u8], at: usize) -> usize
 }
 
 // Question 2: the byte due at a place.
+#[tactic(auto, using(crate::proofs::Tests::tests), unfolding(crate::specs::Read::byte_at))]
 pub fn byte_at(s: &[u8], at: usize) -> NumberRead
     ensures { number result ≡ byte_at s.now at }
 {
@@ -47,6 +49,7 @@ pub fn refusal(read: NumberRead) -> Refusal
 }
 
 // Questions 2 and 4: the byte due at a place, which must be below `bound`.
+#[tactic(auto, using(crate::proofs::Tests::tests, crate::proofs::Steps::steps), unfolding(crate::specs::Read::below))]
 pub fn byte_below(s: &[u8], at: usize, bound: usize) -> NumberRead
     ensures { number result ≡ below bound s.now at }
 {

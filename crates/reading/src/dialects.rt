@@ -5,6 +5,7 @@ ghost use Rattle.reading.specs.Dialects.{groups_in, kinds_in, purposes_in};
 use crate::Dialect;
 
 // A group is below this.
+#[tactic(auto, unfolding(crate::specs::Dialects::groups_in))]
 pub fn groups(dialect: Dialect) -> usize
     ensures { result ≡ groups_in dialect }
 {
@@ -15,6 +16,7 @@ pub fn groups(dialect: Dialect) -> usize
 }
 
 // A kind is below this.
+#[tactic(auto, unfolding(crate::specs::Dialects::kinds_in))]
 pub fn kinds(dialect: Dialect) -> usize
     ensures { result ≡ kinds_in dialect }
 {
@@ -25,6 +27,7 @@ pub fn kinds(dialect: Dialect) -> usize
 }
 
 // A purpose is below this; 0 where components state none.
+#[tactic(auto, unfolding(crate::specs::Dialects::purposes_in))]
 pub fn purposes(dialect: Dialect) -> usize
     ensures { result ≡ purposes_in dialect }
 {

@@ -56,6 +56,7 @@ fn binds(nest: usize, names: usize) -> bool
 }
 
 // A form without fields.
+#[tactic(auto, using(crate::proofs::Steps::steps))]
 fn bare(form: Form, at: usize, next: usize, room: bool) -> FormRead
     ensures { told result ≡ limited room at (got form next) }
 {
@@ -67,6 +68,7 @@ fn bare(form: Form, at: usize, next: usize, room: bool) -> FormRead
 }
 
 // A new name: its type.
+#[tactic(auto, using(crate::proofs::Steps::steps), unfolding(crate::specs::Forms::new_form_in))]
 fn new_form(dialect: Dialect, s: &[u8], at: usize, next: usize, room: bool) -> FormRead
     ensures { told result ≡ limited room at (new_form_in dialect s.now next) }
 {
@@ -84,6 +86,7 @@ fn new_form(dialect: Dialect, s: &[u8], at: usize, next: usize, room: bool) -> F
 }
 
 // An input: the channel, then the type of the bound name.
+#[tactic(auto, using(crate::proofs::Steps::steps), unfolding(crate::specs::Forms::input_form_in))]
 fn input_form(dialect: Dialect, s: &[u8], at: usize, next: usize, room: bool) -> FormRead
     ensures { told result ≡ limited room at (input_form_in dialect s.now next) }
 {
@@ -109,6 +112,7 @@ fn input_form(dialect: Dialect, s: &[u8], at: usize, next: usize, room: bool) ->
 }
 
 // An output: the channel, then the name sent.
+#[tactic(auto, using(crate::proofs::Steps::steps), unfolding(crate::specs::Forms::output_form))]
 fn output_form(s: &[u8], at: usize, next: usize, room: bool) -> FormRead
     ensures { told result ≡ limited room at (output_form s.now next) }
 {
@@ -134,6 +138,7 @@ fn output_form(s: &[u8], at: usize, next: usize, room: bool) -> FormRead
 }
 
 // A group in its range (question 4) that is new to the path (question 6).
+#[tactic(auto, using(crate::proofs::FormSteps::fresh_steps))]
 fn fresh_group(dialect: Dialect, s: &[u8], at: usize, path: Path) -> NumberRead
     ensures { number result ≡ fresh_group_in dialect s.now at (path_of path) }
 {
@@ -149,6 +154,7 @@ fn fresh_group(dialect: Dialect, s: &[u8], at: usize, path: Path) -> NumberRead
 }
 
 // A group: one that is new to the path.
+#[tactic(auto, using(crate::proofs::Steps::steps), unfolding(crate::specs::Forms::group_form_in))]
 fn group_form(
     dialect: Dialect,
     s: &[u8],
@@ -173,6 +179,7 @@ fn group_form(
 }
 
 // The purpose of a component, in its range (question 4); 0 where the dialect states none.
+#[tactic(auto, using(crate::proofs::FormSteps::purpose_steps))]
 fn purpose(dialect: Dialect, s: &[u8], at: usize) -> NumberRead
     ensures { number result ≡ purpose_in dialect s.now at }
 {
@@ -185,6 +192,7 @@ fn purpose(dialect: Dialect, s: &[u8], at: usize) -> NumberRead
 }
 
 // A component: its own fields, the group, which is new to the path, and then the purpose.
+#[tactic(auto, using(crate::proofs::Steps::steps), unfolding(crate::specs::Forms::component_form_in))]
 fn component_form(
     dialect: Dialect,
     s: &[u8],
@@ -217,6 +225,7 @@ fn component_form(
 }
 
 // What stands at a place of a process, with the permitted nesting that is left and the number of names in scope.
+#[tactic(auto, using(crate::proofs::FormSteps::process_forms_lem), unfolding(crate::specs::Forms::process_at_in))]
 pub fn process_at(dialect: Dialect, s: &[u8], at: usize, nest: usize, names: usize) -> FormRead
     ensures { told result ≡ process_at_in dialect s.now at nest names }
 {
@@ -240,6 +249,7 @@ pub fn process_at(dialect: Dialect, s: &[u8], at: usize, nest: usize, names: usi
 }
 
 // What stands at a place of a system; beside a process's limits, the path so far and the number of components so far.
+#[tactic(auto, using(crate::proofs::FormSteps::system_forms_lem), unfolding(crate::specs::Forms::system_at_in))]
 pub fn system_at(
     dialect: Dialect,
     s: &[u8],

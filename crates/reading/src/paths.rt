@@ -24,6 +24,7 @@ pub fn empty() -> Path
 }
 
 // Does the group stand in the path?
+#[tactic(auto, using(crate::proofs::PathLaws::path_steps))]
 pub fn has(path: Path, group: usize) -> bool
     ensures { result ≡ member group (path_of path) }
 {
@@ -43,6 +44,7 @@ pub fn has(path: Path, group: usize) -> bool
 }
 
 // Is there room for one more group?
+#[tactic(auto, using(crate::proofs::PathLaws::path_steps))]
 pub fn room(path: Path) -> bool
     ensures { result ≡ ltb (length (path_of path)) 8 }
 {
@@ -50,6 +52,7 @@ pub fn room(path: Path) -> bool
 }
 
 // The path with one group more at its end, where there is room. Groups are below 64.
+#[tactic(auto, using(crate::proofs::PathLaws::path_steps))]
 pub fn with(path: Path, group: usize) -> Path
     ensures { ltb (length (path_of path)) 8 ≡ true → group < 65536 → path_of result ≡ path_of path ++ (group ∷ []) }
 {

@@ -39,6 +39,7 @@ pub fn why_none(end: End) -> Refusal
 
 // Reads past a process, form by form: a call for the first part of each parallel form, a turn for all else. The permitted
 // nesting falls at each.
+#[tactic(auto, using(crate::proofs::ProcessSteps::process_steps, crate::proofs::ProcessSteps::at_replicate))]
 pub fn read_process(dialect: Dialect, s: &[u8], from: usize, levels: usize, bound: usize) -> End
     ensures { ending result ≡ ended (read_process_in dialect levels s.now bound from) }
 {
@@ -89,6 +90,7 @@ pub fn read_process(dialect: Dialect, s: &[u8], from: usize, levels: usize, boun
 }
 
 // Reads past a component's process and counts the component, whatever its own fields.
+#[tactic(auto, using(crate::proofs::SystemSteps::component_steps))]
 fn read_component(
     dialect: Dialect,
     s: &[u8],
@@ -112,6 +114,7 @@ fn read_component(
 
 // Reads past a system, form by form, as a process is read. The number found is that of the components so far, those of this
 // system included.
+#[tactic(auto, using(crate::proofs::SystemSteps::system_steps, crate::proofs::SystemSteps::at_par, crate::proofs::SystemSteps::at_group, crate::proofs::SystemSteps::at_new))]
 pub fn read_system(
     dialect: Dialect,
     s: &[u8],
@@ -176,6 +179,7 @@ pub fn read_system(
 }
 
 // Reads past `count` stored types.
+#[tactic(auto, using(crate::proofs::SheetSteps::types_left))]
 fn free_types(dialect: Dialect, s: &[u8], at: usize, count: usize) -> End
     ensures { ending result ≡ ended (free_types_in dialect count s.now at) }
 {
@@ -193,6 +197,7 @@ fn free_types(dialect: Dialect, s: &[u8], at: usize, count: usize) -> End
 }
 
 // Questions 2 to 6. The number found is that of the components.
+#[tactic(auto, using(crate::proofs::SheetSteps::sheet_steps))]
 fn read_sheet(dialect: Dialect, s: &[u8]) -> NumberRead
     ensures { number result ≡ counted_in (read_sheet_in dialect s.now) }
 {
@@ -219,6 +224,7 @@ fn read_sheet(dialect: Dialect, s: &[u8]) -> NumberRead
 }
 
 // Questions 1 to 6 of document 01, for a sheet and a charter of any bytes. The number found is that of the sheet's components.
+#[tactic(auto, using(crate::proofs::Tests::tests), unfolding(crate::specs::System::sheet_of_in, crate::specs::Told::counted_in))]
 pub fn read_in(dialect: Dialect, sheet: &[u8], charter: &[u8]) -> NumberRead
     ensures { number result ≡ counted_in (sheet_of_in dialect sheet.now charter.now) }
 {

@@ -8,6 +8,7 @@ use crate::dialects::{groups, kinds};
 use crate::{Dialect, Number, NumberRead, Shape};
 
 // The shape of a type.
+#[tactic(auto, using(crate::proofs::Tests::tests), unfolding(crate::specs::Types::shape))]
 pub fn shape_of(t: usize) -> Shape
     ensures { result ≡ shape t }
 {
@@ -23,6 +24,7 @@ pub fn shape_of(t: usize) -> Shape
 
 // `count` groups, the outermost first, then the kind. The groups read so far add `sum` to the type's number, and the type that
 // they carry adds `factor` times its own.
+#[tactic(auto, using(crate::proofs::TypeSteps::groups_left))]
 fn groups_then_kind(dialect: Dialect, s: &[u8], at: usize, count: usize) -> NumberRead
     requires { count ≤ 4 }
     ensures { number result ≡ groups_then_kind_in dialect count s.now at }
@@ -52,6 +54,7 @@ fn groups_then_kind(dialect: Dialect, s: &[u8], at: usize, count: usize) -> Numb
 }
 
 // A stored type: the count of groups, the groups, the kind.
+#[tactic(auto, using(crate::proofs::TypeSteps::type_steps), unfolding(crate::specs::Types::type_at_in))]
 pub fn type_at(dialect: Dialect, s: &[u8], at: usize) -> NumberRead
     ensures { number result ≡ type_at_in dialect s.now at }
 {

@@ -1,0 +1,28 @@
+-- `system_at` reads a code byte, and each arm of its match is one arm of the definition (FormSteps.antt).
+use Rattle.reading.proofs.FormSteps.{system_forms_lem}
+use Rattle.reading.specs.Forms.{system_at_in}
+use Rattle.reading.proofs.forms.system_at.Goals as goal
+
+pub returns-in-0 : goal.returns-in-0
+unfolding system_at_in
+returns-in-0 c = search system_forms_lem
+
+pub returns-in-1 : goal.returns-in-1
+unfolding system_at_in
+returns-in-1 c = search system_forms_lem
+
+pub returns-in-2 : goal.returns-in-2
+unfolding system_at_in
+returns-in-2 c = search system_forms_lem
+
+pub returns-in-3 : goal.returns-in-3
+unfolding system_at_in
+returns-in-3 c = search system_forms_lem
+
+pub returns-in-4 : goal.returns-in-4
+unfolding system_at_in
+returns-in-4 c = search system_forms_lem
+
+pub returns-in_default-code : goal.returns-in_default-code
+unfolding system_at_in
+returns-in_default-code c = search system_forms_lem
