@@ -11,7 +11,7 @@ use borrow.Author.Rules.{rules}
 use borrow.Author.Tests.{ltb-true, ltb-false, lt-ltb, le-ltb, eq-eqb, ne_eqb}
 use lib.Dec.{ltb}
 use lib.ListN.{length, take, drop, get_or, set, length-take, drop_of_length-le}
-use lib.Seq.{drop-cons, get_or-take, take-suc-set}
+use lib.Seq.{drop-cons, take-suc-set}
 use Rattle.reading.specs.Forms.{member}
 use Rattle.reading.specs.Told.{path_of}
 use Rattle.reading.specs.declared.Path.{Path}
@@ -36,34 +36,19 @@ pub no_more : (p : Path) (q : List ℕ) → length p.groups ≡ 8 → 8 ≤ p.le
     → path_of p ≡ q
 no_more p q h k e = absurd (omega (arith, ltb-true (length (path_of p)) 8 e, length-take p.len p.groups))
 
--- The search for a group g has come to place i: g is in the path if it is from i on.
-pub record SoFar (g : ℕ) (p : Path) (i : ℕ) : Type 0 where
-  pub same : member g (path_of p) ≡ member g (drop i (path_of p))
+-- A group g in what is left of a path from place i on: at the end, at g, at another group.
+pub left_none : (g : ℕ) (l : List ℕ) (i : ℕ) → length l ≤ i → member g (drop i l) ≡ false
+unfolding member
+left_none g l i h = rw (drop_of_length-le l h)
 
-pub at_first : (g : ℕ) (p : Path) → SoFar g p 0
-at_first g p = record { same = refl }
+pub left_here : (g : ℕ) (l : List ℕ) (i : ℕ) → i < length l → get_or l i 0 ≡ g → member g (drop i l) ≡ true
+unfolding member
+left_here g l i h e = rw (drop-cons l i 0 h, eq-eqb (get_or l i 0) g e)
 
--- At the path's end, past the eight places, at g, at another group.
-module _ (g : ℕ) (p : Path) (i : ℕ) (s : SoFar g p i) where
-  ends : length (path_of p) ≤ i → false ≡ member g (path_of p)
-  unfolding member
-  ends h = rw (drop_of_length-le (path_of p) h) at (sym s.same)
+pub left_past : (g : ℕ) (l : List ℕ) (i : ℕ) → i < length l → (get_or l i 0 ≡ g → ⊥) → member g (drop i l) ≡ member g (drop (i + 1) l)
+unfolding member
+left_past g l i h e = rw (drop-cons l i 0 h, ne_eqb (get_or l i 0) g e, add-one)
 
-  pub at_end : p.len ≤ i → false ≡ member g (path_of p)
-  at_end h = ends (omega (arith, length-take p.len p.groups))
+pub ruleset path_steps = (rules, room_for_one, group_more, no_more)
 
-  pub at_eight : length p.groups ≡ 8 → 8 ≤ i → false ≡ member g (path_of p)
-  at_eight k h = ends (omega (arith, length-take p.len p.groups))
-
-  here : i < p.len → i < length p.groups → drop i (path_of p) ≡ get_or p.groups i 0 ∷ drop (i + 1) (path_of p)
-  here h k = rw (drop-cons (path_of p) i 0 (omega (arith, length-take p.len p.groups)), get_or-take, add-one)
-
-  pub at_it : length p.groups ≡ 8 → i < 8 → i < p.len → get_or p.groups i 0 ≡ g → true ≡ member g (path_of p)
-  unfolding member
-  at_it k j h q = sym (rw (here h (omega arith), eq-eqb (get_or p.groups i 0) g q) at s.same)
-
-  pub past_it : length p.groups ≡ 8 → i < 8 → i < p.len → (get_or p.groups i 0 ≡ g → ⊥) → SoFar g p (i + 1)
-  unfolding member
-  past_it k j h q = record { same = rw (here h (omega arith), ne_eqb (get_or p.groups i 0) g q) at s.same }
-
-pub ruleset path_steps = (rules, room_for_one, group_more, no_more, at_first, at_end, at_eight, at_it, past_it)
+pub ruleset has_steps = (left_none, left_here, left_past)

@@ -9,19 +9,16 @@ use mir.Val.{Fits}
 use Rattle.reading.proofs.FormLaws.{FitsProcess, process_room, process_level}
 use Rattle.reading.proofs.TreeLaws.{process_step, process_stop}
 use Rattle.reading.proofs.Parts.{never}
+use Rattle.std.specs.Prelude.{Result, Ok, Err}
 use Rattle.reading.specs.Read.{Read, got, refused, and_then}
 use Rattle.reading.specs.Syntax.{Process, par, new, input, output, repl}
 use Rattle.reading.specs.Forms.{process_at_in}
 use Rattle.reading.specs.System.{process_from, read_process_in}
-use Rattle.reading.specs.Told.{form, ending, ended, why_of}
+use Rattle.reading.specs.Told.{number_of, form, ending, ended}
 use Rattle.reading.specs.declared.Dialect.{Dialect}
 use Rattle.reading.specs.declared.Act.{Act}
-use Rattle.reading.specs.declared.End.{End}
-use Rattle.reading.specs.declared.End.TheVariants as end
 use Rattle.reading.specs.declared.Form.{Form}
 use Rattle.reading.specs.declared.Form.TheVariants.{Nil, Par, Group, New, Component, Input, Output, Replicate}
-use Rattle.reading.specs.declared.FormRead.{FormRead}
-use Rattle.reading.specs.declared.FormRead.TheVariants as form_read
 use Rattle.reading.specs.declared.OwnFields.{OwnFields}
 use Rattle.reading.specs.declared.Place.{Place}
 use Rattle.reading.specs.declared.Refusal.{Refusal}
@@ -34,7 +31,7 @@ ended_map (refused q p) f = refl
 
 -- After its first form a process ends as what is left of it does; `read` reads one level deeper.
 module _ (read : ℕ → ℕ → Read Process) (at names next : ℕ) where
-  after_par : (l : End) (m : ℕ) → l ≡ end.At m → ending l ≡ ended (read names next)
+  after_par : (l : Result ℕ Refusal) (m : ℕ) → l ≡ Ok m → ending l ≡ ended (read names next)
       → ended (process_from read at names Par next) ≡ ended (read names m)
   unfolding process_from ended and_then
   after_par l m i h = go (read names next) (rw i at h)
@@ -45,13 +42,13 @@ module _ (read : ℕ → ℕ → Read Process) (at names next : ℕ) where
       go (refused q p) h = never (sym h)
 
   -- A parallel form whose left part is refused.
-  after_left : (l : End) (q : Refusal) → l ≡ end.Refused q → ending l ≡ ended (read names next)
+  after_left : (l : Result ℕ Refusal) (q : Refusal) → l ≡ Err q → ending l ≡ ended (read names next)
       → ended (process_from read at names Par next) ≡ ending l
   unfolding process_from ended and_then
   after_left l q i h = rw i (go (read names next) (rw i at h))
     where
-      go : (x : Read Process) → refused q.question q.at ≡ ended x
-          → ended (and_then x (λ p m. and_then (read names m) (λ q k. got (par p q) k))) ≡ refused q.question q.at
+      go : (x : Read Process) → refused (number_of q.question) q.at ≡ ended x
+          → ended (and_then x (λ p m. and_then (read names m) (λ q k. got (par p q) k))) ≡ refused (number_of q.question) q.at
       go (got p n) h = never h
       go (refused q p) h = sym h
 
@@ -64,7 +61,7 @@ pub process_whole : (d : Dialect) (s : List ℕ) (at nest names : ℕ) → Proce
 process_whole d s at nest names = record { same = refl; low = omega arith }
 
 -- What the code knows of the form at the place reached.
-module _ (d : Dialect) (s : List ℕ) (from levels bound at nest names : ℕ) (l : ProcessLeft d s from levels bound at nest names) (r : FormRead)
+module _ (d : Dialect) (s : List ℕ) (from levels bound at nest names : ℕ) (l : ProcessLeft d s from levels bound at nest names) (r : Result Place Refusal)
     (e : form r ≡ process_at_in d s at nest names) where
   abbrev told : Read (Unit {0})
   told = ended (read_process_in d levels s bound from)
@@ -72,12 +69,11 @@ module _ (d : Dialect) (s : List ℕ) (from levels bound at nest names : ℕ) (l
   abbrev deeper : ℕ → ℕ → Read Process
   deeper n m = read_process_in d (nest - 1) s n m
 
-  pub process_refused : (q w : Refusal) → r ≡ form_read.Refused q → w ≡ why_of r
-      → refused w.question w.at ≡ told
+  pub process_refused : (w : Refusal) → r ≡ Err w → refused (number_of w.question) w.at ≡ told
   unfolding ended
-  process_refused q w f h = rw (l.same, process_stop d nest s names at {q = q.question} {p = q.at} (rw f at (sym e)), h, f)
+  process_refused w f = rw (l.same, process_stop d nest s names at {q = number_of w.question} {p = w.at} (rw f at (sym e)))
 
-  module _ (p : Place) (f : r ≡ form_read.Found p) where
+  module _ (p : Place) (f : r ≡ Ok p) where
     found : process_at_in d s at nest names ≡ got p.form p.next
     found = rw f at (sym e)
 
@@ -137,11 +133,11 @@ module _ (d : Dialect) (s : List ℕ) (from levels bound at nest names : ℕ) (l
     unfolding process_from
     at_replicate h = goes Replicate names p.next h (ended_map (deeper names p.next) (λ q. repl q))
 
-    module _ (t : End) (k : ending t ≡ ended (read_process_in d (nest - 1) s names p.next)) where
-      pub at_par : (m : ℕ) → p.form ≡ Par → t ≡ end.At m → ProcessLeft d s from levels bound m (nest - 1) names
+    module _ (t : Result ℕ Refusal) (k : ending t ≡ ended (read_process_in d (nest - 1) s names p.next)) where
+      pub at_par : (m : ℕ) → p.form ≡ Par → t ≡ Ok m → ProcessLeft d s from levels bound m (nest - 1) names
       at_par m h i = goes Par names m h (after_par deeper at names p.next t m i k)
 
-      pub at_par_left : (q : Refusal) → p.form ≡ Par → t ≡ end.Refused q → ending t ≡ told
+      pub at_par_left : (q : Refusal) → p.form ≡ Par → t ≡ Err q → ending t ≡ told
       at_par_left q h i = ends Par h (after_left deeper at names p.next t q i k)
 
 pub ruleset process_steps = (

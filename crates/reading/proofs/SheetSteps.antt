@@ -10,17 +10,14 @@ use lib.ListN.{length}
 use Rattle.reading.proofs.Parts.{never}
 use Rattle.reading.proofs.ProcessSteps.{ended_map}
 use Rattle.reading.proofs.TreeLaws.{free_count_lem}
+use Rattle.std.specs.Prelude.{Result, Ok, Err}
 use Rattle.reading.specs.Read.{Read, got, refused, and_then, below}
 use Rattle.reading.specs.Types.{type_at_in}
 use Rattle.reading.specs.Syntax.{System, components}
 use Rattle.reading.specs.System.{read_system_in, free_types_in, header_in, to_its_end, read_sheet_in}
-use Rattle.reading.specs.Told.{number, ending, ended, counted, counted_in, refusal_of, why_none, path_of}
+use Rattle.reading.specs.Told.{number_of, number, ending, ended, counted, counted_in, path_of}
 use Rattle.reading.specs.declared.Dialect.{Dialect}
-use Rattle.reading.specs.declared.End.{End}
-use Rattle.reading.specs.declared.End.TheVariants as end
 use Rattle.reading.specs.declared.Number.{Number}
-use Rattle.reading.specs.declared.NumberRead.{NumberRead}
-use Rattle.reading.specs.declared.NumberRead.TheVariants as number_read
 use Rattle.reading.specs.declared.Path.{Path}
 use Rattle.reading.specs.declared.Refusal.{Refusal}
 
@@ -77,18 +74,18 @@ module _ (d : Dialect) (s : List ℕ) (at count next left : ℕ) (t : TypesLeft 
   unfolding free_types_in ended
   none_left h = let z : left ≡ 0 = omega arith in rw (t.same, z)
 
-  pub type_refused : (r : NumberRead) (q w : Refusal) → 0 < left → r ≡ number_read.Refused q → number r ≡ type_at_in d s next
-      → w ≡ refusal_of r
-      → refused w.question w.at ≡ ended (free_types_in d count s at)
+  pub type_refused : (r : Result Number Refusal) (w : Refusal) → 0 < left → r ≡ Err w → number r ≡ type_at_in d s next
+      → refused (number_of w.question) w.at ≡ ended (free_types_in d count s at)
   unfolding and_then ended
-  type_refused r q w h f e k = let z = sym (rw f at e) in rw (t.same, types_step d left s next h, z, k, f)
+  type_refused r w h f e = let z = sym (rw f at e) in rw (t.same, types_step d left s next h, z)
 
-  pub type_read : (r : NumberRead) (n : Number) → 0 < left → r ≡ number_read.Found n → number r ≡ type_at_in d s next
-      → TypesLeft d s at count n.next (left - 1)
+  pub type_read : (r : Result Number Refusal) (n : Number) (m : ℕ) → m + 1 ≡ left → r ≡ Ok n → number r ≡ type_at_in d s next
+      → TypesLeft d s at count n.next m
   unfolding and_then
-  type_read r n h f e =
+  type_read r n m h f e =
       let z = sym (rw f at e) in
-      record { same = rw (t.same, types_step d left s next h, z, ended_map (free_types_in d (left - 1) s n.next) (λ ts. n.value ∷ ts)) }
+      let k : m ≡ left - 1 = omega arith in
+      record { same = rw (t.same, types_step d left s next (omega arith), z, k) (ended_map (free_types_in d (left - 1) s n.next) (λ ts. n.value ∷ ts)) }
 
 pub ruleset types_left = (rules, all_left, none_left, type_refused, type_read)
 
@@ -98,21 +95,21 @@ record Header (d : Dialect) (s : List ℕ) (n at : ℕ) : Type 0 where
   is : header_in d s ≡ got free at
   count : length free ≡ n
 
-module _ (d : Dialect) (s : List ℕ) (c : NumberRead) where
-  pub count_refused : (q : Refusal) → c ≡ number_read.Refused q → number c ≡ below 33 s 0 → number c ≡ counted_in (read_sheet_in d s)
+module _ (d : Dialect) (s : List ℕ) (c : Result Number Refusal) where
+  pub count_refused : (q : Refusal) → c ≡ Err q → number c ≡ below 33 s 0 → number c ≡ counted_in (read_sheet_in d s)
   unfolding and_then counted_in read_sheet_in header_in
   count_refused q f e = let z = sym (rw f at e) in rw (z, f)
 
-  module _ (n : Number) (f : c ≡ number_read.Found n) (e : number c ≡ below 33 s 0) (t : End) (h : ending t ≡ ended (free_types_in d n.value s n.next)) where
+  module _ (n : Number) (f : c ≡ Ok n) (e : number c ≡ below 33 s 0) (t : Result ℕ Refusal) (h : ending t ≡ ended (free_types_in d n.value s n.next)) where
     types_are : header_in d s ≡ free_types_in d n.value s n.next
     unfolding and_then header_in
     types_are = let z = sym (rw f at e) in rw z
 
-    pub types_refused : (q w : Refusal) → t ≡ end.Refused q → w ≡ why_none t → refused w.question w.at ≡ counted_in (read_sheet_in d s)
+    pub types_refused : (w : Refusal) → t ≡ Err w → refused (number_of w.question) w.at ≡ counted_in (read_sheet_in d s)
     unfolding and_then counted_in read_sheet_in
-    types_refused q w k l = rw (types_are, ended_refused (free_types_in d n.value s n.next) {q = q.question} {p = q.at} (rw k at h), l, k)
+    types_refused w k = rw (types_are, ended_refused (free_types_in d n.value s n.next) {q = number_of w.question} {p = w.at} (rw k at h))
 
-    module _ (at : ℕ) (k : t ≡ end.At at) (p : Path) (i : path_of p ≡ []) (r : NumberRead) (j : number r ≡ counted 0 (read_system_in d 64 s n.value (path_of p) 0 at)) where
+    module _ (at : ℕ) (k : t ≡ Ok at) (p : Path) (i : path_of p ≡ []) (r : Result Number Refusal) (j : number r ≡ counted 0 (read_system_in d 64 s n.value (path_of p) 0 at)) where
       head : Header d s n.value at
       head =
           let z = ended_got (free_types_in d n.value s n.next) {m = at} (rw k at h) in
@@ -125,11 +122,11 @@ module _ (d : Dialect) (s : List ℕ) (c : NumberRead) where
       told : number r ≡ counted 0 (read_system_in d 64 s n.value [] 0 at)
       told = rw i at j
 
-      pub system_refused : (q : Refusal) → r ≡ number_read.Refused q → number r ≡ counted_in (read_sheet_in d s)
+      pub system_refused : (q : Refusal) → r ≡ Err q → number r ≡ counted_in (read_sheet_in d s)
       unfolding and_then counted_in
-      system_refused q l = rw (sheet_is, counted_refused 0 (read_system_in d 64 s n.value [] 0 at) {q = q.question} {p = q.at} (rw l at told), l)
+      system_refused q l = rw (sheet_is, counted_refused 0 (read_system_in d 64 s n.value [] 0 at) {q = number_of q.question} {p = q.at} (rw l at told), l)
 
-      module _ (v : Number) (l : r ≡ number_read.Found v) where
+      module _ (v : Number) (l : r ≡ Ok v) where
         found : Numbered (read_system_in d 64 s n.value [] 0 at) v.value v.next
         found = counted_got (read_system_in d 64 s n.value [] 0 at) {v = v.value} {m = v.next} (rw l at told)
 

@@ -3,7 +3,7 @@
 use Prim.Native.Nat.{ℕ, ◌+◌, ◌-◌, ◌<◌, ◌≤◌}
 use mathlib.Core.Bool.{true}
 use mathlib.Core.List.{List, [], ◌∷◌, ◌++◌}
-use mathlib.Core.Path.{◌≡◌, refl, sym, ap, ◌∙◌}
+use mathlib.Core.Path.{◌≡◌, refl, sym, ◌∙◌}
 use native.Mathlib.Nat.{add-zero, add_assoc}
 use native.Mathlib.Omega.{arith}
 use borrow.Author.Rules.{rules}
@@ -15,23 +15,18 @@ use mir.Val.{Fits}
 use Rattle.reading.proofs.FormLaws.{FitsSystem, GroupNew, system_room, system_level, system_group}
 use Rattle.reading.proofs.Parts.{never}
 use Rattle.reading.proofs.TreeLaws.{system_step, system_stop}
+use Rattle.std.specs.Prelude.{Result, Ok, Err}
 use Rattle.reading.specs.Read.{Read, got, refused, and_then}
 use Rattle.reading.specs.Syntax.{Process, System, parₛ, groupₛ, newₛ, components}
 use Rattle.reading.specs.Forms.{system_at_in}
 use Rattle.reading.specs.System.{component, system_from, read_process_in, read_system_in}
-use Rattle.reading.specs.Told.{why_none, number, form, ending, ended, counted, why_of}
+use Rattle.reading.specs.Told.{number_of, number, form, ending, ended, counted}
 use Rattle.reading.specs.declared.Dialect.{Dialect}
 use Rattle.reading.specs.declared.Act.{Act}
-use Rattle.reading.specs.declared.End.{End}
-use Rattle.reading.specs.declared.End.TheVariants as end
 use Rattle.reading.specs.declared.Form.{Form}
 use Rattle.reading.specs.declared.Form.TheVariants.{Nil, Par, Group, New, Component, Input, Output, Replicate}
-use Rattle.reading.specs.declared.FormRead.{FormRead}
-use Rattle.reading.specs.declared.FormRead.TheVariants as form_read
 use Rattle.reading.specs.declared.OwnFields.{OwnFields}
 use Rattle.reading.specs.declared.Number.{Number}
-use Rattle.reading.specs.declared.NumberRead.{NumberRead}
-use Rattle.reading.specs.declared.NumberRead.TheVariants as number_read
 use Rattle.reading.specs.declared.Place.{Place}
 use Rattle.reading.specs.declared.Refusal.{Refusal}
 
@@ -44,7 +39,7 @@ counted_map preceding (refused q p) f h = refl
 
 -- After a parallel form's left part a system ends as its right part does; `read` reads one level deeper.
 module _ (read : ℕ → List ℕ → ℕ → ℕ → Read System) (process : ℕ → Read Process) (at names : ℕ) (path : List ℕ) (preceding next : ℕ) where
-  after_par : (l : NumberRead) (n : Number) → l ≡ number_read.Found n → number l ≡ counted preceding (read names path preceding next)
+  after_par : (l : Result Number Refusal) (n : Number) → l ≡ Ok n → number l ≡ counted preceding (read names path preceding next)
       → counted preceding (system_from read process at names path preceding Par next) ≡ counted n.value (read names path n.value n.next)
   unfolding system_from counted and_then components
   after_par l n i h = go (read names path preceding next) (rw i at h)
@@ -64,34 +59,33 @@ module _ (read : ℕ → List ℕ → ℕ → ℕ → Read System) (process : �
       go (refused a b) h = never (sym h)
 
   -- A parallel form whose left part is refused.
-  after_left : (l : NumberRead) (q : Refusal) → l ≡ number_read.Refused q → number l ≡ counted preceding (read names path preceding next)
+  after_left : (l : Result Number Refusal) (q : Refusal) → l ≡ Err q → number l ≡ counted preceding (read names path preceding next)
       → counted preceding (system_from read process at names path preceding Par next) ≡ number l
   unfolding system_from counted and_then
   after_left l q i h = rw i (go (read names path preceding next) (rw i at h))
     where
-      go : (x : Read System) → refused q.question q.at ≡ counted preceding x
+      go : (x : Read System) → refused (number_of q.question) q.at ≡ counted preceding x
           → counted preceding (and_then x (λ l m. and_then (read names path (preceding + components l) m) (λ r k. got (parₛ l r) k)))
-          ≡ refused q.question q.at
+          ≡ refused (number_of q.question) q.at
       go (got p n) h = never h
       go (refused a b) h = sym h
 
 -- A component's process, read or not.
-pub component_ends : (preceding : ℕ) (own : OwnFields) (x : Read Process) (e : End) (m : ℕ) → e ≡ end.At m → ending e ≡ ended x
+pub component_ends : (preceding : ℕ) (own : OwnFields) (x : Read Process) (e : Result ℕ Refusal) (m : ℕ) → e ≡ Ok m → ending e ≡ ended x
     → got (preceding + 1) m ≡ counted preceding (component own x)
 unfolding component counted and_then ended components
 component_ends preceding own (got p k) e m i h = let z : m ≡ k = cc in rw z
 component_ends preceding own (refused a b) e m i h = never (sym (rw i at h))
 
-pub component_stops : (preceding : ℕ) (own : OwnFields) (x : Read Process) (e : End) (q w : Refusal) → e ≡ end.Refused q → w ≡ why_none e → ending e ≡ ended x
-    → refused w.question w.at ≡ counted preceding (component own x)
+pub component_stops : (preceding : ℕ) (own : OwnFields) (x : Read Process) (e : Result ℕ Refusal) (w : Refusal) → e ≡ Err w → ending e ≡ ended x
+    → refused (number_of w.question) w.at ≡ counted preceding (component own x)
 unfolding component counted and_then ended
-component_stops preceding own (got p k) e q w i o h = never (rw i at h)
-component_stops preceding own (refused a b) e q w i o h =
+component_stops preceding own (got p k) e w i h = never (rw i at h)
+component_stops preceding own (refused a b) e w i h =
     let k = rw i at h in
-    let v : q.question ≡ a = cc in
-    let u : q.at ≡ b = cc in
-    let z : w ≡ q = o ∙ ap why_none i in
-    rw (z, v, u)
+    let v : number_of w.question ≡ a = cc in
+    let u : w.at ≡ b = cc in
+    rw (v, u)
 
 pub ruleset component_steps = (rules, component_ends, component_stops)
 
@@ -106,7 +100,7 @@ system_whole d s at nest names path so_far = record { same = refl; low = omega a
 
 -- What the code knows of the form at the place reached.
 module _ (d : Dialect) (s : List ℕ) (from levels bound : ℕ) (above : List ℕ) (preceding at nest names : ℕ) (path : List ℕ) (so_far : ℕ)
-    (l : SystemLeft d s from levels bound above preceding at nest names path so_far) (r : FormRead)
+    (l : SystemLeft d s from levels bound above preceding at nest names path so_far) (r : Result Place Refusal)
     (e : form r ≡ system_at_in d s at nest names path so_far) where
   abbrev told : Read ℕ
   told = counted preceding (read_system_in d levels s bound above preceding from)
@@ -120,12 +114,11 @@ module _ (d : Dialect) (s : List ℕ) (from levels bound : ℕ) (above : List �
   abbrev after : Form → ℕ → Read ℕ
   after g next = counted so_far (system_from deeper inside at names path so_far g next)
 
-  pub system_refused : (q w : Refusal) → r ≡ form_read.Refused q → w ≡ why_of r
-      → refused w.question w.at ≡ told
+  pub system_refused : (w : Refusal) → r ≡ Err w → refused (number_of w.question) w.at ≡ told
   unfolding counted
-  system_refused q w f h = rw (l.same, system_stop d nest s names path so_far at {q = q.question} {p = q.at} (rw f at (sym e)), h, f)
+  system_refused w f = rw (l.same, system_stop d nest s names path so_far at {q = number_of w.question} {p = w.at} (rw f at (sym e)))
 
-  module _ (p : Place) (f : r ≡ form_read.Found p) where
+  module _ (p : Place) (f : r ≡ Ok p) where
     found : system_at_in d s at nest names path so_far ≡ got p.form p.next
     found = rw f at (sym e)
 
@@ -172,7 +165,7 @@ module _ (d : Dialect) (s : List ℕ) (from levels bound : ℕ) (above : List �
     unfolding system_from counted
     at_replicate h = ends Replicate h refl
 
-    pub at_component : (own : OwnFields) (t : NumberRead) → p.form ≡ Component own
+    pub at_component : (own : OwnFields) (t : Result Number Refusal) → p.form ≡ Component own
         → ((o : OwnFields) → number t ≡ counted so_far (component o (read_process_in d (nest - 1) s names p.next)))
         → number t ≡ told
     unfolding system_from
@@ -194,12 +187,12 @@ module _ (d : Dialect) (s : List ℕ) (from levels bound : ℕ) (above : List �
         goes (Group g) names q so_far p.next h
         (rw (← z) (counted_map so_far (deeper names q so_far p.next) (λ q. groupₛ g q) (λ q. refl)))
 
-    module _ (t : NumberRead) (k : number t ≡ counted so_far (read_system_in d (nest - 1) s names path so_far p.next)) where
-      pub at_par : (n : Number) → p.form ≡ Par → t ≡ number_read.Found n
+    module _ (t : Result Number Refusal) (k : number t ≡ counted so_far (read_system_in d (nest - 1) s names path so_far p.next)) where
+      pub at_par : (n : Number) → p.form ≡ Par → t ≡ Ok n
           → SystemLeft d s from levels bound above preceding n.next (nest - 1) names path n.value
       at_par n h i = goes Par names path n.value n.next h (after_par deeper inside at names path so_far p.next t n i k)
 
-      pub at_par_left : (q : Refusal) → p.form ≡ Par → t ≡ number_read.Refused q
+      pub at_par_left : (q : Refusal) → p.form ≡ Par → t ≡ Err q
           → number t ≡ told
       at_par_left q h i = ends Par h (after_left deeper inside at names path so_far p.next t q i k)
 

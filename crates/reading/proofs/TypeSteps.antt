@@ -14,20 +14,19 @@ use Rattle.reading.proofs.Parts.{below_found}
 use Rattle.reading.proofs.Steps.{steps}
 use Rattle.reading.proofs.TypeLaws.{groups_64, kinds_16, channel_scaled, power_step}
 use Rattle.reading.specs.Dialects.{groups_in, kinds_in}
+use Rattle.std.specs.Prelude.{Result, Ok, Err}
 use Rattle.reading.specs.Read.{Read, got, refused, and_then, below}
 use Rattle.reading.specs.Told.{number}
 use Rattle.reading.specs.Types.{channel, groups_then_kind_in}
 use Rattle.reading.specs.declared.Dialect.{Dialect}
 use Rattle.reading.specs.declared.Number.{Number}
-use Rattle.reading.specs.declared.NumberRead.{NumberRead}
-use Rattle.reading.specs.declared.NumberRead.TheVariants as number_read
 use Rattle.reading.specs.declared.Refusal.{Refusal}
 
-small : (n : ℕ) (s : List ℕ) (at : ℕ) (q : NumberRead) (g : Number) → q ≡ number_read.Found g → number q ≡ below n s at
+small : (n : ℕ) (s : List ℕ) (at : ℕ) (q : Result Number Refusal) (g : Number) → q ≡ Ok g → number q ≡ below n s at
     → g.value < n
 small n s at q g f e = below_found n s at {b = g.value} {k = g.next} (rw f at (sym e))
 
-pub count_fits : (s : List ℕ) (at : ℕ) (q : NumberRead) (g : Number) → q ≡ number_read.Found g → number q ≡ below 5 s at
+pub count_fits : (s : List ℕ) (at : ℕ) (q : Result Number Refusal) (g : Number) → q ≡ Ok g → number q ≡ below 5 s at
     → g.value ≤ 4
 count_fits s at q g f e = omega (arith, small 5 s at q g f e)
 
@@ -55,33 +54,37 @@ unfolding groups_then_kind_in
 group_step d zero s at h = absurd (omega arith)
 group_step d (suc n) s at h = rw (sub-one (suc n))
 
--- The loop over a type's groups: `left` of them are still to be read, from `next` on.
-pub record GroupsLeft (d : Dialect) (s : List ℕ) (at count next left sum factor : ℕ) : Type 0 where
-  pub same : groups_then_kind_in d count s at ≡ in_groups sum factor (groups_then_kind_in d left s next)
-  pub room : factor * 64 ^ left ≤ 64 ^ 4
+-- The loop over a type's groups: `done` of them are read, the rest from `next` on.
+pub record GroupsLeft (d : Dialect) (s : List ℕ) (at count next done sum factor : ℕ) : Type 0 where
+  pub same : groups_then_kind_in d count s at ≡ in_groups sum factor (groups_then_kind_in d (count - done) s next)
+  pub room : factor * 64 ^ (count - done) ≤ 64 ^ 4
   pub low : sum ≤ 2 * factor
 
-pub all_left : (d : Dialect) (s : List ℕ) (at count : ℕ) → count ≤ 4 → GroupsLeft d s at count at count 0 1
+pub all_left : (d : Dialect) (s : List ℕ) (at count : ℕ) → count ≤ 4 → GroupsLeft d s at count at 0 0 1
 all_left d s at count h =
     let p : 64 ^ count ≤ 64 ^ 4 = pow-le-pow_right (lit< tt) h in
-    record { same = in_none (groups_then_kind_in d count s at); room = omega arith; low = omega arith }
+    let z : count - 0 ≡ count = omega arith in
+    record { same = rw z (in_none (groups_then_kind_in d count s at)); room = rw z (omega arith); low = omega arith }
 
-module _ (d : Dialect) (s : List ℕ) (at count next left sum factor : ℕ) (l : GroupsLeft d s at count next left sum factor) where
+module _ (d : Dialect) (s : List ℕ) (at count next done sum factor : ℕ) (l : GroupsLeft d s at count next done sum factor) where
   factor_small : factor ≤ 64 ^ 4
   factor_small =
-      let p : 0 < 64 ^ left = omega (arith, one-le-pow left 64 (lit< tt)) in
+      let p : 0 < 64 ^ (count - done) = omega (arith, one-le-pow (count - done) 64 (lit< tt)) in
       omega (arith, le-mul_of_pos_right factor p, l.room)
 
   pub factor_fits : Fits w64 (factor * 64)
   factor_fits = record { fits = omega (arith, factor_small) }
 
   -- a group
-  module _ (k : ℕ) (b : k ≡ groups_in d) (r : NumberRead) (e : number r ≡ below k s next) where
-    pub group_refused : (q : Refusal) → 0 < left → r ≡ number_read.Refused q → number r ≡ groups_then_kind_in d count s at
+  module _ (k : ℕ) (b : k ≡ groups_in d) (r : Result Number Refusal) (e : number r ≡ below k s next) where
+    pub group_refused : (q : Refusal) → done < count → r ≡ Err q → number r ≡ groups_then_kind_in d count s at
     unfolding in_groups and_then
-    group_refused q h f = let z = sym (rw (f, b) at e) in rw (l.same, group_step d left s next h, z, f)
+    group_refused q h f =
+        let z = sym (rw (f, b) at e) in
+        let pos : 0 < count - done = omega arith in
+        rw (l.same, group_step d (count - done) s next pos, z, f)
 
-    module _ (g : Number) (f : r ≡ number_read.Found g) where
+    module _ (g : Number) (f : r ≡ Ok g) where
       group_small : g.value < 64
       group_small = omega (arith, small k s next r g f e, groups_64 d, b)
 
@@ -97,27 +100,29 @@ module _ (d : Dialect) (s : List ℕ) (at count next left sum factor : ℕ) (l :
       pub sum_fits : Fits w64 (sum + factor * (16 + g.value))
       sum_fits = record { fits = omega (arith, scaled_small, factor_small, l.low) }
 
-      pub group_read : 0 < left → GroupsLeft d s at count g.next (left - 1) (sum + factor * (16 + g.value)) (factor * 64)
+      pub group_read : done < count → GroupsLeft d s at count g.next (done + 1) (sum + factor * (16 + g.value)) (factor * 64)
       unfolding and_then
       group_read h =
           let z = sym (rw (f, b) at e) in
+          let pos : 0 < count - done = omega arith in
+          let k : count - (done + 1) ≡ (count - done) - 1 = omega arith in
           record {
-            same = rw (l.same, group_step d left s next h, z) (in_one_more sum factor g.value (groups_then_kind_in d (left - 1) s g.next));
-            room = rw (power_step factor left h) l.room;
+            same = rw (l.same, group_step d (count - done) s next pos, z, k) (in_one_more sum factor g.value (groups_then_kind_in d ((count - done) - 1) s g.next));
+            room = rw (k, power_step factor (count - done) pos) l.room;
             low = omega (arith, scaled_small, l.low);
           }
 
   -- the kind
-  module _ (k : ℕ) (b : k ≡ kinds_in d) (r : NumberRead) (e : number r ≡ below k s next) where
-    last : left ≤ 0 → groups_then_kind_in d left s next ≡ number r
+  module _ (k : ℕ) (b : k ≡ kinds_in d) (r : Result Number Refusal) (e : number r ≡ below k s next) where
+    last : count ≤ done → groups_then_kind_in d (count - done) s next ≡ number r
     unfolding groups_then_kind_in
-    last h = let z : left ≡ 0 = omega arith in rw (z, ← b) (sym e)
+    last h = let z : count - done ≡ 0 = omega arith in rw (z, ← b) (sym e)
 
-    pub kind_refused : (q : Refusal) → left ≤ 0 → r ≡ number_read.Refused q → number r ≡ groups_then_kind_in d count s at
+    pub kind_refused : (q : Refusal) → count ≤ done → r ≡ Err q → number r ≡ groups_then_kind_in d count s at
     unfolding in_groups and_then
     kind_refused q h f = rw (l.same, last h, f)
 
-    module _ (n : Number) (f : r ≡ number_read.Found n) where
+    module _ (n : Number) (f : r ≡ Ok n) where
       kind_small : factor * n.value ≤ factor * 16
       kind_small = let p : n.value ≤ 16 = omega (arith, small k s next r n f e, kinds_16 d, b) in mul-le-mul_left factor p
 
@@ -127,7 +132,7 @@ module _ (d : Dialect) (s : List ℕ) (at count next left sum factor : ℕ) (l :
       pub kind_fits : Fits w64 (sum + factor * n.value)
       kind_fits = record { fits = omega (arith, kind_small, factor_small, l.low) }
 
-      pub kind_read : left ≤ 0 → got (sum + factor * n.value) n.next ≡ groups_then_kind_in d count s at
+      pub kind_read : count ≤ done → got (sum + factor * n.value) n.next ≡ groups_then_kind_in d count s at
       unfolding in_groups and_then
       kind_read h = rw (l.same, last h, f)
 

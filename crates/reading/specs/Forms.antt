@@ -1,6 +1,6 @@
 -- "What stands at a place is a form, its fields and the place after it. Each other code byte is refused." In any dialect
 -- (`..In`), and in the current one.
-use Rattle.std.specs.Prelude.{ℕ, ◌+◌, List, [], ◌∷◌, Bool, true, false, cond, ◌&&◌, ◌||◌, length, ltb, eqb}
+use Rattle.std.specs.Prelude.{ℕ, List, [], ◌∷◌, Bool, true, false, cond, ◌&&◌, ◌||◌, length, ltb, eqb}
 use Rattle.reading.specs.Read.{Read, got, refused, and_then, byte_at, below}
 use Rattle.reading.specs.Dialects.{current, groups_in, purposes_in}
 use Rattle.reading.specs.Types.{type_at_in}

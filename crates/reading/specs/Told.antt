@@ -1,29 +1,67 @@
 -- Which number and values of document 01 each case of an answer of the code is, and which path a `Path` is.
-use Rattle.std.specs.Prelude.{ℕ, ◌+◌, List, take}
+use Rattle.std.specs.Prelude.{ℕ, ◌+◌, List, take, cond, ltb, Option, None, Some, Result, Ok, Err}
 use Rattle.reading.specs.Read.{Read, got, refused}
 use Rattle.reading.specs.Syntax.{System, Sheet, components}
 use Rattle.reading.specs.declared.Form.{Form}
+use Rattle.reading.specs.declared.Number.{Number}
 use Rattle.reading.specs.declared.Path.{Path}
+use Rattle.reading.specs.declared.Place.{Place}
+use Rattle.reading.specs.declared.Question.{Question}
+use Rattle.reading.specs.declared.Question.TheVariants as question
 use Rattle.reading.specs.declared.Refusal.{Refusal}
-use Rattle.reading.specs.declared.NumberRead.{NumberRead}
-use Rattle.reading.specs.declared.NumberRead.TheVariants as number_read
-use Rattle.reading.specs.declared.FormRead.{FormRead}
-use Rattle.reading.specs.declared.FormRead.TheVariants as form_read
-use Rattle.reading.specs.declared.End.{End}
-use Rattle.reading.specs.declared.End.TheVariants as end
 
-abbrev pub number : NumberRead → Read ℕ
-number (number_read.Found n) = got n.value n.next
-number (number_read.Refused r) = refused r.question r.at
+-- The number of each question.
+abbrev pub number_of : Question → ℕ
+number_of question.Length = 1
+number_of question.Byte = 2
+number_of question.NoneLeft = 3
+number_of question.Range = 4
+number_of question.Limits = 5
+number_of question.NewGroup = 6
+number_of question.Scope = 7
+number_of question.Channel = 8
+number_of question.Carried = 9
+number_of question.Located = 10
+number_of question.Charter = 11
+number_of question.Kinds = 12
+number_of question.Above = 13
+number_of question.Alike = 14
+number_of question.Fence = 15
+number_of question.Tree = 16
+number_of question.Reached = 17
+number_of question.Covered = 18
+number_of question.Output = 19
+number_of question.Start = 20
+number_of question.Script = 21
+number_of question.Log = 22
+number_of question.Names = 40
+number_of question.Purposes = 41
 
-abbrev pub form : FormRead → Read Form
-form (form_read.Found p) = got p.form p.next
-form (form_read.Refused r) = refused r.question r.at
+-- The number of the question that fails, if any does.
+abbrev pub numbered : Option Question → Option ℕ
+numbered None = None
+numbered (Some q) = Some (number_of q)
+
+-- A fault that is told by a number below the bound, and by the bound or more where there is none.
+unfoldable pub failed_below : ℕ → ℕ → Option ℕ
+failed_below bound fault = cond (ltb fault bound) (Some fault) None
+
+-- An answer of the code as a reading: what was found, as `found` has it, or the number of the question that fails and the place.
+abbrev pub told : {A B : Type 0} → (A → Read B) → Result A Refusal → Read B
+told found (Ok a) = found a
+told found (Err r) = refused (number_of r.question) r.at
+
+-- a number, and the place after it
+abbrev pub number : Result Number Refusal → Read ℕ
+number = told (λ n. got n.value n.next)
+
+-- a form, and the place after it
+abbrev pub form : Result Place Refusal → Read Form
+form = told (λ p. got p.form p.next)
 
 -- a reading of which only the place after it is kept
-abbrev pub ending : End → Read (Unit {0})
-ending (end.At next) = got tt next
-ending (end.Refused r) = refused r.question r.at
+abbrev pub ending : Result ℕ Refusal → Read (Unit {0})
+ending = told (λ next. got tt next)
 
 -- the same of any reading
 unfoldable pub ended : {A : Type 0} → Read A → Read (Unit {0})
@@ -39,21 +77,6 @@ counted before (refused question at) = refused question at
 unfoldable pub counted_in : Read Sheet → Read ℕ
 counted_in (got sheet next) = got (components sheet.system) next
 counted_in (refused question at) = refused question at
-
--- why a number was not read
-abbrev pub refusal_of : NumberRead → Refusal
-refusal_of (number_read.Found n) = record { question = 0; at = 0 }
-refusal_of (number_read.Refused r) = r
-
--- why nothing was read
-abbrev pub why_none : End → Refusal
-why_none (end.At next) = record { question = 0; at = 0 }
-why_none (end.Refused r) = r
-
--- why a form was not read
-abbrev pub why_of : FormRead → Refusal
-why_of (form_read.Found p) = record { question = 0; at = 0 }
-why_of (form_read.Refused r) = r
 
 abbrev pub path_of : Path → List ℕ
 path_of p = take p.len p.groups

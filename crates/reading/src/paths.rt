@@ -6,65 +6,54 @@ ghost use Rattle.reading.specs.Told.{path_of};
 use crate::Path;
 
 impl Path {
+    /// The path of no group.
+    pub fn empty() -> Path
+        ensures { path_of result ≡ [] }
+    {
+        Path {
+            groups: [0; 8],
+            len: 0,
+        }
+    }
+
     /// The groups of the path, the innermost last.
     pub fn groups(&self) -> &[u16]
         ensures { result.now ≡ path_of self.now }
     {
         &self.groups[..self.len.min(8)]
     }
-}
 
-pub fn empty() -> Path
-    ensures { path_of result ≡ [] }
-{
-    Path {
-        groups: [0; 8],
-        len: 0,
+    /// Does the group stand in the path?
+    #[tactic(auto, using(crate::proofs::PathLaws::has_steps))]
+    pub fn has(&self, group: usize) -> bool
+        ensures { result ≡ member group (path_of self.now) }
+    {
+        for held in self.groups() {
+            if *held as usize == group {
+                return true;
+            }
+        }
+        false
     }
-}
 
-// Does the group stand in the path?
-#[tactic(auto, using(crate::proofs::PathLaws::path_steps))]
-pub fn has(path: Path, group: usize) -> bool
-    ensures { result ≡ member group (path_of path) }
-{
-    let groups = path.groups;
-    let len = path.len;
-    let mut i: usize = 0;
-    while i < 8 {
-        if len <= i {
-            return false;
-        }
-        if groups[i] as usize == group {
-            return true;
-        }
-        i += 1;
+    /// Is there room for one more group?
+    #[tactic(auto, using(crate::proofs::PathLaws::path_steps))]
+    pub fn has_room(&self) -> bool
+        ensures { result ≡ ltb (length (path_of self.now)) 8 }
+    {
+        self.len < 8
     }
-    false
-}
 
-// Is there room for one more group?
-#[tactic(auto, using(crate::proofs::PathLaws::path_steps))]
-pub fn room(path: Path) -> bool
-    ensures { result ≡ ltb (length (path_of path)) 8 }
-{
-    path.len < 8
-}
-
-// The path with one group more at its end, where there is room. Groups are below 64.
-#[tactic(auto, using(crate::proofs::PathLaws::path_steps))]
-pub fn with(path: Path, group: usize) -> Path
-    ensures { ltb (length (path_of path)) 8 ≡ true → group < 65536 → path_of result ≡ path_of path ++ (group ∷ []) }
-{
-    let len = path.len;
-    if len < 8 {
-        let mut groups = path.groups;
-        groups[len] = (group % 65536) as u16;
-        Path {
-            groups,
-            len: len + 1,
+    /// The path with one group more at its end, where there is room. Groups are below 64.
+    #[tactic(auto, using(crate::proofs::PathLaws::path_steps))]
+    pub fn with(&self, group: usize) -> Path
+        ensures { ltb (length (path_of self.now)) 8 ≡ true → group < 65536 → path_of result ≡ path_of self.now ++ (group ∷ []) }
+    {
+        let mut path = *self;
+        if path.len < 8 {
+            path.groups[path.len] = (group % 65536) as u16;
+            path.len += 1;
         }
-    } else {
         path
     }
 }

@@ -4,10 +4,9 @@ ghost use Rattle.reading.specs.Types.{shape, groups_then_kind_in, type_at_in};
 ghost use Rattle.reading.specs.Told.{number};
 
 use crate::bytes::byte_below;
-use crate::dialects::{groups, kinds};
-use crate::{Dialect, Number, NumberRead, Shape};
+use crate::{Dialect, Number, Refusal, Shape};
 
-// The shape of a type.
+/// The shape of a type.
 #[tactic(auto, using(crate::proofs::Tests::tests), unfolding(crate::specs::Types::shape))]
 pub fn shape_of(t: usize) -> Shape
     ensures { result ≡ shape t }
@@ -25,41 +24,39 @@ pub fn shape_of(t: usize) -> Shape
 // `count` groups, the outermost first, then the kind. The groups read so far add `sum` to the type's number, and the type that
 // they carry adds `factor` times its own.
 #[tactic(auto, using(crate::proofs::TypeSteps::groups_left))]
-fn groups_then_kind(dialect: Dialect, s: &[u8], at: usize, count: usize) -> NumberRead
+fn groups_then_kind(dialect: Dialect, s: &[u8], at: usize, count: usize) -> Result<Number, Refusal>
     requires { count ≤ 4 }
     ensures { number result ≡ groups_then_kind_in dialect count s.now at }
 {
     let mut next = at;
-    let mut left = count;
     let mut sum: usize = 0;
     let mut factor: usize = 1;
-    while 0 < left {
-        let read = byte_below(s, next, groups(dialect));
-        let NumberRead::Found(group) = read else {
+    for _ in 0..count {
+        let read = byte_below(s, next, dialect.groups());
+        let Ok(group) = read else {
             return read;
         };
         next = group.next;
-        left -= 1;
         sum += factor * (16 + group.value);
         factor *= 64;
     }
-    let read = byte_below(s, next, kinds(dialect));
-    let NumberRead::Found(kind) = read else {
+    let read = byte_below(s, next, dialect.kinds());
+    let Ok(kind) = read else {
         return read;
     };
-    NumberRead::Found(Number {
+    Ok(Number {
         value: sum + factor * kind.value,
         next: kind.next,
     })
 }
 
-// A stored type: the count of groups, the groups, the kind.
+/// A stored type: the count of groups, the groups, the kind.
 #[tactic(auto, using(crate::proofs::TypeSteps::type_steps), unfolding(crate::specs::Types::type_at_in))]
-pub fn type_at(dialect: Dialect, s: &[u8], at: usize) -> NumberRead
+pub fn type_at(dialect: Dialect, s: &[u8], at: usize) -> Result<Number, Refusal>
     ensures { number result ≡ type_at_in dialect s.now at }
 {
     let read = byte_below(s, at, 5);
-    let NumberRead::Found(count) = read else {
+    let Ok(count) = read else {
         return read;
     };
     groups_then_kind(dialect, s, count.next, count.value)
