@@ -9,7 +9,7 @@ ghost use Rattle.reading.specs.Types.{shape};
 use reading::Shape;
 use reading::types::shape_of;
 
-// The permission that an act needs, for data of a base type (document 01: kind).
+/// The permission that an act needs, for data of a base type (document 01: kind).
 #[derive(Clone, Copy, Debug, PartialEq, Eq)]
 pub enum Need {
     Nothing,
@@ -34,15 +34,9 @@ fn carried_by(t: usize) -> Carried
 {
     match shape_of(t) {
         Shape::Plain(kind) => Carried::Data(kind),
-        Shape::Channel {
-            group: _,
-            carried: inner,
-        } => match shape_of(inner) {
+        Shape::Channel { carried, .. } => match shape_of(carried) {
             Shape::Plain(kind) => Carried::Link(kind),
-            Shape::Channel {
-                group: _,
-                carried: _,
-            } => Carried::Deeper,
+            Shape::Channel { .. } => Carried::Deeper,
         },
     }
 }
@@ -53,24 +47,19 @@ fn carried_by(t: usize) -> Carried
 fn case_need(sends: bool, group: usize, t: usize) -> Need
     ensures { result ≡ case_need sends group (carries (shape t)) }
 {
-    if !sends {
+    match (sends, carried_by(t)) {
         // (In)
-        match carried_by(t) {
-            Carried::Data(kind) => Need::Read(kind),
-            Carried::Link(kind) => Need::Access(kind),
-            Carried::Deeper => Need::Nothing,
-        }
-    } else {
+        (false, Carried::Data(kind)) => Need::Read(kind),
+        (false, Carried::Link(kind)) => Need::Access(kind),
+        (false, Carried::Deeper) => Need::Nothing,
         // (Out)
-        match carried_by(t) {
-            Carried::Data(kind) => Need::Write(kind),
-            Carried::Link(kind) => Need::Disclose { kind, group },
-            Carried::Deeper => Need::Nothing,
-        }
+        (true, Carried::Data(kind)) => Need::Write(kind),
+        (true, Carried::Link(kind)) => Need::Disclose { kind, group },
+        (true, Carried::Deeper) => Need::Nothing,
     }
 }
 
-// What a send or a receive on a channel of type t needs.
+/// What a send or a receive on a channel of type t needs.
 #[tactic(auto, using(crate::proofs::NeedSteps::need_steps))]
 pub fn need_of(sends: bool, t: usize) -> Need
     ensures { result ≡ need sends t }
