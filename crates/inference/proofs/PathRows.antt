@@ -38,6 +38,12 @@ store_last c i p groups t first u s h e f = rw (← f, ← e) (cut (drop_of_leng
     cut : {l m : List ℕ} → l ≡ [] → stored u (c * 211 + 1 + i) l ≡ m → u ≡ m
     cut q r = rw q at r
 
+-- What is taken of a list is as long as what it takes again.
+pub take_own : (n : ℕ) (l : List ℕ) → take (length (take n l)) l ≡ take n l
+take_own zero l = refl
+take_own (suc n) [] = refl
+take_own (suc n) (x ∷ l) = ap (λ (m : List ℕ). x ∷ m) (take_own n l)
+
 -- Reading: each place passed holds what stands in the row.
 pub record Copied (row : ℕ) (table groups : List ℕ) (i : ℕ) : Type 0 where
   pub within : i ≤ 8
