@@ -20,6 +20,7 @@ fn too_many(sizes: Sizes) -> Sizes
 }
 
 // A new name of type t takes the next number; its cell comes after `env`.
+#[tactic(auto, using(crate::proofs::GivingSteps::giving_steps))]
 pub fn give(sizes: Sizes, t: usize, env: usize, types: &mut [u32], cells: &mut [u32]) -> Sizes
     requires { t < 4294967296 }
     ensures { Gives sizes t env types.old types.new cells.old cells.new result }
@@ -50,6 +51,7 @@ pub fn last_cell(sizes: Sizes) -> usize
 }
 
 // A thread stands after those made so far.
+#[tactic(auto, using(crate::proofs::GivingSteps::giving_steps))]
 pub fn push(sizes: Sizes, t: Thread, made: &mut [usize]) -> Sizes
     ensures { Pushes sizes t made.old made.new result }
 {

@@ -15,6 +15,7 @@ use reading::Form;
 
 // What the process at a thread's place makes.
 #[cycle(make_form_make_par_make_process_make_under)]
+#[tactic(auto, using(crate::proofs::MakeSteps::make_steps))]
 pub fn make_process(
     forms: &[usize],
     t: Thread,
@@ -36,6 +37,7 @@ pub fn make_process(
 
 // The same, where this item stands at the place.
 #[cycle(make_form_make_par_make_process_make_under)]
+#[tactic(auto, using(crate::proofs::MakeSteps::make_steps))]
 fn make_form(
     forms: &[usize],
     t: Thread,
@@ -72,6 +74,7 @@ fn make_form(
 
 // Two processes, one after the other; the second stands at `second`.
 #[cycle(make_form_make_par_make_process_make_under)]
+#[tactic(auto, using(crate::proofs::MakeSteps::make_steps))]
 fn make_par(
     forms: &[usize],
     t: Thread,
@@ -99,6 +102,7 @@ fn make_par(
 
 // A process under a new name of type u.
 #[cycle(make_form_make_par_make_process_make_under)]
+#[tactic(auto, using(crate::proofs::MakeSteps::make_steps))]
 fn make_under(
     forms: &[usize],
     t: Thread,
@@ -128,6 +132,7 @@ fn make_under(
 }
 
 // What the process at a thread's place makes, asked at its first form: only a parallel form and a new name want the walk.
+#[tactic(auto, using(crate::proofs::MakeSteps::make_steps))]
 pub fn make(
     forms: &[usize],
     t: Thread,

@@ -17,6 +17,7 @@ use reading::types::type_at;
 use reading::{Dialect, Number, NumberRead};
 
 // How many free names there are, and the place of their types.
+#[tactic(auto, using(crate::proofs::StartSteps::start_steps))]
 fn free_count(s: &[u8]) -> Number
     ensures { result ≡ free_count s.now }
 {
@@ -28,6 +29,7 @@ fn free_count(s: &[u8]) -> Number
 }
 
 // The first names become known to the environment.
+#[tactic(auto, using(crate::proofs::StartSteps::start_steps))]
 fn know_first(known: &mut [bool], count: usize)
     ensures { known.new ≡ first_known count known.old }
 {
@@ -40,6 +42,7 @@ fn know_first(known: &mut [bool], count: usize)
 
 // Gives the first names, one after another, their types standing from a place on; the place after these types. Cell 0 is no
 // name's, so that the cell of name i is i + 1.
+#[tactic(auto, using(crate::proofs::StartSteps::start_steps))]
 fn give_types(s: &[u8], at: usize, count: usize, types: &mut [u32], cells: &mut [u32]) -> Made
     ensures { GivenTypes count s.now at types.old types.new
         cells.old cells.new result }
@@ -64,6 +67,7 @@ fn give_types(s: &[u8], at: usize, count: usize, types: &mut [u32], cells: &mut 
 }
 
 // Gives the free names of a sheet.
+#[tactic(auto, using(crate::proofs::StartSteps::start_steps))]
 fn give_free(s: &[u8], types: &mut [u32], cells: &mut [u32]) -> Made
     ensures { GivenFree s.now types.old types.new
         cells.old cells.new result }
@@ -73,6 +77,7 @@ fn give_free(s: &[u8], types: &mut [u32], cells: &mut [u32]) -> Made
 }
 
 // The same, then what the sheet's system makes, from its forms.
+#[tactic(auto, using(crate::proofs::StartSteps::start_steps))]
 fn make_sheet(
     s: &[u8],
     forms: &mut [usize],
@@ -100,6 +105,7 @@ fn make_sheet(
 }
 
 // The start of a sheet that passes questions 1 to 6, in blank tables.
+#[tactic(auto, using(crate::proofs::StartSteps::start_steps))]
 pub fn start(
     s: &[u8],
     forms: &mut [usize],

@@ -17,6 +17,7 @@ use reading::Form;
 
 // What the system at a place makes; `t.component` is the number of its first component.
 #[cycle(make_form_make_par_make_system_make_under)]
+#[tactic(auto, using(crate::proofs::SystemSteps::system_steps))]
 pub fn make_system(
     forms: &[usize],
     t: Thread,
@@ -42,6 +43,7 @@ pub fn make_system(
 
 // The same, where this item stands at the place.
 #[cycle(make_form_make_par_make_system_make_under)]
+#[tactic(auto, using(crate::proofs::SystemSteps::system_steps))]
 fn make_form(
     forms: &[usize],
     t: Thread,
@@ -82,6 +84,7 @@ fn make_form(
 }
 
 // A component: what its process makes.
+#[tactic(auto, using(crate::proofs::SystemSteps::system_steps))]
 fn make_component(
     forms: &[usize],
     t: Thread,
@@ -109,6 +112,7 @@ fn make_component(
 
 // Two systems, one after the other; the second stands at `second` and counts on from the components of the first.
 #[cycle(make_form_make_par_make_system_make_under)]
+#[tactic(auto, using(crate::proofs::SystemSteps::system_steps))]
 fn make_par(
     forms: &[usize],
     t: Thread,
@@ -139,6 +143,7 @@ fn make_par(
 
 // A system under a new name of type u.
 #[cycle(make_form_make_par_make_system_make_under)]
+#[tactic(auto, using(crate::proofs::SystemSteps::system_steps))]
 fn make_under(
     forms: &[usize],
     t: Thread,
