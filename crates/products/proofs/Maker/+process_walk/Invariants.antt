@@ -1,7 +1,6 @@
--- The walk over a process makes what the process that the table holds at its place makes. Each return is one lemma of MakeSteps; the
--- measure is three times the nesting that is left, and a little more on the way from a form to its parts.
+-- The measure: three times the nesting that is left, and a little more on the way from a form to its parts.
 use Prim.Native.Nat.{◌+◌, ◌*◌}
-use Rattle.products.proofs.processes.+make_form_make_par_make_process_make_under.Given as goal
+use Rattle.products.proofs.Maker.+process_walk.Given as goal
 
 abbrev pub decreases-make_form : goal.decreases-make_form
 decreases-make_form l = l.t.nest * 3
