@@ -15,6 +15,7 @@ use reading::types::type_at;
 use reading::{Dialect, Form, FormRead, NumberRead, Place, paths};
 
 // Stores a form at its place.
+#[tactic(auto, using(crate::proofs::WordSteps::word_steps))]
 fn put(forms: &mut [usize], at: usize, item: Item)
     ensures { forms.new ≡ set forms.old at (packed item) }
 {
@@ -23,6 +24,7 @@ fn put(forms: &mut [usize], at: usize, item: Item)
 
 // The process at a place, form by form; the place after it. The first part of a parallel form (1) is a call; a new name (3), an
 // input (5), an output (6) and a repeat (7) are a turn each, and so is the second part; nothing (0) ends it.
+#[tactic(auto, using(crate::proofs::NoteSteps::note_steps, crate::proofs::NoteSteps::output_on))]
 pub fn note_process(s: &[u8], from: usize, levels: usize, forms: &mut [usize]) -> usize
     ensures { ProcessNoted s.now from levels forms.old forms.new result }
 {
@@ -81,6 +83,7 @@ pub fn note_process(s: &[u8], from: usize, levels: usize, forms: &mut [usize]) -
 }
 
 // A nothing-form, which needs no place.
+#[tactic(auto, using(crate::proofs::WordSteps::word_steps))]
 fn note_alone(at: usize, next: usize, forms: &mut [usize]) -> usize
     ensures { (result ≡ next) × (forms.new ≡ set forms.old at (packed_form Form.Nil 0 0)) }
 {
@@ -97,6 +100,7 @@ fn note_alone(at: usize, next: usize, forms: &mut [usize]) -> usize
 }
 
 // A form with one part, a process.
+#[tactic(auto, using(crate::proofs::NoteSteps::system_steps))]
 fn note_under(s: &[u8], at: usize, nest: usize, item: Item, forms: &mut [usize]) -> usize
     ensures { PartNoted s.now at nest item forms.old forms.new result }
 {
@@ -107,6 +111,7 @@ fn note_under(s: &[u8], at: usize, nest: usize, item: Item, forms: &mut [usize])
 
 // The system at a place; the place after it.
 #[cycle(note_below_note_both_note_system_note_system_form)]
+#[tactic(auto, using(crate::proofs::NoteSteps::system_steps))]
 pub fn note_system(s: &[u8], at: usize, nest: usize, forms: &mut [usize]) -> usize
     ensures { SystemNoted s.now at nest forms.old forms.new result }
 {
@@ -122,6 +127,7 @@ pub fn note_system(s: &[u8], at: usize, nest: usize, forms: &mut [usize]) -> usi
 
 // The same, where a form stands at the place; its parts may be nested `nest` forms deep.
 #[cycle(note_below_note_both_note_system_note_system_form)]
+#[tactic(auto, using(crate::proofs::NoteSteps::system_steps))]
 fn note_system_form(s: &[u8], at: usize, nest: usize, place: Place, forms: &mut [usize]) -> usize
     requires { system_at s.now at 1 0 [] 0 ≡ got place.form place.next }
     ensures { SystemFormNoted s.now at nest place forms.old forms.new result }
@@ -147,6 +153,7 @@ fn note_system_form(s: &[u8], at: usize, nest: usize, place: Place, forms: &mut 
 
 // A form with one part, a system.
 #[cycle(note_below_note_both_note_system_note_system_form)]
+#[tactic(auto, using(crate::proofs::NoteSteps::system_steps))]
 fn note_below(s: &[u8], at: usize, nest: usize, item: Item, forms: &mut [usize]) -> usize
     ensures { SystemPartNoted s.now at nest item forms.old forms.new result }
 {
@@ -157,6 +164,7 @@ fn note_below(s: &[u8], at: usize, nest: usize, item: Item, forms: &mut [usize])
 
 // Two systems, the second after the first.
 #[cycle(note_below_note_both_note_system_note_system_form)]
+#[tactic(auto, using(crate::proofs::NoteSteps::system_steps))]
 fn note_both(s: &[u8], at: usize, nest: usize, next: usize, forms: &mut [usize]) -> usize
     ensures { SystemPartsNoted s.now at nest next forms.old forms.new result }
 {

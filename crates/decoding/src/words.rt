@@ -7,6 +7,7 @@ use crate::Item;
 use reading::{Act, Form, OwnFields};
 
 // A code with its fields and the place of a part.
+#[tactic(auto, unfolding(crate::specs::Words::digits))]
 pub fn number(code: usize, channel: usize, object: usize, next: usize) -> usize
     ensures { result ≡ digits code channel object next }
 {
@@ -15,6 +16,7 @@ pub fn number(code: usize, channel: usize, object: usize, next: usize) -> usize
 }
 
 // A form as a number.
+#[tactic(auto, using(crate::proofs::WordSteps::word_steps))]
 pub fn pack(item: Item) -> usize
     ensures { result ≡ packed item }
 {
@@ -33,6 +35,7 @@ pub fn pack(item: Item) -> usize
 }
 
 // The form of a code and its fields.
+#[tactic(auto, using(crate::proofs::WordSteps::word_steps))]
 fn form_of(code: usize, channel: usize, object: usize) -> Form
     ensures { result ≡ form_of code channel object }
 {
@@ -52,6 +55,7 @@ fn form_of(code: usize, channel: usize, object: usize) -> Form
 }
 
 // The form that a number stands for.
+#[tactic(auto, using(crate::proofs::WordSteps::word_steps))]
 fn unpack(w: usize) -> Item
     ensures { result ≡ unpacked w }
 {
@@ -66,6 +70,7 @@ fn unpack(w: usize) -> Item
 }
 
 // What stands at a place of a table.
+#[tactic(auto, using(crate::proofs::WordSteps::word_steps))]
 pub fn item_at(forms: &[usize], at: usize) -> Item
     ensures { result ≡ item_at forms.now at }
 {

@@ -2,6 +2,7 @@
 use Prim.Native.Nat.{ℕ, zero, suc, ◌+◌, ◌-◌, ◌*◌, ◌%◌, ◌≤◌, ◌<◌, min}
 use mathlib.Core.Bool.{Bool, true, false, cond, ◌||◌}
 use mathlib.Core.List.{List, [], ◌∷◌}
+use Rattle.std.specs.Prelude.{Some, None}
 use mathlib.Core.Path.{◌≡◌, refl, sym, ap, ◌∙◌}
 use native.Mathlib.Numerals.{add-one}
 use native.Mathlib.Omega.{arith}
@@ -9,17 +10,17 @@ use native.Mathlib.Decide.{ℕ_discrete}
 use borrow.Author.Rules.{rules}
 use borrow.Author.Tests.{lt-ltb, le-ltb, ltb-true, ltb-false, eq-eqb, ne_eqb}
 use lib.Dec.{ltb, eqb}
-use lib.ListN.{length, drop, get_or, set, length-take, length-set, drop_of_length-le}
-use lib.Seq.{drop-cons, get_or-take}
+use lib.ListN.{length, drop, get_or, set, length-set, drop_of_length-le}
+use lib.Seq.{drop-cons}
 use Rattle.reading.specs.Forms.{member}
 use Rattle.reading.specs.Told.{path_of}
 use Rattle.reading.specs.declared.Path.{Path}
 use Rattle.inference.specs.Lists.{only, rising}
-use Rattle.inference.specs.Rows.{stored, candidate, next_group, rising_groups, with_groups, with_path}
+use Rattle.inference.specs.Rows.{stored, candidate, next_group, found_group, rising_groups, with_groups, with_path}
 
 -- The search for the next group has come to a place of the path.
-pub record Nearest (p : Path) (from best i : ℕ) : Type 0 where
-  pub same : next_group (path_of p) from ≡ min best (next_group (drop i (path_of p)) from)
+pub record Nearest (path : List ℕ) (from best i : ℕ) : Type 0 where
+  pub same : next_group path from ≡ min best (next_group (drop i path) from)
   pub few : best ≤ 64
 
 next_few : (path : List ℕ) (from : ℕ) → next_group path from ≤ 64
@@ -27,34 +28,40 @@ unfolding next_group
 next_few [] from = omega arith
 next_few (g ∷ path) from = omega (arith, next_few path from)
 
-pub near_first : (p : Path) (from : ℕ) → Nearest p from 64 0
-near_first p from = record { same = omega (arith, next_few (path_of p) from); few = omega arith }
+pub near_first : (path : List ℕ) (from : ℕ) → Nearest path from 64 0
+near_first path from = record { same = omega (arith, next_few path from); few = omega arith }
 
-module _ (p : Path) (from best i : ℕ) (s : Nearest p from best i) where
-  over : length (path_of p) ≤ i → best ≡ next_group (path_of p) from
+module _ (path : List ℕ) (from best i : ℕ) (s : Nearest path from best i) where
+  over : length path ≤ i → best ≡ next_group path from
   unfolding next_group
-  over h = sym (rw (drop_of_length-le (path_of p) h) at s.same ∙ omega (arith, s.few))
+  over h = sym (rw (drop_of_length-le path h) at s.same ∙ omega (arith, s.few))
 
-  pub near_end : p.len ≤ i → best ≡ next_group (path_of p) from
-  near_end h = over (omega (arith, length-take p.len p.groups))
+  pub near_found : (p : Path) → path ≡ path_of p → length path ≤ i → best < 64 → Some best ≡ found_group (next_group (path_of p) from)
+  unfolding found_group
+  near_found p e h k = rw (← e, ← over h, lt-ltb best 64 k)
 
-  pub near_eight : length p.groups ≡ 8 → 8 ≤ i → best ≡ next_group (path_of p) from
-  near_eight k h = over (omega (arith, length-take p.len p.groups))
+  pub near_none : (p : Path) → path ≡ path_of p → length path ≤ i → 64 ≤ best → None ≡ found_group (next_group (path_of p) from)
+  unfolding found_group
+  near_none p e h k = rw (← e, ← over h, le-ltb best 64 k)
 
-  pub near_few : best ≤ 64
-  near_few = s.few
+  here : i < length path → drop i path ≡ get_or path i 0 ∷ drop (i + 1) path
+  here h = rw (drop-cons path i 0 h, add-one)
 
-  pub near_next : (v : ℕ) → length p.groups ≡ 8 → i < 8 → i < p.len → v ≡ min best (candidate (get_or p.groups i 0) from) → Nearest p from v (i + 1)
-  unfolding next_group
-  near_next v k j h e = record {
-    same = rw here at s.same ∙ omega (arith, e);
+  pub near_next : (v : ℕ) → i < length path → from ≤ get_or path i 0 → v ≡ min best (get_or path i 0) → Nearest path from v (i + 1)
+  unfolding next_group candidate
+  near_next v h k e = record {
+    same = let q = rw (here h, le-ltb (get_or path i 0) from k) at s.same in omega (arith, e, q);
     few = omega (arith, e, s.few);
   }
-    where
-      here : drop i (path_of p) ≡ get_or p.groups i 0 ∷ drop (i + 1) (path_of p)
-      here = rw (drop-cons (path_of p) i 0 (omega (arith, length-take p.len p.groups)), get_or-take, add-one)
 
-pub ruleset near_steps = (rules, near_first, near_end, near_eight, near_few, near_next)
+  pub near_past : i < length path → get_or path i 0 < from → Nearest path from best (i + 1)
+  unfolding next_group candidate
+  near_past h k = record {
+    same = let q = rw (here h, lt-ltb (get_or path i 0) from k) at s.same in omega (arith, q, s.few);
+    few = s.few;
+  }
+
+pub ruleset near_steps = (rules, near_first, near_found, near_none, near_next, near_past)
 
 -- A group of the path is the next from itself on; any other is passed over.
 by_test : (P : ℕ → Type 0) (a b x y : ℕ) → (a < b → P x) → (b ≤ a → P y) → P (cond (ltb a b) x y)
@@ -122,6 +129,27 @@ next_groups path (suc n) from h = go (member from path) refl (next_groups path n
     go true e rest = unfold groups_from in let k : 63 - from ≡ n = omega arith in rw (next_is path from (omega arith) e, lt-ltb from 64 (omega arith), k)
     go false e rest = rw (next_past path from e) rest
 
+-- A group that is found, and none.
+by_group : (P : Type 0) (t : Bool) (n g : ℕ) → Some g ≡ cond t (Some n) None → (t ≡ true → g ≡ n → P) → P
+by_group P true n g e f = f refl (cc)
+by_group P false n g e f = cc
+
+pub group_is : (n g : ℕ) → Some g ≡ found_group n → g ≡ n
+unfolding found_group
+group_is n g e = by_group (g ≡ n) (ltb n 64) n g e (λ t q. q)
+
+pub group_low : (n g : ℕ) → Some g ≡ found_group n → g < 64
+unfolding found_group
+group_low n g e = by_group (g < 64) (ltb n 64) n g e (λ t q. rw q (ltb-true n 64 t))
+
+by_no_group : (t : Bool) (n : ℕ) → None ≡ cond t (Some n) None → t ≡ false
+by_no_group true n e = cc
+by_no_group false n e = refl
+
+pub no_group : (n : ℕ) → None ≡ found_group n → 64 ≤ n
+unfolding found_group
+no_group n e = ltb-false n 64 (by_no_group (ltb n 64) n e)
+
 -- Storing: what is left to store makes of the table now what all of it makes of the table at first.
 pub record Rising (row : ℕ) (path first table : List ℕ) (count group : ℕ) : Type 0 where
   pub left : stored table (row + 10 + count) (groups_from path group) ≡ stored first (row + 10) (rising_groups path)
@@ -170,16 +198,22 @@ module _ (row count g : ℕ) (path first t : List ℕ) (s : Rising row path firs
       lined : row + 10 + (count + 1) ≡ row + 10 + count + 1
       lined = omega arith
 
-  pub rise_falls : (v : ℕ) → g < 64 → v ≡ next_group path (g + 1) → 64 - v < 64 - g
-  rise_falls v h f = omega (arith, f, next_least path (g + 1) (omega arith))
+  pub rise_more : (u : List ℕ) (x : ℕ) → Some x ≡ found_group g → u ≡ set t (row + 10 + count) (x % 65536)
+      → Rising row path first u (count + 1) (next_group path (x + 1))
+  rise_more u x e f =
+      let q = group_is g x e in
+      rise_next u (next_group path (x + 1)) (rw q at (group_low g x e)) (rw q at f) (rw q refl)
 
   pub rise_last : (c : ℕ) (u : List ℕ) → row ≡ c * 211 → 64 ≤ g → u ≡ set t (row + 9) (count % 65536) → u ≡ with_groups first c (rising_groups path)
   unfolding with_groups
   rise_last c u r h e = let none = nothing_left h in
       rw (e, ← r, ← ended none s.left) (ap (λ (n : ℕ). set t (row + 9) (n % 65536)) (omega (arith, rw none at s.number)))
 
+pub next_from : (path : List ℕ) (from g : ℕ) → Some g ≡ found_group (next_group path from) → from ≤ 64 → from ≤ g
+next_from path from g e h = rw (group_is (next_group path from) g e) (next_least path from h)
+
 pub path_stored : (t u v : List ℕ) (c : ℕ) (path : List ℕ) → u ≡ stored t (c * 211) (length path ∷ path) → v ≡ with_groups u c (rising_groups path) → v ≡ with_path t c path
 unfolding with_path
 path_stored t u v c path e f = rw (← e) f
 
-pub ruleset rise_steps = (rules, rise_first, rise_next, rise_falls, rise_last, path_stored)
+pub ruleset rise_steps = (rules, rise_first, rise_next, rise_last, path_stored)

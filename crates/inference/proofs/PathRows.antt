@@ -13,54 +13,36 @@ use Rattle.reading.specs.declared.Path.{Path}
 use Rattle.inference.specs.Rows.{stored, path_at}
 
 -- Storing: what is left to store makes of the table now what all of it makes of the table at first.
-pub record Storing (row len : ℕ) (groups first table : List ℕ) (i : ℕ) : Type 0 where
-  pub left : stored table (row + 1 + i) (drop i (take len groups)) ≡ stored first (row + 1) (take len groups)
-  pub same : length table ≡ length first
-  pub few : len ≤ 8
+pub record Storing (row : ℕ) (groups first table : List ℕ) (i : ℕ) : Type 0 where
+  pub left : stored table (row + 1 + i) (drop i groups) ≡ stored first (row + 1) groups
 
-pub store_first : (p : Path) (row len : ℕ) (t : List ℕ) → length p.groups ≡ 8 → len ≡ length (path_of p) → Storing row len p.groups t t 0
-store_first p row len t h e = record {
-  left = let z : row + 1 + 0 ≡ row + 1 = omega arith in rw z;
-  same = refl;
-  few = omega (arith, length-take p.len p.groups);
-}
+pub store_first : (row : ℕ) (groups t : List ℕ) → Storing row groups t t 0
+store_first row groups t = record { left = let z : row + 1 + 0 ≡ row + 1 = omega arith in rw z }
 
-pub store_next : (row len i : ℕ) (groups first t u : List ℕ) → Storing row len groups first t i → length groups ≡ 8 → i < len
-    → u ≡ set t (row + 1 + i) (get_or groups i 0 % 65536) → Storing row len groups first u (i + 1)
+pub store_next : (row i : ℕ) (groups first t u : List ℕ) → Storing row groups first t i → i < length groups
+    → u ≡ set t (row + 1 + i) (get_or groups i 0 % 65536) → Storing row groups first u (i + 1)
 unfolding stored
-store_next row len i groups first t u s g h e = record {
-  left = rw (e, lined) (rw (cut) at s.left);
-  same = omega (arith, s.same, ap length e, length-set t (row + 1 + i) (get_or groups i 0 % 65536));
-  few = s.few;
-}
+store_next row i groups first t u s h e = record { left = rw (e, lined) (rw (cut) at s.left) }
   where
     lined : row + 1 + (i + 1) ≡ row + 1 + i + 1
     lined = omega arith
 
-    cut : drop i (take len groups) ≡ get_or groups i 0 ∷ drop (i + 1) (take len groups)
-    cut = rw (drop-cons (take len groups) i 0 (omega (arith, length-take len groups, s.few)), get_or-take, add-one)
+    cut : drop i groups ≡ get_or groups i 0 ∷ drop (i + 1) groups
+    cut = rw (drop-cons groups i 0 h, add-one)
 
+pub store_last : (c i : ℕ) (p : Path) (groups t first u : List ℕ) → Storing (c * 211) groups first u i → length groups ≤ i
+    → first ≡ set t (c * 211) (length groups % 65536) → groups ≡ path_of p → u ≡ stored t (c * 211) (length (path_of p) ∷ path_of p)
+unfolding stored
+store_last c i p groups t first u s h e f = rw (← f, ← e) (cut (drop_of_length-le groups {i = i} h) s.left)
+  where
+    cut : {l m : List ℕ} → l ≡ [] → stored u (c * 211 + 1 + i) l ≡ m → u ≡ m
+    cut q r = rw q at r
+
+-- What is taken of a list is as long as what it takes again.
 pub take_own : (n : ℕ) (l : List ℕ) → take (length (take n l)) l ≡ take n l
 take_own zero l = refl
 take_own (suc n) [] = refl
 take_own (suc n) (x ∷ l) = ap (λ (m : List ℕ). x ∷ m) (take_own n l)
-
-pub store_last : (c len i : ℕ) (p : Path) (t first u : List ℕ) → Storing (c * 211) len p.groups first u i → len ≤ i
-    → first ≡ set t (c * 211) (len % 65536) → len ≡ length (path_of p) → u ≡ stored t (c * 211) (length (path_of p) ∷ path_of p)
-unfolding stored
-store_last c len i p t first u s h e f = cut at_end s.left ∙ ap (λ (l : List ℕ). stored first (c * 211 + 1) l) whole ∙ begun
-  where
-    at_end : drop i (take len p.groups) ≡ []
-    at_end = drop_of_length-le (take len p.groups) {i = i} (omega (arith, length-take len p.groups))
-
-    cut : {l m : List ℕ} → l ≡ [] → stored u (c * 211 + 1 + i) l ≡ m → u ≡ m
-    cut q r = rw q at r
-
-    whole : take len p.groups ≡ path_of p
-    whole = rw f (take_own p.len p.groups)
-
-    begun : stored first (c * 211 + 1) (path_of p) ≡ stored (set t (c * 211) (length (path_of p) % 65536)) (c * 211 + 1) (path_of p)
-    begun = rw (e, f)
 
 -- Reading: each place passed holds what stands in the row.
 pub record Copied (row : ℕ) (table groups : List ℕ) (i : ℕ) : Type 0 where

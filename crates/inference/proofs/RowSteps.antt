@@ -1,13 +1,15 @@
 -- The tables in lent memory: the types of the names in scope, and the rows of what components need. Each lemma is one return of
 -- a function of scope or rows.
 use Prim.Native.Nat.{ℕ, zero, suc, ◌+◌, ◌-◌, ◌*◌, ◌%◌, ◌≤◌, ◌<◌, min}
-use mathlib.Core.Bool.{Bool, true, false}
+use mathlib.Core.Bool.{Bool, true, false, cond, ◌&&◌, and-false}
 use mathlib.Core.List.{List, [], ◌∷◌}
 use mathlib.Core.Option.{some, none}
+use Rattle.std.specs.Prelude.{Option, Some, None}
 use mathlib.Core.Path.{◌≡◌, refl, sym, ◌∙◌}
 use native.Mathlib.Omega.{arith}
 use native.Mathlib.Numerals.{add-one}
-use borrow.Author.Tests.{lt-ltb, le-ltb, eq-eqb, ne_eqb}
+use borrow.Author.Tests.{lt-ltb, le-ltb, ltb-false, eq-eqb, ne_eqb}
+use lib.Dec.{ltb}
 use lib.ListN.{length, take, get_or, set, get_elem?, length-take}
 use lib.Seq.{set_out, get_or-take}
 use Rattle.reading.proofs.Tests.{tests}
@@ -16,7 +18,7 @@ use Rattle.reading.specs.Told.{path_of}
 use Rattle.reading.specs.declared.Path.{Path}
 use Rattle.needs.specs.declared.Need.{Need}
 use Rattle.needs.specs.declared.Need.TheVariants as need_case
-use Rattle.inference.specs.Rows.{bumped, charge_at, cell_of, charge_cell, marked, charge_column, group_at, group_count, place_from, candidate, kind_of, column_of, charge}
+use Rattle.inference.specs.Rows.{bumped, charge_at, cell_of, charge_cell, marked, charge_column, group_at, group_count, place_from, found_place, charge}
 
 -- What stands at a place of a list, and that nothing stands past its end.
 pub elem_in : (l : List ℕ) (i : ℕ) → i < length l → some (get_or l i 0) ≡ get_elem? l i
@@ -104,6 +106,23 @@ pub group_read : (l : List ℕ) (c i r : ℕ) → r ≡ get_or l (c * 211 + (10 
 unfolding group_at
 group_read l c i r e = e
 
+-- A place that is found, and none.
+by_place : (P : Type 0) (t : Bool) (n p : ℕ) → Some p ≡ cond t (Some n) None → (t ≡ true → p ≡ n → P) → P
+by_place P true n p e f = f refl (cc)
+by_place P false n p e f = cc
+
+pub place_is : (n p : ℕ) → Some p ≡ found_place n → p ≡ n
+unfolding found_place
+place_is n p e = by_place (p ≡ n) (ltb n 11) n p e (λ t q. q)
+
+by_no_place : (t : Bool) (n : ℕ) → None ≡ cond t (Some n) None → t ≡ false
+by_no_place true n e = cc
+by_no_place false n e = refl
+
+pub no_place : (n : ℕ) → None ≡ found_place n → 11 ≤ n
+unfolding found_place
+no_place n e = ltb-false n 11 (by_no_place (ltb n 11) n e)
+
 -- The search for a group has come to a place.
 pub record Searching (l : List ℕ) (c g n i : ℕ) : Type 0 where
   pub same : place_from l c g 0 n ≡ place_from l c g i (n - i)
@@ -116,97 +135,50 @@ module _ (l : List ℕ) (c g n i v : ℕ) (s : Searching l c g n i) where
   left : i < n → n - i ≡ suc (n - suc i)
   left h = omega arith
 
-  pub search_found : n ≡ group_count l c → i < n → v ≡ group_at l c i → v ≡ g → i ≡ place_from l c g 0 (group_count l c)
-  unfolding place_from
-  search_found m h e f = rw (← m) (sym (rw (left h, ← e, eq-eqb v g f) at s.same))
+  pub search_found : n ≡ group_count l c → n ≤ 8 → i < n → v ≡ group_at l c i → v ≡ g
+      → Some i ≡ found_place (place_from l c g 0 (group_count l c))
+  unfolding place_from found_place
+  search_found m few h e f = rw (← m, s.same, left h, ← e, eq-eqb v g f) here
+    where
+      here : Some i ≡ cond (ltb i 11) (Some i) None
+      here = rw (lt-ltb i 11 (omega arith))
 
   pub search_next : i < n → v ≡ group_at l c i → (v ≡ g → ⊥) → Searching l c g n (i + 1)
   unfolding place_from
   search_next h e f = record { same = rw add-one (rw (left h, ← e, ne_eqb v g f) at s.same); within = omega arith }
 
-pub search_none : (l : List ℕ) (c g n i : ℕ) → Searching l c g n i → n ≡ group_count l c → n ≤ i → 11 ≡ place_from l c g 0 (group_count l c)
-unfolding place_from
-search_none l c g n i s m h = rw (← m) (let e : n - i ≡ 0 = omega arith in sym (rw e at s.same))
+pub search_none : (l : List ℕ) (c g n i : ℕ) → Searching l c g n i → n ≡ group_count l c → n ≤ i
+    → None ≡ found_place (place_from l c g 0 (group_count l c))
+unfolding place_from found_place
+search_none l c g n i s m h = rw (← m, s.same) (let e : n - i ≡ 0 = omega arith in rw e refl)
 
--- What an act needs, by its kind and its column.
-module _ (n : Need) where
-  pub kind_none : n ≡ need_case.Nothing → 16 ≡ kind_of n
-  unfolding kind_of
-  kind_none e = rw e
+-- What an act needs, by its case.
+module _ (l : List ℕ) (c k : ℕ) (b : Bool) where
+  pub charge_nothing : charge l c need_case.Nothing b ≡ l
+  unfolding charge
+  charge_nothing = refl
 
-  pub kind_read : (k : ℕ) → n ≡ need_case.Read k → k ≡ kind_of n
-  unfolding kind_of
-  kind_read k e = rw e
+  pub charge_read : charge l c (need_case.Read k) b ≡ charge_column l c k 8 b
+  unfolding charge
+  charge_read = refl
 
-  pub kind_written : (k : ℕ) → n ≡ need_case.Write k → k ≡ kind_of n
-  unfolding kind_of
-  kind_written k e = rw e
+  pub charge_write : charge l c (need_case.Write k) b ≡ charge_column l c k 9 b
+  unfolding charge
+  charge_write = refl
 
-  pub kind_accessed : (k : ℕ) → n ≡ need_case.Access k → k ≡ kind_of n
-  unfolding kind_of
-  kind_accessed k e = rw e
+  pub charge_access : charge l c (need_case.Access k) b ≡ charge_column l c k 10 b
+  unfolding charge
+  charge_access = refl
 
-  pub kind_disclosed : (k g : ℕ) → n ≡ need_case.Disclose k g → k ≡ kind_of n
-  unfolding kind_of
-  kind_disclosed k g e = rw e
+  module _ (g : ℕ) where
+    pub charge_disclose : (p : ℕ) → Some p ≡ found_place (place_from l c g 0 (group_count l c))
+        → charge l c (need_case.Disclose k g) b ≡ charge_column l c k p b
+    unfolding charge
+    charge_disclose p e = rw (← place_is (place_from l c g 0 (group_count l c)) p e)
 
-  module _ (l : List ℕ) (c : ℕ) where
-    pub column_none : n ≡ need_case.Nothing → 11 ≡ column_of l c n
-    unfolding column_of
-    column_none e = rw e
-
-    pub column_read : (k : ℕ) → n ≡ need_case.Read k → 8 ≡ column_of l c n
-    unfolding column_of
-    column_read k e = rw e
-
-    pub column_written : (k : ℕ) → n ≡ need_case.Write k → 9 ≡ column_of l c n
-    unfolding column_of
-    column_written k e = rw e
-
-    pub column_accessed : (k : ℕ) → n ≡ need_case.Access k → 10 ≡ column_of l c n
-    unfolding column_of
-    column_accessed k e = rw e
-
-    pub column_disclosed : (k g r : ℕ) → n ≡ need_case.Disclose k g → r ≡ place_from l c g 0 (group_count l c) → r ≡ column_of l c n
-    unfolding column_of
-    column_disclosed k g r e h = rw e h
-
-by_need : (l : List ℕ) (c : ℕ) (n : Need) (b : Bool) → charge_column l c (kind_of n) (column_of l c n) b ≡ charge l c n b
-unfolding charge kind_of column_of
-by_need l c need_case.Nothing b = unfold charge_column charge_cell marked in refl
-by_need l c (need_case.Read k) b = refl
-by_need l c (need_case.Write k) b = refl
-by_need l c (need_case.Access k) b = refl
-by_need l c (need_case.Disclose k g) b = refl
-
-pub need_charged : (l : List ℕ) (c : ℕ) (n : Need) (b : Bool) (k j : ℕ) {y : List ℕ} → k ≡ kind_of n → j ≡ column_of l c n
-    → y ≡ charge_column l c k j b → y ≡ charge l c n b
-need_charged l c n b k j e f h = rw (e, f) at h ∙ by_need l c n b
-
--- The length of a path as the code keeps it.
-module _ (p : Path) (h : length p.groups ≡ 8) where
-  pub len_below : p.len < 8 → p.len ≡ length (path_of p)
-  len_below k = omega (arith, length-take p.len p.groups)
-
-  pub len_full : 8 ≤ p.len → 8 ≡ length (path_of p)
-  len_full k = omega (arith, length-take p.len p.groups)
-
-pub no_row : (l : List ℕ) (r : ℕ) → length l ≤ r → 0 ≡ min (get_or l r 0) (length l - (r + 1))
-no_row l r h = omega arith
-
--- The nearer of two groups.
-module _ (best g from : ℕ) where
-  pub nearer_before : best ≤ 64 → g < from → best ≡ min best (candidate g from)
-  unfolding candidate
-  nearer_before h k = rw (lt-ltb g from k) (omega arith)
-
-  pub nearer_this : from ≤ g → g < best → g ≡ min best (candidate g from)
-  unfolding candidate
-  nearer_this h k = rw (le-ltb g from h) (omega arith)
-
-  pub nearer_best : from ≤ g → best ≤ g → best ≡ min best (candidate g from)
-  unfolding candidate
-  nearer_best h k = rw (le-ltb g from h) (omega arith)
+    pub charge_elsewhere : None ≡ found_place (place_from l c g 0 (group_count l c)) → charge l c (need_case.Disclose k g) b ≡ marked l c k
+    unfolding charge charge_column charge_cell
+    charge_elsewhere e = rw (le-ltb (place_from l c g 0 (group_count l c)) 11 (no_place (place_from l c g 0 (group_count l c)) e), and-false)
 
 pub ruleset row_steps = (
   tests,
@@ -234,21 +206,10 @@ pub ruleset row_steps = (
   search_found,
   search_next,
   search_none,
-  nearer_before,
-  nearer_this,
-  nearer_best,
-  kind_none,
-  kind_read,
-  kind_written,
-  kind_accessed,
-  kind_disclosed,
-  column_none,
-  column_read,
-  column_written,
-  column_accessed,
-  column_disclosed,
-  need_charged,
-  len_below,
-  len_full,
-  no_row,
+  charge_nothing,
+  charge_read,
+  charge_write,
+  charge_access,
+  charge_disclose,
+  charge_elsewhere,
 )

@@ -1,6 +1,6 @@
 -- The table of what components need: rows of 211 cells (src/rows.rt). Its cells are the counts that acts need together
 -- (`charged_count` of the crate interface's proofs/CellLaws.antt).
-use Rattle.std.specs.Prelude.{ℕ, zero, suc, ◌+◌, ◌*◌, ◌%◌, ◌<◌, min, ◌≡◌, List, [], ◌∷◌, map, Bool, true, false, cond, not, ◌&&◌, length, get_or, set, take, drop, ltb, eqb}
+use Rattle.std.specs.Prelude.{ℕ, zero, suc, ◌+◌, ◌*◌, ◌%◌, ◌<◌, min, ◌≡◌, List, [], ◌∷◌, map, Bool, true, false, cond, not, ◌&&◌, length, get_or, set, take, drop, ltb, eqb, Option, Some, None}
 use Rattle.needs.specs.declared.Need.{Need}
 use Rattle.needs.specs.declared.Need.TheVariants.{Nothing, Read, Write, Access, Disclose}
 use Rattle.reading.specs.Forms.{member}
@@ -47,6 +47,10 @@ place_from table component group place zero = 11
 place_from table component group place (suc left) =
     cond (eqb (group_at table component place) group) place (place_from table component group (suc place) left)
 
+-- the same where it is one of them
+unfoldable pub found_place : ℕ → Option ℕ
+found_place place = cond (ltb place 11) (Some place) None
+
 -- what an act needs, counted in its component's row
 unfoldable pub charge : List ℕ → ℕ → Need → Bool → List ℕ
 charge table component Nothing repeated = table
@@ -55,21 +59,6 @@ charge table component (Write kind) repeated = charge_column table component kin
 charge table component (Access kind) repeated = charge_column table component kind 10 repeated
 charge table component (Disclose kind group) repeated =
     charge_column table component kind (place_from table component group 0 (group_count table component)) repeated
-
--- the same by the kind and the column of a need, as the code counts it; there is no kind 16
-unfoldable pub kind_of : Need → ℕ
-kind_of Nothing = 16
-kind_of (Read kind) = kind
-kind_of (Write kind) = kind
-kind_of (Access kind) = kind
-kind_of (Disclose kind group) = kind
-
-unfoldable pub column_of : List ℕ → ℕ → Need → ℕ
-column_of table component Nothing = 11
-column_of table component (Read kind) = 8
-column_of table component (Write kind) = 9
-column_of table component (Access kind) = 10
-column_of table component (Disclose kind group) = place_from table component group 0 (group_count table component)
 
 -- numbers stored one after another
 unfoldable pub stored : List ℕ → ℕ → List ℕ → List ℕ
@@ -87,6 +76,10 @@ candidate g from = cond (ltb g from) 64 g
 unfoldable pub next_group : List ℕ → ℕ → ℕ
 next_group [] from = 64
 next_group (g ∷ path) from = min (candidate g from) (next_group path from)
+
+-- the same where there is one
+unfoldable pub found_group : ℕ → Option ℕ
+found_group group = cond (ltb group 64) (Some group) None
 
 -- groups in a component's row, and how many they are
 unfoldable pub with_groups : List ℕ → ℕ → List ℕ → List ℕ

@@ -2,6 +2,7 @@
 use Prim.Native.Nat.{ℕ, ◌+◌, ◌<◌, ◌≤◌}
 use mathlib.Core.Path.{◌≡◌, refl, ap, ◌∙◌}
 use mathlib.Core.List.{List}
+use Rattle.std.proofs.Common.{◌⊎◌, inl, inr}
 use lib.ListN.{set}
 use borrow.Author.Rules.{rules}
 use borrow.Author.Tests.{lt-ltb, le-ltb}
@@ -23,6 +24,10 @@ module _ (z r : Sizes) (t env : ℕ) (types cells : List ℕ) (full : r ≡ reco
     typed = rw (lt-ltb z.names 1024 h, le-ltb z.cells 2304 k) refl;
     bound_to = rw (lt-ltb z.names 1024 h, le-ltb z.cells 2304 k) refl;
   }
+
+  pub full_up : (1024 ≤ z.names) ⊎ ((z.names < 1024) × (2304 ≤ z.cells)) → Gives z t env types types cells cells r
+  full_up (inl h) = no_name h
+  full_up (inr h) = no_cell h.0 h.1
 
 pub one_given : (z : Sizes) (t env : ℕ) (types types' cells cells' : List ℕ) → z.names < 1024 → z.cells < 2304 → types' ≡ set types z.names t
     → cells' ≡ bound cells z.cells env z.names
@@ -47,4 +52,4 @@ module _ (z : Sizes) (t : Place) (made : List ℕ) where
     last = rw (lt-ltb z.threads 64 h) (f ∙ ap (set made z.threads) e);
   }
 
-pub ruleset giving_steps = (rules, no_name, no_cell, one_given, no_room, one_pushed)
+pub ruleset giving_steps = (rules, full_up, one_given, no_room, one_pushed)

@@ -3,6 +3,7 @@ use Prim.Native.Nat.{ℕ, ◌+◌, ◌-◌, ◌*◌, ◌<◌, ◌≤◌}
 use mathlib.Core.Bool.{Bool, true, false}
 use mathlib.Core.Path.{◌≡◌, refl, sym, ap, ◌∙◌}
 use mathlib.Core.List.{List, [], ◌∷◌, ◌++◌, append_assoc, append-nil}
+use Rattle.std.proofs.Common.{◌⊎◌, inl, inr}
 use native.Mathlib.Omega.{arith}
 use native.Mathlib.Numerals.{add-one}
 use borrow.Author.Rules.{rules}
@@ -28,7 +29,9 @@ use Rattle.memory.proofs.ChainLaws.{chain_kept}
 use Rattle.products.specs.declared.Sizes.{Sizes}
 use Rattle.products.specs.Pairs.{none, more}
 use Rattle.products.specs.Held.{Runs}
+use Rattle.products.specs.declared.Maker.{Maker}
 use Rattle.products.specs.Makes.{Ready, Makes, Gives, Pushes, crowd, sizes_pushed, threads_pushed}
+use Rattle.products.specs.Makers.{Kept, GivesIn, PushesIn, ReadyIn, MakesIn}
 use Rattle.products.proofs.PairLaws.{pairs_append}
 use Rattle.products.proofs.GrowLaws.{shorter, grows_then, grows_cong, all_kept_lem}
 use Rattle.products.proofs.GiveLaws.{grows_none, ready_deeper, ready_after, name_given}
@@ -144,30 +147,36 @@ module _ (forms : List ℕ) (t : Place) (item : Item) (e : item ≡ item_at form
   formed : whole ≡ process_of (λ m. process_in (t.nest - 1) forms m) item.form item.next item.second
   formed = rw e (process_formed t.nest forms t.at left)
 
-  pub form_nil : item.form ≡ Nil → Ready t z made types cells → Makes forms t whole z made made types types cells cells z
+  form_nil : item.form ≡ Nil → Ready t z made types cells → Makes forms t whole z made made types types cells cells z
   unfolding process_of
   form_nil h = nothing forms t whole z made types cells (rw h at formed)
 
-  pub form_group : (g : ℕ) → item.form ≡ Group g → Ready t z made types cells → Makes forms t whole z made made types types cells cells z
+  form_group : (g : ℕ) → item.form ≡ Group g → Ready t z made types cells → Makes forms t whole z made made types types cells cells z
   unfolding process_of
   form_group g h = nothing forms t whole z made types cells (rw h at formed)
 
-  pub form_head : (own : OwnFields) → item.form ≡ Head own → Ready t z made types cells → Makes forms t whole z made made types types cells cells z
+  form_head : (own : OwnFields) → item.form ≡ Head own → Ready t z made types cells → Makes forms t whole z made made types types cells cells z
   unfolding process_of
   form_head own h = nothing forms t whole z made types cells (rw h at formed)
 
+  pub form_none : (item.form ≡ Nil) ⊎ (((g : ℕ) × (item.form ≡ Group g)) ⊎ ((own : OwnFields) × (item.form ≡ Head own)))
+      → Ready t z made types cells → Makes forms t whole z made made types types cells cells z
+  form_none (inl h) = form_nil h
+  form_none (inr (inl h)) = form_group h.0 h.1
+  form_none (inr (inr h)) = form_head h.0 h.1
+
   module _ (r : Sizes) where
-    pub form_input : (a : Fields) → item.form ≡ Input a → Pushes z t made made' r
+    form_input : (a : Fields) → item.form ≡ Input a → Pushes z t made made' r
         → Ready t z made types cells → Makes forms t whole z made made' types types cells cells r
     unfolding process_of
     form_input a h = pushed forms t z made types cells made' r (rw (formed, h) (thread_input a.channel a.object _)) left
 
-    pub form_output : (a : Fields) → item.form ≡ Output a → Pushes z t made made' r
+    form_output : (a : Fields) → item.form ≡ Output a → Pushes z t made made' r
         → Ready t z made types cells → Makes forms t whole z made made' types types cells cells r
     unfolding process_of
     form_output a h = pushed forms t z made types cells made' r (rw (formed, h) (thread_output a.channel a.object _)) left
 
-    pub form_repl : item.form ≡ Replicate → Pushes z t made made' r
+    form_repl : item.form ≡ Replicate → Pushes z t made made' r
         → Ready t z made types cells → Makes forms t whole z made made' types types cells cells r
     unfolding process_of
     form_repl h = pushed forms t z made types cells made' r (rw (formed, h) (thread_repl _)) left
@@ -265,6 +274,46 @@ pub no_scope : (forms : List ℕ) (t : Place) (u : ℕ) (p : Process) (z : Sizes
     → t.names + t.nest < 128 → Ready t z made types cells → Makes forms t (new u p) z made made types types cells cells z
 no_scope forms t u p z made types cells h lt ready = absurd (omega arith)
 
+-- The same in the tables that a walk is lent: a thread made, one process after another, and a process under a new name.
+module _ (m m' : Maker) (t : Place) (item : Item) (e : item ≡ item_at m.forms.now t.at) (left : 0 < t.nest) (z r : Sizes)
+    (p : PushesIn m z t m' r) where
+  abbrev made : Type 0
+  made = MakesIn m t (process_in t.nest m.forms.now t.at) z m' r
+
+  pushed_input : (a : Fields) → item.form ≡ Input a → made
+  pushed_input a h ready = rw (p.types, p.cells)
+      (form_input m.forms.now t item e left z m.made.now m'.made.now m.types.now m.types.now m.cells.now m.cells.now r a h p.pushes ready)
+
+  pushed_output : (a : Fields) → item.form ≡ Output a → made
+  pushed_output a h ready = rw (p.types, p.cells)
+      (form_output m.forms.now t item e left z m.made.now m'.made.now m.types.now m.types.now m.cells.now m.cells.now r a h p.pushes ready)
+
+  pushed_repl : item.form ≡ Replicate → made
+  pushed_repl h ready = rw (p.types, p.cells)
+      (form_repl m.forms.now t item e left z m.made.now m'.made.now m.types.now m.types.now m.cells.now m.cells.now r h p.pushes ready)
+
+  pub pushed_one : ((a : Fields) × (item.form ≡ Input a)) ⊎ (((a : Fields) × (item.form ≡ Output a)) ⊎ (item.form ≡ Replicate)) → made
+  pushed_one (inl h) = pushed_input h.0 h.1
+  pushed_one (inr (inl h)) = pushed_output h.0 h.1
+  pushed_one (inr (inr h)) = pushed_repl h
+
+module _ (m m₁ m' : Maker) (t : Place) where
+  pub made_after : (second : ℕ) (z z₁ r : Sizes) → Kept m m₁ → MakesIn m t (process_in t.nest m.forms.now t.at) z m₁ z₁
+      → MakesIn m₁ (record { component = t.component; env = t.env; names = t.names; nest = t.nest; at = second })
+      (process_in t.nest m₁.forms.now second) z₁ m' r
+      → second < 8192 → MakesIn m t (par (process_in t.nest m.forms.now t.at) (process_in t.nest m.forms.now second)) z m' r
+  made_after second z z₁ r k mine theirs near ready =
+      after_left m.forms.now t second z z₁ r m.made.now m₁.made.now m'.made.now m.types.now m₁.types.now m'.types.now
+      m.cells.now m₁.cells.now m'.cells.now k.made_length k.types_length k.cells_length mine (rw k.forms at theirs) near ready
+
+  pub made_under : (u : ℕ) (z z₁ : Sizes) (env : ℕ) (r : Sizes) → GivesIn m z u t.env m₁ z₁ → env ≡ z₁.cells - 1
+      → MakesIn m₁ (record { component = t.component; env = env; names = t.names + 1; nest = t.nest; at = t.at })
+      (process_in t.nest m₁.forms.now t.at) z₁ m' r
+      → t.names + t.nest < 128 → MakesIn m t (new u (process_in t.nest m.forms.now t.at)) z m' r
+  made_under u z z₁ env r g ie makes few ready =
+      under_new m.forms.now t u (process_in t.nest m.forms.now t.at) z z₁ env m.made.now m'.made.now m.types.now m₁.types.now m'.types.now
+      m.cells.now m₁.cells.now m'.cells.now r g.gives ie (rw (g.kept.forms, g.made) at makes) few ready
+
 pub ruleset make_steps = (
   rules,
   no_nest,
@@ -272,14 +321,10 @@ pub ruleset make_steps = (
   falls,
   new_fits_lem,
   no_scope,
-  form_nil,
-  form_group,
-  form_head,
-  form_input,
-  form_output,
-  form_repl,
+  form_none,
   form_par,
   form_new,
-  after_left,
-  under_new,
+  pushed_one,
+  made_after,
+  made_under,
 )

@@ -258,13 +258,14 @@ free_counted s sheet h =
     (rw p.first (sym number), omega (arith, below_found 33 s 0 p.first))
 
 -- What the walk over the system makes of the sheet, from the forms that were noted.
-module _ (s forms₀ forms threads threads' types types₁ types' cells cells₁ cells' : List ℕ) (g : Made) (noted : ℕ) (m : MadeSystem) where
+module _ (s forms₀ forms threads threads₁ threads' types types₁ types' cells cells₁ cells' : List ℕ) (g : Made) (noted : ℕ) (m : MadeSystem)
+    (same : length threads₁ ≡ length threads) where
   abbrev place : Place
   place = record { component = 0; env = g.sizes.names; names = g.sizes.names; nest = 64; at = g.next }
 
   pub sheet_made : GivenFree s types types₁ cells cells₁ g → SystemNoted s g.next 64 forms₀ forms noted
-      → (0 + components (system_in 64 forms g.next) ≤ 32 → Ready place g.sizes threads types₁ cells₁
-      → MakesSystem forms place (system_in 64 forms g.next) g.sizes threads threads' types₁ types' cells₁ cells' m)
+      → (0 + components (system_in 64 forms g.next) ≤ 32 → Ready place g.sizes threads₁ types₁ cells₁
+      → MakesSystem forms place (system_in 64 forms g.next) g.sizes threads₁ threads' types₁ types' cells₁ cells' m)
       → length s ≤ length forms₀ → 64 ≤ length threads → Room types cells → (sheet : Sheet) (end : ℕ) → length s ≤ 4096 → read_sheet s ≡ got sheet end
       → MadeSheet forms sheet threads' types' cells' m.sizes
   unfolding start
@@ -279,7 +280,7 @@ module _ (s forms₀ forms threads threads' types types₁ types' cells cells₁
       let names_are : g.sizes.names ≡ count = ap (λ x. x.names) n.sizes in
       let cells_are : g.sizes.cells ≡ count + 1 = ap (λ x. x.cells) n.sizes in
       let body : read_system 64 s count [] 0 g.next ≡ got sheet.system p.end = rw b.0 p.body in
-      let ready : Ready place g.sizes threads types₁ cells₁ = record {
+      let ready : Ready place g.sizes threads₁ types₁ cells₁ = record {
         component = omega arith;
         scope = omega (arith, names_are);
         deep = omega arith;
@@ -288,7 +289,7 @@ module _ (s forms₀ forms threads threads' types types₁ types' cells cells₁
         few = omega (arith, threads_are);
         given = omega (arith, names_are);
         slack = omega (arith, names_are, cells_are, n.room.cell_room);
-        made_room = long;
+        made_room = omega (arith, long, same);
         types_room = n.room.type_room;
         cells_room = n.room.cell_few;
       } in

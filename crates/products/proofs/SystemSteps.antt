@@ -2,6 +2,7 @@
 use Prim.Native.Nat.{ℕ, ◌+◌, ◌-◌, ◌*◌, ◌<◌, ◌≤◌}
 use mathlib.Core.Path.{◌≡◌, refl, sym, ap, ◌∙◌}
 use mathlib.Core.List.{List, [], ◌∷◌, ◌++◌, append_assoc, append-nil}
+use Rattle.std.proofs.Common.{◌⊎◌, inl, inr}
 use native.Mathlib.Omega.{arith}
 use borrow.Author.Rules.{rules}
 use lib.ListN.{length, take, length-append}
@@ -20,7 +21,9 @@ use Rattle.memory.specs.declared.Thread.{Thread as Place}
 use Rattle.memory.proofs.ChainLaws.{chain_kept}
 use Rattle.products.specs.declared.Sizes.{Sizes}
 use Rattle.products.specs.declared.MadeSystem.{MadeSystem}
+use Rattle.products.specs.declared.Maker.{Maker}
 use Rattle.products.specs.Makes.{Ready, Makes, MakesSystem, Gives, system_crowd}
+use Rattle.products.specs.Makers.{Kept, GivesIn, MakesSystemIn}
 use Rattle.products.proofs.GrowLaws.{grows_then, grows_cong, all_kept_lem}
 use Rattle.products.proofs.GiveLaws.{grows_none, ready_deeper, ready_after, name_given}
 use Rattle.products.proofs.MakeSteps.{nest_left, falls, new_fits_lem}
@@ -65,25 +68,33 @@ module _ (forms : List ℕ) (t : Place) (item : Item) (e : item ≡ item_at form
       → MakesSystem forms t whole z made made types types cells cells (record { components = t.component; sizes = z })
   vanished h few = nothing forms t whole z made types cells h
 
-  pub form_nil : item.form ≡ Nil → t.component + components whole ≤ 32 → Ready t z made types cells
+  form_nil : item.form ≡ Nil → t.component + components whole ≤ 32 → Ready t z made types cells
       → MakesSystem forms t whole z made made types types cells cells (record { components = t.component; sizes = z })
   unfolding system_of
   form_nil h = vanished (rw h at formed)
 
-  pub form_input : (a : Fields) → item.form ≡ Input a → t.component + components whole ≤ 32 → Ready t z made types cells
+  form_input : (a : Fields) → item.form ≡ Input a → t.component + components whole ≤ 32 → Ready t z made types cells
       → MakesSystem forms t whole z made made types types cells cells (record { components = t.component; sizes = z })
   unfolding system_of
   form_input a h = vanished (rw h at formed)
 
-  pub form_output : (a : Fields) → item.form ≡ Output a → t.component + components whole ≤ 32 → Ready t z made types cells
+  form_output : (a : Fields) → item.form ≡ Output a → t.component + components whole ≤ 32 → Ready t z made types cells
       → MakesSystem forms t whole z made made types types cells cells (record { components = t.component; sizes = z })
   unfolding system_of
   form_output a h = vanished (rw h at formed)
 
-  pub form_repl : item.form ≡ Replicate → t.component + components whole ≤ 32 → Ready t z made types cells
+  form_repl : item.form ≡ Replicate → t.component + components whole ≤ 32 → Ready t z made types cells
       → MakesSystem forms t whole z made made types types cells cells (record { components = t.component; sizes = z })
   unfolding system_of
   form_repl h = vanished (rw h at formed)
+
+  pub form_none : (item.form ≡ Nil) ⊎ (((a : Fields) × (item.form ≡ Input a)) ⊎ (((a : Fields) × (item.form ≡ Output a)) ⊎ (item.form ≡ Replicate)))
+      → t.component + components whole ≤ 32 → Ready t z made types cells
+      → MakesSystem forms t whole z made made types types cells cells (record { components = t.component; sizes = z })
+  form_none (inl h) = form_nil h
+  form_none (inr (inl h)) = form_input h.0 h.1
+  form_none (inr (inr (inl h))) = form_output h.0 h.1
+  form_none (inr (inr (inr h))) = form_repl h
 
   module _ (r : MadeSystem) where
     -- What its parts make, where there are as many components.
@@ -233,6 +244,29 @@ module _ (forms : List ℕ) (t : Place) (u : ℕ) (p : System) (z z₁ : Sizes) 
             rw (g.widened fits, g.number fits) at q;
       }
 
+-- The same in the tables that a walk is lent: one system after another, and a system under a new name.
+module _ (m m₁ m' : Maker) (t : Place) where
+  pub made_after : (second : ℕ) (z : Sizes) (l r : MadeSystem) → Kept m m₁
+      → (t.component + components (system_in t.nest m.forms.now t.at) ≤ 32 → MakesSystemIn m t (system_in t.nest m.forms.now t.at) z m₁ l)
+      → (l.components + components (system_in t.nest m₁.forms.now second) ≤ 32
+      → MakesSystemIn m₁ (record { component = l.components; env = t.env; names = t.names; nest = t.nest; at = second })
+      (system_in t.nest m₁.forms.now second) l.sizes m' r)
+      → second < 8192 → t.component + components (parₛ (system_in t.nest m.forms.now t.at) (system_in t.nest m.forms.now second)) ≤ 32
+      → MakesSystemIn m t (parₛ (system_in t.nest m.forms.now t.at) (system_in t.nest m.forms.now second)) z m' r
+  made_after second z l r k mine theirs near few ready =
+      after_left m.forms.now t second z m.made.now m₁.made.now m'.made.now m.types.now m₁.types.now m'.types.now
+      m.cells.now m₁.cells.now m'.cells.now l r k.made_length k.types_length k.cells_length mine (rw k.forms at theirs) near few ready
+
+  pub made_under : (u : ℕ) (z z₁ : Sizes) (env : ℕ) (r : MadeSystem) → GivesIn m z u t.env m₁ z₁ → env ≡ z₁.cells - 1
+      → (t.component + components (system_in t.nest m₁.forms.now t.at) ≤ 32
+      → MakesSystemIn m₁ (record { component = t.component; env = env; names = t.names + 1; nest = t.nest; at = t.at })
+      (system_in t.nest m₁.forms.now t.at) z₁ m' r)
+      → t.names + t.nest < 128 → t.component + components (system_in t.nest m.forms.now t.at) ≤ 32
+      → MakesSystemIn m t (newₛ u (system_in t.nest m.forms.now t.at)) z m' r
+  made_under u z z₁ env r g ie makes few components ready =
+      under_new m.forms.now t u (system_in t.nest m.forms.now t.at) z z₁ env m.made.now m'.made.now m.types.now m₁.types.now m'.types.now
+      m.cells.now m₁.cells.now m'.cells.now r g.gives ie (rw (g.kept.forms, g.made) at makes) few components ready
+
 pub ruleset system_steps = (
   rules,
   no_nest,
@@ -242,15 +276,12 @@ pub ruleset system_steps = (
   new_fits_lem,
   no_number,
   no_scope,
-  form_nil,
-  form_input,
-  form_output,
-  form_repl,
+  form_none,
   form_par,
   form_new,
   form_head,
   form_group,
   component_made,
-  after_left,
-  under_new,
+  made_after,
+  made_under,
 )

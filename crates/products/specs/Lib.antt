@@ -2,5 +2,6 @@
 pub mod Pairs
 pub mod Held
 pub mod Makes
+pub mod Makers
 pub mod Begins
 pub mod Starts

@@ -5,16 +5,103 @@ ghost use Rattle.reading.specs.Syntax.{par, new};
 ghost use Rattle.decoding.specs.Words.{item_at};
 ghost use Rattle.decoding.specs.Tables.{process_in};
 ghost use Rattle.products.specs.Makes.{Ready, Makes};
+ghost use Rattle.products.specs.Makers.{Kept, MakesIn};
 
-use crate::Sizes;
-use crate::giving::{give, last_cell, push};
+use crate::giving::last_cell;
+use crate::{Maker, Sizes};
 use decoding::Item;
 use decoding::words::item_at;
 use memory::Thread;
 use reading::Form;
 
-// What the process at a thread's place makes.
-#[cycle(make_form_make_par_make_process_make_under)]
+impl<'a> Maker<'a> {
+    /// Makes the threads and the new names of the process at a thread's place.
+    #[cycle(process_walk)]
+    #[tactic(auto, using(crate::proofs::MakeSteps::make_steps))]
+    pub fn make_process(&mut self, t: Thread, sizes: Sizes) -> Sizes
+        ensures kept { Kept self.old self.new }
+        ensures makes { MakesIn self.old t (process_in t.nest self.old.forms.now t.at) sizes self.new result }
+    {
+        if t.nest == 0 {
+            return sizes;
+        }
+        let item = item_at(self.forms, t.at);
+        self.make_form(t, item, sizes)
+    }
+
+    // The same, where this item stands at the place.
+    #[cycle(process_walk)]
+    #[tactic(auto, using(crate::proofs::MakeSteps::make_steps))]
+    fn make_form(&mut self, t: Thread, item: Item, sizes: Sizes) -> Sizes
+        requires { (item ≡ item_at self.old.forms.now t.at) × (0 < t.nest) }
+        ensures kept { Kept self.old self.new }
+        ensures makes { MakesIn self.old t (process_in t.nest self.old.forms.now t.at) sizes self.new result }
+    {
+        let inner = Thread {
+            nest: t.nest - 1,
+            at: item.next,
+            ..t
+        };
+        match item.form {
+            Form::Nil | Form::Group(_) | Form::Component(_) => sizes,
+            Form::Par => self.make_par(inner, item.second, sizes),
+            Form::New(u) => self.make_under(inner, u, sizes),
+            Form::Input(_) | Form::Output(_) | Form::Replicate => self.push(sizes, t),
+        }
+    }
+
+    // Two processes, one after the other; the second stands at `second`.
+    #[cycle(process_walk)]
+    #[tactic(auto, using(crate::proofs::MakeSteps::make_steps))]
+    fn make_par(&mut self, t: Thread, second: usize, sizes: Sizes) -> Sizes
+        ensures kept { Kept self.old self.new }
+        ensures makes { second < 8192
+            → MakesIn self.old t
+            (par (process_in t.nest self.old.forms.now t.at) (process_in t.nest self.old.forms.now second)) sizes self.new result }
+    {
+        let left = self.make_process(t, sizes);
+        self.make_process(Thread { at: second, ..t }, left)
+    }
+
+    // A process under a new name of type `u`.
+    #[cycle(process_walk)]
+    #[tactic(auto, using(crate::proofs::MakeSteps::make_steps))]
+    fn make_under(&mut self, t: Thread, u: usize, sizes: Sizes) -> Sizes
+        requires { u < 4294967296 }
+        ensures kept { Kept self.old self.new }
+        ensures makes { t.names + t.nest < 128
+            → MakesIn self.old t (new u (process_in t.nest self.old.forms.now t.at)) sizes self.new result }
+    {
+        if 128 <= t.names {
+            return sizes;
+        }
+        let given = self.give(sizes, u, t.env);
+        let inner = Thread {
+            env: last_cell(given),
+            names: t.names + 1,
+            ..t
+        };
+        self.make_process(inner, given)
+    }
+
+    /// The same as `make_process`, asked at the first form: only a parallel form and a new name want the walk.
+    #[tactic(auto, using(crate::proofs::MakeSteps::make_steps))]
+    pub fn make(&mut self, t: Thread, sizes: Sizes) -> Sizes
+        ensures kept { Kept self.old self.new }
+        ensures makes { MakesIn self.old t (process_in t.nest self.old.forms.now t.at) sizes self.new result }
+    {
+        if t.nest == 0 {
+            return sizes;
+        }
+        match item_at(self.forms, t.at).form {
+            Form::Nil | Form::Group(_) | Form::Component(_) => sizes,
+            Form::Par | Form::New(_) => self.make_process(t, sizes),
+            Form::Input(_) | Form::Output(_) | Form::Replicate => self.push(sizes, t),
+        }
+    }
+}
+
+/// Makes what `Maker::make_process` makes, in tables lent one by one.
 pub fn make_process(
     forms: &[usize],
     t: Thread,
@@ -27,107 +114,16 @@ pub fn make_process(
         → Makes forms.now t (process_in t.nest forms.now t.at) sizes
         made.old made.new types.old types.new cells.old cells.new result }
 {
-    if t.nest == 0 {
-        return sizes;
-    }
-    let item = item_at(forms, t.at);
-    make_form(forms, t, item, sizes, made, types, cells)
-}
-
-// The same, where this item stands at the place.
-#[cycle(make_form_make_par_make_process_make_under)]
-fn make_form(
-    forms: &[usize],
-    t: Thread,
-    item: Item,
-    sizes: Sizes,
-    made: &mut [usize],
-    types: &mut [u32],
-    cells: &mut [u32],
-) -> Sizes
-    requires { (item ≡ item_at forms.now t.at) × (0 < t.nest) }
-    ensures { Ready t sizes made.old types.old cells.old
-        → Makes forms.now t (process_in t.nest forms.now t.at) sizes
-        made.old made.new types.old types.new cells.old cells.new result }
-{
-    let form = item.form;
-    let inner = Thread {
-        component: t.component,
-        env: t.env,
-        names: t.names,
-        nest: t.nest - 1,
-        at: item.next,
+    let mut maker = Maker {
+        forms,
+        made,
+        types,
+        cells,
     };
-    match form {
-        Form::Nil => sizes,
-        Form::Par => make_par(forms, inner, item.second, sizes, made, types, cells),
-        Form::New(u) => make_under(forms, inner, u, sizes, made, types, cells),
-        Form::Input(_) => push(sizes, t, made),
-        Form::Output(_) => push(sizes, t, made),
-        Form::Replicate => push(sizes, t, made),
-        Form::Group(_) => sizes,
-        Form::Component(_) => sizes,
-    }
+    maker.make_process(t, sizes)
 }
 
-// Two processes, one after the other; the second stands at `second`.
-#[cycle(make_form_make_par_make_process_make_under)]
-fn make_par(
-    forms: &[usize],
-    t: Thread,
-    second: usize,
-    sizes: Sizes,
-    made: &mut [usize],
-    types: &mut [u32],
-    cells: &mut [u32],
-) -> Sizes
-    ensures { second < 8192 → Ready t sizes made.old types.old cells.old
-        → Makes forms.now t
-        (par (process_in t.nest forms.now t.at) (process_in t.nest forms.now second)) sizes
-        made.old made.new types.old types.new cells.old cells.new result }
-{
-    let rest = Thread {
-        component: t.component,
-        env: t.env,
-        names: t.names,
-        nest: t.nest,
-        at: second,
-    };
-    let left = make_process(forms, t, sizes, made, types, cells);
-    make_process(forms, rest, left, made, types, cells)
-}
-
-// A process under a new name of type u.
-#[cycle(make_form_make_par_make_process_make_under)]
-fn make_under(
-    forms: &[usize],
-    t: Thread,
-    u: usize,
-    sizes: Sizes,
-    made: &mut [usize],
-    types: &mut [u32],
-    cells: &mut [u32],
-) -> Sizes
-    requires { u < 4294967296 }
-    ensures { t.names + t.nest < 128 → Ready t sizes made.old types.old cells.old
-        → Makes forms.now t (new u (process_in t.nest forms.now t.at)) sizes
-        made.old made.new types.old types.new cells.old cells.new result }
-{
-    if 128 <= t.names {
-        return sizes;
-    }
-    let given = give(sizes, u, t.env, types, cells);
-    let inner = Thread {
-        component: t.component,
-        env: last_cell(given),
-        names: t.names + 1,
-        nest: t.nest,
-        at: t.at,
-    };
-    make_process(forms, inner, given, made, types, cells)
-}
-
-// What the process at a thread's place makes, asked at its first form: only a parallel form and a new name want the walk.
+/// Makes what `Maker::make` makes, in tables lent one by one.
 pub fn make(
     forms: &[usize],
     t: Thread,
@@ -140,19 +136,11 @@ pub fn make(
         → Makes forms.now t (process_in t.nest forms.now t.at) sizes
         made.old made.new types.old types.new cells.old cells.new result }
 {
-    if t.nest == 0 {
-        return sizes;
-    }
-    let item = item_at(forms, t.at);
-    let form = item.form;
-    match form {
-        Form::Nil => sizes,
-        Form::Par => make_process(forms, t, sizes, made, types, cells),
-        Form::New(_) => make_process(forms, t, sizes, made, types, cells),
-        Form::Input(_) => push(sizes, t, made),
-        Form::Output(_) => push(sizes, t, made),
-        Form::Replicate => push(sizes, t, made),
-        Form::Group(_) => sizes,
-        Form::Component(_) => sizes,
-    }
+    let mut maker = Maker {
+        forms,
+        made,
+        types,
+        cells,
+    };
+    maker.make(t, sizes)
 }

@@ -26,6 +26,7 @@ fn no_move(at: usize) -> MoveRead
 }
 
 // An unfolding: the thread.
+#[tactic(auto, using(crate::proofs::MoveSteps::field_steps), unfolding(crate::specs::Fields::unfold_at, crate::specs::Told::move_of))]
 fn unfold_at(s: &[u8], at: usize) -> MoveRead
     ensures { move_read result ≡ unfold_at s.now at }
 {
@@ -40,6 +41,7 @@ fn unfold_at(s: &[u8], at: usize) -> MoveRead
 }
 
 // A send to the environment: the thread.
+#[tactic(auto, using(crate::proofs::MoveSteps::field_steps), unfolding(crate::specs::Fields::send_at, crate::specs::Told::move_of))]
 fn send_at(s: &[u8], at: usize) -> MoveRead
     ensures { move_read result ≡ send_at s.now at }
 {
@@ -54,6 +56,7 @@ fn send_at(s: &[u8], at: usize) -> MoveRead
 }
 
 // A receive from the environment: the thread, then the name.
+#[tactic(auto, using(crate::proofs::MoveSteps::field_steps), unfolding(crate::specs::Fields::receipt_at, crate::specs::Told::move_of))]
 fn receipt_at(s: &[u8], at: usize) -> MoveRead
     ensures { move_read result ≡ receipt_at s.now at }
 {
@@ -76,6 +79,7 @@ fn receipt_at(s: &[u8], at: usize) -> MoveRead
 }
 
 // A communication: the thread that sends, then the one that receives.
+#[tactic(auto, using(crate::proofs::MoveSteps::field_steps), unfolding(crate::specs::Fields::communication_at, crate::specs::Told::move_of))]
 fn communication_at(s: &[u8], at: usize) -> MoveRead
     ensures { move_read result ≡ communication_at s.now at }
 {
@@ -98,6 +102,7 @@ fn communication_at(s: &[u8], at: usize) -> MoveRead
 }
 
 // A name that the environment makes: its type.
+#[tactic(auto, using(crate::proofs::MoveSteps::field_steps), unfolding(crate::specs::Fields::environment_name_at, crate::specs::Told::move_of))]
 fn environment_name_at(s: &[u8], at: usize) -> MoveRead
     ensures { move_read result ≡ environment_name_at s.now at }
 {
@@ -112,6 +117,7 @@ fn environment_name_at(s: &[u8], at: usize) -> MoveRead
 }
 
 // The move that stands at a place: its code, then its fields.
+#[tactic(auto, using(crate::proofs::MoveSteps::move_steps), unfolding(running::specs::Script::move_at))]
 pub fn move_at(s: &[u8], at: usize) -> MoveRead
     ensures { move_read result ≡ move_at s.now at }
 {
@@ -139,6 +145,7 @@ fn span(left: usize, len: usize) -> usize
 }
 
 // The bytes of a move whose field is a type: its code and the type; 0 where no type can be read.
+#[tactic(auto, using(crate::proofs::SpanSteps::type_steps))]
 fn environment_name_span(s: &[u8], at: usize) -> usize
     requires { at < length s.now }
     ensures spans { Spans at (environment_name_at s.now (at + 1)) result }
@@ -172,6 +179,7 @@ fn move_span(s: &[u8], at: usize) -> usize
 
 // Question 21: how many moves the script is made of, at most 1,024; 65,535 where it fails. The bytes of each move are counted, its
 // fields are not read.
+#[tactic(auto, using(crate::proofs::CountSteps::count_steps))]
 pub fn count_moves(s: &[u8]) -> usize
     ensures value { result ≡ moves_in (read_script s.now) }
     ensures upper_bound { (result ≡ 65535 → ⊥) → (result ≤ 1024) × (result ≤ length s.now) }

@@ -13,6 +13,7 @@ fn store(log: &mut [u8], at: usize, value: usize)
 }
 
 // Stores two bytes.
+#[tactic(auto, using(crate::proofs::RecordSteps::store_steps))]
 fn store_two(log: &mut [u8], at: usize, first: usize, second: usize)
     requires { at + 1 < length log.old }
     ensures { log.new ≡ two_stored log.old at first second }
@@ -22,6 +23,7 @@ fn store_two(log: &mut [u8], at: usize, first: usize, second: usize)
 }
 
 // Writes a record from a place on: its number and label, its channel, its name, its two components.
+#[tactic(auto, using(crate::proofs::RecordSteps::record_steps))]
 pub fn write_record(log: &mut [u8], at: usize, r: Record)
     requires { at + 8 ≤ length log.old }
     ensures { log.new ≡ take at log.old ++ (bytes_of r ++ drop (at + 8) log.old) }
