@@ -1,6 +1,7 @@
 -- Reading past a process, form by form: after each form the process ends as what is left of it does, one level deeper.
 use Prim.Native.Nat.{ℕ, ◌+◌, ◌-◌, ◌<◌, ◌≤◌}
 use mathlib.Core.List.{List}
+use mathlib.Core.Logic.{◌⊎◌, inl, inr}
 use mathlib.Core.Path.{◌≡◌, refl, sym, ◌∙◌}
 use native.Mathlib.Omega.{arith}
 use borrow.Author.Rules.{rules}
@@ -133,6 +134,15 @@ module _ (d : Dialect) (s : List ℕ) (from levels bound at nest names : ℕ) (l
     unfolding process_from
     at_replicate h = goes Replicate names p.next h (ended_map (deeper names p.next) (λ q. repl q))
 
+    -- where one arm of the code stands for two forms
+    pub name_fits : ((t : ℕ) × (p.form ≡ New t)) ⊎ ((a : Act) × (p.form ≡ Input a)) → Fits w64 (names + 1)
+    name_fits (inl (t, h)) = new_fits_lem t h
+    name_fits (inr (a, h)) = input_fits a h
+
+    pub at_no_process : ((g : ℕ) × (p.form ≡ Group g)) ⊎ ((own : OwnFields) × (p.form ≡ Component own)) → refused 4 at ≡ told
+    at_no_process (inl (g, h)) = at_group g h
+    at_no_process (inr (own, h)) = at_component own h
+
     module _ (t : Result ℕ Refusal) (k : ending t ≡ ended (read_process_in d (nest - 1) s names p.next)) where
       pub at_par : (m : ℕ) → p.form ≡ Par → t ≡ Ok m → ProcessLeft d s from levels bound m (nest - 1) names
       at_par m h i = goes Par names m h (after_par deeper at names p.next t m i k)
@@ -147,14 +157,15 @@ pub ruleset process_steps = (
   process_deeper,
   process_lessens,
   process_falls,
-  new_fits_lem,
-  input_fits,
   at_nil,
-  at_group,
-  at_component,
+  name_fits,
+  at_no_process,
   at_new,
   at_input,
   at_output,
   at_par,
   at_par_left,
 )
+
+-- where one arm stands for two forms
+pub ruleset process_arms = (at_new, at_input, at_output, at_replicate)

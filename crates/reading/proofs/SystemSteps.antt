@@ -2,6 +2,7 @@
 -- one level deeper, with as many components in all.
 use Prim.Native.Nat.{ℕ, ◌+◌, ◌-◌, ◌<◌, ◌≤◌}
 use mathlib.Core.Bool.{true}
+use mathlib.Core.Logic.{◌⊎◌, inl, inr}
 use mathlib.Core.List.{List, [], ◌∷◌, ◌++◌}
 use mathlib.Core.Path.{◌≡◌, refl, sym, ◌∙◌}
 use native.Mathlib.Nat.{add-zero, add_assoc}
@@ -165,6 +166,12 @@ module _ (d : Dialect) (s : List ℕ) (from levels bound : ℕ) (above : List �
     unfolding system_from counted
     at_replicate h = ends Replicate h refl
 
+    -- where one arm of the code stands for all three
+    pub at_no_system : ((a : Act) × (p.form ≡ Input a)) ⊎ (((a : Act) × (p.form ≡ Output a)) ⊎ (p.form ≡ Replicate)) → refused 4 at ≡ told
+    at_no_system (inl (a, h)) = at_input a h
+    at_no_system (inr (inl (a, h))) = at_output a h
+    at_no_system (inr (inr h)) = at_replicate h
+
     pub at_component : (own : OwnFields) (t : Result Number Refusal) → p.form ≡ Component own
         → ((o : OwnFields) → number t ≡ counted so_far (component o (read_process_in d (nest - 1) s names p.next)))
         → number t ≡ told
@@ -206,9 +213,7 @@ pub ruleset system_steps = (
   new_fits_lem,
   another,
   at_nil,
-  at_input,
-  at_output,
-  at_replicate,
+  at_no_system,
   at_component,
   at_par_left,
 )

@@ -5,6 +5,8 @@
 ghost use Rattle.std.specs.Prelude.{◌≡◌};
 ghost use Rattle.reading.specs.Told.{number_of};
 
+use std::fmt;
+
 pub mod bytes;
 pub mod dialects;
 pub mod forms;
@@ -71,6 +73,20 @@ impl Question {
         ensures { result ≡ number_of self }
     {
         self as usize
+    }
+}
+
+impl From<Question> for u64 {
+    fn from(question: Question) -> u64
+        ensures { result ≡ number_of question }
+    {
+        question as u64
+    }
+}
+
+impl fmt::Display for Question {
+    fn fmt<W: fmt::Write>(&self, f: &mut fmt::Formatter<W>) -> fmt::Result {
+        write!(f, "{}", self.number())
     }
 }
 

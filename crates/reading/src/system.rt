@@ -19,7 +19,7 @@ use crate::{Dialect, Form, Number, Path, Question, Refusal, Source, Spot};
 impl Source<'_> {
     /// Reads past a process, form by form: a call for the first part of each parallel form, a turn for all else. The permitted
     /// nesting falls at each.
-    #[tactic(auto, using(crate::proofs::ProcessSteps::process_steps, crate::proofs::ProcessSteps::at_replicate))]
+    #[tactic(auto, using(crate::proofs::ProcessSteps::process_steps, crate::proofs::ProcessSteps::process_arms))]
     pub fn read_process(self, from: Spot) -> Result<usize, Refusal>
         ensures { ending result ≡ ended (read_process_in self.entry.dialect from.nest self.entry.bytes.now from.names from.at) }
     {
@@ -42,27 +42,14 @@ impl Source<'_> {
                     };
                     spot.at = middle;
                 }
-                Form::New(_) => {
+                Form::New(_) | Form::Input(_) => {
                     spot.at = next;
                     spot.names += 1;
                 }
-                Form::Input(_) => {
-                    spot.at = next;
-                    spot.names += 1;
-                }
-                Form::Output(_) => {
+                Form::Output(_) | Form::Replicate => {
                     spot.at = next;
                 }
-                Form::Replicate => {
-                    spot.at = next;
-                }
-                Form::Group(_) => {
-                    return Err(Refusal {
-                        question: Question::Range,
-                        at: spot.at,
-                    });
-                }
-                Form::Component(_) => {
+                Form::Group(_) | Form::Component(_) => {
                     return Err(Refusal {
                         question: Question::Range,
                         at: spot.at,
@@ -130,19 +117,7 @@ impl Source<'_> {
                 Form::Component(_) => {
                     return self.read_component(Spot { at: next, ..spot }, components);
                 }
-                Form::Input(_) => {
-                    return Err(Refusal {
-                        question: Question::Range,
-                        at: spot.at,
-                    });
-                }
-                Form::Output(_) => {
-                    return Err(Refusal {
-                        question: Question::Range,
-                        at: spot.at,
-                    });
-                }
-                Form::Replicate => {
+                Form::Input(_) | Form::Output(_) | Form::Replicate => {
                     return Err(Refusal {
                         question: Question::Range,
                         at: spot.at,

@@ -19,26 +19,14 @@ read_process-left-requires t c = search process_steps
 pub loop-place-smaller-in-Par : goal.loop-place-smaller-in-Par
 loop-place-smaller-in-Par t c = search process_steps
 
-pub overflow_add-spot : goal.overflow_add-spot
-overflow_add-spot t c = search process_steps
-
 pub loop-place-smaller-in-New : goal.loop-place-smaller-in-New
 loop-place-smaller-in-New t c = search process_steps
-
-pub overflow_add-spot-in-Input : goal.overflow_add-spot-in-Input
-overflow_add-spot-in-Input t c = search process_steps
-
-pub loop-place-smaller-in-Input : goal.loop-place-smaller-in-Input
-loop-place-smaller-in-Input t c = search process_steps
-
-pub loop-place-smaller-in-Output : goal.loop-place-smaller-in-Output
-loop-place-smaller-in-Output t c = search process_steps
 
 pub loop-place-smaller : goal.loop-place-smaller
 loop-place-smaller t c = search process_steps
 
+pub overflow_add-spot : goal.overflow_add-spot
+overflow_add-spot t c = search process_steps
+
 pub returns-in-Group : goal.returns-in-Group
 returns-in-Group t c = search process_steps
-
-pub returns-in-Component : goal.returns-in-Component
-returns-in-Component t c = search process_steps

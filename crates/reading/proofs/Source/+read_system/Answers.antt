@@ -36,9 +36,3 @@ returns-in-Component t c = search system_steps
 
 pub returns-in-Input : goal.returns-in-Input
 returns-in-Input t c = search system_steps
-
-pub returns-in-Output : goal.returns-in-Output
-returns-in-Output t c = search system_steps
-
-pub returns-in-Replicate : goal.returns-in-Replicate
-returns-in-Replicate t c = search system_steps
