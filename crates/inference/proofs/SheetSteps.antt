@@ -7,6 +7,7 @@ use native.Mathlib.Omega.{arith}
 use borrow.Author.Rules.{rules}
 use lib.Dec.{eqb}
 use lib.ListN.{length, take, set, length-set}
+use Rattle.std.specs.Prelude.{Result, Ok, Err}
 use Rattle.reading.proofs.Parts.{parts, passed, never, below_found}
 use Rattle.reading.proofs.TotalLaws.{system_total}
 use Rattle.reading.proofs.TreeLaws.{free_count_lem}
@@ -14,16 +15,16 @@ use Rattle.reading.specs.declared.Dialect.TheVariants.{Current as current}
 use Rattle.reading.specs.Read.{Read, got, refused, and_then, below}
 use Rattle.reading.specs.Syntax.{Sheet, components}
 use Rattle.reading.specs.System.{free_types_in, free_types, header_in, header, read_system, to_its_end, read_sheet_in, read_sheet}
-use Rattle.reading.specs.Told.{number}
+use Rattle.reading.specs.Told.{number, number_of, numbered, failed_below}
 use Rattle.reading.specs.Total.{system_tree}
 use Rattle.reading.specs.Types.{type_at}
 use Rattle.reading.specs.declared.Number.{Number}
-use Rattle.reading.specs.declared.NumberRead.{NumberRead}
-use Rattle.reading.specs.declared.NumberRead.TheVariants as number_read
 use Rattle.reading.specs.declared.Refusal.{Refusal}
 use Rattle.inference.proofs.WalkLaws.{bound}
+use Rattle.inference.proofs.FaultLaws.{worst_all_low}
+use Rattle.inference.specs.declared.Inference.{Inference}
 use Rattle.inference.specs.Acts.{located}
-use Rattle.inference.specs.Walks.{InferredAt, InferredSheet, LoadedTypes, LoadedFree}
+use Rattle.inference.specs.Walks.{InferredAt, InferredSheet, WalkedSheet, LoadedTypes, LoadedFree}
 use Rattle.inference.specs.declared.SystemWalk.{SystemWalk}
 
 -- The types bound so far, followed by those that are still to be read, are those that there are in all.
@@ -63,8 +64,8 @@ joined (got us k) l v = rw append_assoc
 joined (refused q p) l v = refl
 
 module _ (count : ℕ) (s : List ℕ) (at : ℕ) (scope : List ℕ) (next names : ℕ) (o : Loading count s at scope next names)
-    (r : NumberRead) (e : number r ≡ type_at s next) (h : names < count) where
-  pub load_next : (t : Number) (scope₁ : List ℕ) → r ≡ number_read.Found t → scope₁ ≡ set scope names t.value
+    (r : Result Number Refusal) (e : number r ≡ type_at s next) (h : names < count) where
+  pub load_next : (t : Number) (scope₁ : List ℕ) → r ≡ Ok t → scope₁ ≡ set scope names t.value
       → Loading count s at scope₁ t.next (names + 1)
   load_next t scope₁ f b = record {
     few = omega arith;
@@ -81,14 +82,14 @@ module _ (count : ℕ) (s : List ℕ) (at : ℕ) (scope : List ℕ) (next names 
           let z : count - (names + 1) ≡ count - names - 1 = omega arith in
           rw (z, b, bound scope names t.value (omega (arith, o.long)))
 
-  pub load_stop : (q : Refusal) → r ≡ number_read.Refused q → LoadedTypes count s at scope (record { value = names; next = next })
+  pub load_stop : (q : Refusal) → r ≡ Err q → LoadedTypes count s at scope (record { value = names; next = next })
   unfolding and_then
   load_stop q f = record { loaded = λ ts k c g. never (sym (stopped c) ∙ g) }
     where
-      none : free_types (count - names) s next ≡ refused q.question q.at
-      none = none_read (count - names) s next q.question q.at (omega arith) (sym (rw f at e))
+      none : free_types (count - names) s next ≡ refused (number_of q.question) q.at
+      none = none_read (count - names) s next (number_of q.question) q.at (omega arith) (sym (rw f at e))
 
-      stopped : count ≤ 64 → free_types count s at ≡ refused q.question q.at
+      stopped : count ≤ 64 → free_types count s at ≡ refused (number_of q.question) q.at
       stopped c = rw none at (o.whole c)
 
 pub load_last : (count : ℕ) (s : List ℕ) (at : ℕ) (scope : List ℕ) (next names : ℕ) → Loading count s at scope next names → count ≤ names
@@ -106,12 +107,12 @@ load_last count s at scope next names o h = record { loaded = λ ts k c g. told 
         (n, (cc), rw (← n) (sym (append-nil (take names scope)) ∙ l))
 
 -- The header: as many types as its count.
-module _ (s scope : List ℕ) (r : NumberRead) (e : number r ≡ below 33 s 0) where
-  pub no_header : (q : Refusal) → r ≡ number_read.Refused q → LoadedFree s scope (record { value = 0; next = 0 })
+module _ (s scope : List ℕ) (r : Result Number Refusal) (e : number r ≡ below 33 s 0) where
+  pub no_header : (q : Refusal) → r ≡ Err q → LoadedFree s scope (record { value = 0; next = 0 })
   unfolding header_in and_then
   no_header q f = record { loaded = λ free at g. never (rw (← e, f) at g) }
 
-  pub header_loaded : (c w : Number) → r ≡ number_read.Found c → LoadedTypes c.value s c.next scope w → LoadedFree s scope w
+  pub header_loaded : (c w : Number) → r ≡ Ok c → LoadedTypes c.value s c.next scope w → LoadedFree s scope w
   unfolding header_in and_then
   header_loaded c w f l = record { loaded = told }
     where
@@ -141,7 +142,7 @@ sheet_parts s sheet end e =
 
 pub sheet_inferred : (s scope scope' table table' path : List ℕ) (r : Number) (w : SystemWalk) → path ≡ [] → LoadedFree s scope r
     → InferredAt 0 path (system_tree 64 s r.value path 0 r.next) r.value scope scope' table table' w
-    → (sheet : Sheet) (end : ℕ) → read_sheet s ≡ got sheet end → InferredSheet sheet table table' w
+    → (sheet : Sheet) (end : ℕ) → read_sheet s ≡ got sheet end → WalkedSheet sheet table table' w
 unfolding located
 sheet_inferred s scope scope' table table' path r w e f h sheet end g =
     let p = sheet_parts s sheet end g in
@@ -151,6 +152,18 @@ sheet_inferred s scope scope' table table' path r w e f h sheet end g =
       first = rw (e, l.0, l.1, l.2, t) at h.first;
       number = let n : w.components ≡ 0 + components sheet.system = rw (e, l.0, l.1, t) at h.number in omega arith;
       counted = rw (e, l.0, l.1, l.2, t) at h.counted;
+    }
+
+pub sheet_asked : (s table table' : List ℕ) (w : SystemWalk) (r : Inference)
+    → ((sheet : Sheet) (end : ℕ) → read_sheet s ≡ got sheet end → WalkedSheet sheet table table' w)
+    → (7 ≤ w.fault → numbered r.fault ≡ failed_below 11 w.fault) → r.components ≡ w.components
+    → (sheet : Sheet) (end : ℕ) → read_sheet s ≡ got sheet end → InferredSheet sheet table table' r
+sheet_asked s table table' w r f q n sheet end g =
+    let h = f sheet end g in
+    record {
+      first = rw h.first at (q (rw h.first (worst_all_low (located sheet))));
+      number = n ∙ h.number;
+      counted = h.counted;
     }
 
 pub ruleset sheet_steps = (rules, load_first, load_next, load_stop, load_last, no_header, header_loaded, sheet_inferred)

@@ -9,19 +9,18 @@ use borrow.Author.Rules.{rules}
 use borrow.Author.Tests.{lt-ltb, ltb-true}
 use lib.Dec.{ltb}
 use lib.ListN.{length, take, set}
+use Rattle.std.specs.Prelude.{Result, Ok, Err}
 use Rattle.reading.specs.declared.Dialect.TheVariants.{Current as current}
 use Rattle.reading.proofs.FormLaws.{GroupNew, system_group}
 use Rattle.reading.proofs.TotalLaws.{system_nest, system_names, group_room, component_room, component_number, system_step, system_stop, both_left, both_right}
 use Rattle.reading.specs.Forms.{system_at}
 use Rattle.reading.specs.Read.{got}
 use Rattle.reading.specs.Syntax.{Process, System, nilₛ, parₛ, newₛ, compₛ, components}
-use Rattle.reading.specs.Told.{form}
+use Rattle.reading.specs.Told.{form, number_of}
 use Rattle.reading.specs.Total.{Grown, under, beside, system_grown, process_tree, system_tree}
 use Rattle.reading.specs.declared.Act.{Act as Fields}
 use Rattle.reading.specs.declared.Form.{Form}
 use Rattle.reading.specs.declared.Form.TheVariants.{Nil, Par, Group, New, Component as Head, Input, Output, Replicate}
-use Rattle.reading.specs.declared.FormRead.{FormRead}
-use Rattle.reading.specs.declared.FormRead.TheVariants as form_read
 use Rattle.reading.specs.declared.OwnFields.{OwnFields}
 use Rattle.reading.specs.declared.Place.{Place}
 use Rattle.reading.specs.declared.Refusal.{Refusal}
@@ -42,14 +41,14 @@ unfolding locate worst_all charged_all components
 nothing t at preceding path names scope table e = rw e (record { place = refl; first = refl; number = omega arith; counted = refl; kept = refl })
 
 -- The form at a place.
-module _ (n : ℕ) (s : List ℕ) (names : ℕ) (path : List ℕ) (preceding at : ℕ) (r : FormRead) (e : form r ≡ system_at s at n names path preceding) where
-  found : (p : Place) → r ≡ form_read.Found p → system_at s at n names path preceding ≡ got p.form p.next
+module _ (n : ℕ) (s : List ℕ) (names : ℕ) (path : List ℕ) (preceding at : ℕ) (r : Result Place Refusal) (e : form r ≡ system_at s at n names path preceding) where
+  found : (p : Place) → r ≡ Ok p → system_at s at n names path preceding ≡ got p.form p.next
   found p h = sym (rw h at e)
 
-  pub nest_left : (p : Place) → r ≡ form_read.Found p → 1 ≤ n
+  pub nest_left : (p : Place) → r ≡ Ok p → 1 ≤ n
   nest_left p h = system_nest s at n names path preceding (found p h)
 
-  pub room_to_open : (p : Place) → r ≡ form_read.Found p → opens names path preceding p.form ≡ true
+  pub room_to_open : (p : Place) → r ≡ Ok p → opens names path preceding p.form ≡ true
   unfolding opens GroupNew
   room_to_open p h = go p.form (found p h)
     where
@@ -66,12 +65,12 @@ module _ (n : ℕ) (s : List ℕ) (names : ℕ) (path : List ℕ) (preceding at 
       go Replicate q = refl
 
   module _ (scope scope' table table' : List ℕ) where
-    pub no_form : (q : Refusal) → r ≡ form_read.Refused q
+    pub no_form : (q : Refusal) → r ≡ Err q
         → InferredAt preceding path (system_tree n s names path preceding at) names scope scope table table (record { next = at; fault = 11; components = preceding })
     no_form q h = nothing (system_tree n s names path preceding at) at preceding path names scope table
-        (system_stop n s names path preceding at q.question q.at (sym (rw h at e)))
+        (system_stop n s names path preceding at (number_of q.question) q.at (sym (rw h at e)))
 
-    pub by_form : (p : Place) (w : SystemWalk) → r ≡ form_read.Found p
+    pub by_form : (p : Place) (w : SystemWalk) → r ≡ Ok p
         → InferredAt preceding path (system_grown (λ ns l j m. system_tree (n - 1) s ns l j m) (λ m. process_tree (n - 1) s names m) at names path preceding p.form p.next)
         names scope scope' table table' w
         → InferredAt preceding path (system_tree n s names path preceding at) names scope scope' table table' w

@@ -7,18 +7,17 @@ use mathlib.Core.Path.{◌≡◌, refl, sym, ◌∙◌}
 use native.Mathlib.Omega.{arith}
 use borrow.Author.Rules.{rules}
 use lib.ListN.{length, take, set, get_or, get_elem?}
+use Rattle.std.specs.Prelude.{Result, Ok, Err}
 use Rattle.reading.proofs.TotalLaws.{process_step}
 use Rattle.reading.specs.Forms.{process_at}
 use Rattle.reading.specs.Read.{got}
 use Rattle.reading.specs.Syntax.{Process, nil, par, new, input, output}
-use Rattle.reading.specs.Told.{number}
+use Rattle.reading.specs.Told.{number, number_of}
 use Rattle.reading.specs.Total.{Grown, under, beside, process_grown, process_tree}
 use Rattle.reading.specs.Types.{type_at}
 use Rattle.reading.specs.declared.Form.{Form}
 use Rattle.reading.specs.declared.Form.TheVariants.{Nil, Par, New, Input, Output, Replicate}
 use Rattle.reading.specs.declared.Number.{Number}
-use Rattle.reading.specs.declared.NumberRead.{NumberRead}
-use Rattle.reading.specs.declared.NumberRead.TheVariants as number_read
 use Rattle.reading.specs.declared.Refusal.{Refusal}
 use Rattle.needs.specs.declared.Need.{Need}
 use Rattle.inference.proofs.ByteLaws.{
@@ -132,7 +131,7 @@ module _ (q : Known) (k : Option ℕ) (e : known q ≡ k) where
 pub ruleset act_steps = (rules, with_least, act_need, act_looked_up, input_looked_up, output_looked_up)
 
 -- A type that was read.
-pub type_found : (s : List ℕ) (at : ℕ) (r : NumberRead) (t : Number) → r ≡ number_read.Found t → number r ≡ type_at s at
+pub type_found : (s : List ℕ) (at : ℕ) (r : Result Number Refusal) (t : Number) → r ≡ Ok t → number r ≡ type_at s at
     → type_at s at ≡ got t.value t.next
 type_found s at r t f told = sym (rw f at told)
 
@@ -181,7 +180,7 @@ module _ (s : List ℕ) (c : Component) (b : Bool) (at nest names : ℕ) (scope 
     pub short_output : get_or s at 0 ≡ 6 → length s ≤ at + 2 → Here scope table (record { next = at; fault = 11 })
     short_output e past = ends at (no_output s at nest names deep here e past)
 
-    module _ (r : NumberRead) (room : names < 64) (q : Refusal) (f : r ≡ number_read.Refused q) where
+    module _ (r : Result Number Refusal) (room : names < 64) (q : Refusal) (f : r ≡ Err q) where
       pub untyped_new : get_or s at 0 ≡ 3 → number r ≡ type_at s (at + 1) → Here scope table (record { next = at; fault = 11 })
       untyped_new e told = ends at (no_new s at nest names deep here e room (sym (rw f at told)))
 

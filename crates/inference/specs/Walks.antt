@@ -8,9 +8,11 @@ use Rattle.reading.specs.declared.Form.{Form}
 use Rattle.reading.specs.declared.Form.TheVariants.{Nil, Par, Group, New, Component as Head, Input, Output, Replicate}
 use Rattle.reading.specs.declared.Number.{Number}
 use Rattle.reading.specs.Forms.{member}
+use Rattle.reading.specs.Told.{numbered, failed_below}
 use Rattle.reading.specs.Total.{Grown}
 use Rattle.inference.specs.declared.Walk.{Walk}
 use Rattle.inference.specs.declared.SystemWalk.{SystemWalk}
+use Rattle.inference.specs.declared.Inference.{Inference}
 use Rattle.inference.specs.Acts.{Act, Located, acts_of, locate, located}
 use Rattle.inference.specs.Typing.{is_known, of_channel, is_type}
 use Rattle.inference.specs.Needs.{need_of}
@@ -82,7 +84,13 @@ opens names path preceding (Output a) = true
 opens names path preceding Replicate = true
 
 -- What a whole sheet's walk finds and writes.
-pub record InferredSheet (sheet : Sheet) (table table' : List ℕ) (r : SystemWalk) : Type 0 where
+pub record InferredSheet (sheet : Sheet) (table table' : List ℕ) (r : Inference) : Type 0 where
+  pub first : numbered r.fault ≡ failed_below 11 (worst_all (located sheet))
+  pub number : r.components ≡ components sheet.system
+  pub counted : table' ≡ charged_all table (located sheet)
+
+-- The same, with the question by its number, and 11 for none.
+pub record WalkedSheet (sheet : Sheet) (table table' : List ℕ) (r : SystemWalk) : Type 0 where
   pub first : r.fault ≡ worst_all (located sheet)
   pub number : r.components ≡ components sheet.system
   pub counted : table' ≡ charged_all table (located sheet)

@@ -8,7 +8,7 @@ ghost use Rattle.inference.specs.Told.{known};
 use crate::Known;
 use needs::{Need, need_of};
 use reading::types::shape_of;
-use reading::{Path, Shape, paths};
+use reading::{Path, Shape};
 
 // What a send or a receive needs where the channel's name may be out of scope.
 #[tactic(auto, using(crate::proofs::NeedSteps::need_steps))]
@@ -30,7 +30,7 @@ fn typed_fault(channel: usize, object: usize, path: Path) -> usize
         Shape::Plain(_) => 8,
         Shape::Channel { group, carried } => {
             if carried == object {
-                if paths::has(path, group) { 11 } else { 10 }
+                if path.has(group) { 11 } else { 10 }
             } else {
                 9
             }

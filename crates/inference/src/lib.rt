@@ -11,21 +11,14 @@ pub mod systems;
 pub mod table;
 pub mod walks;
 
-use reading::Path;
+pub use reading::Spot;
+use reading::{Path, Question};
 
 // The type of a name, if the name is in scope.
 #[derive(Clone, Copy)]
 pub enum Known {
     Type(usize),
     Nothing,
-}
-
-// Where a walk stands: the place, the permitted nesting that is left, and the number of names in scope.
-#[derive(Clone, Copy)]
-pub struct Spot {
-    pub at: usize,
-    pub nest: usize,
-    pub names: usize,
 }
 
 // Whose process a walk goes over: the component's number and path, and whether it stands under a repeat.
@@ -48,5 +41,12 @@ pub struct Walk {
 pub struct SystemWalk {
     pub next: usize,
     pub fault: usize,
+    pub components: usize,
+}
+
+/// What was found of a sheet: the first of questions 7 to 10 that fails, and the number of components.
+#[derive(Clone, Copy, Debug, PartialEq, Eq)]
+pub struct Inference {
+    pub fault: Option<Question>,
     pub components: usize,
 }

@@ -11,8 +11,7 @@ use crate::rows::{store_path, store_purpose};
 use crate::scope::bind;
 use crate::walks::{infer_process, least};
 use crate::{Context, Spot, SystemWalk};
-use reading::forms::system_at;
-use reading::{Dialect, Form, FormRead, OwnFields, Path, paths};
+use reading::{Dialect, Form, OwnFields, Path, Source};
 
 // What a walk found, with what was found before it.
 #[tactic(auto, using(crate::proofs::SystemSteps::system_steps))]
@@ -41,7 +40,7 @@ fn infer_component(
         (under (compₛ own) (process_tree spot.nest s.now spot.names spot.at))
         spot.names scope.old scope.new table.old table.new result }
 {
-    let whole = paths::with(path, own.group);
+    let whole = path.with(own.group);
     let context = Context {
         component,
         path: whole,
@@ -78,8 +77,12 @@ pub fn infer_system(
     let at = spot.at;
     let nest = spot.nest;
     let names = spot.names;
-    let read = system_at(Dialect::Current, s, at, nest, names, path, components);
-    let FormRead::Found(place) = read else {
+    let source = Source {
+        dialect: Dialect::Current,
+        bytes: s,
+    };
+    let read = source.system_at(spot, path, components);
+    let Ok(place) = read else {
         return SystemWalk {
             next: at,
             fault: 11,
@@ -120,7 +123,7 @@ fn infer_form(
             components,
         },
         Form::Par => infer_par(s, inner, path, components, scope, table),
-        Form::Group(g) => infer_system(s, inner, paths::with(path, g), components, scope, table),
+        Form::Group(g) => infer_system(s, inner, path.with(g), components, scope, table),
         Form::New(t) => infer_under(s, inner, t, path, components, scope, table),
         Form::Component(own) => infer_component(s, inner, path, own, components, scope, table),
         Form::Input(_) => SystemWalk {

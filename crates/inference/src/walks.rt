@@ -17,7 +17,7 @@ use crate::scope::{bind, type_of};
 use crate::{Context, Known, Spot, Walk};
 use reading::bytes::byte_in;
 use reading::types::type_at;
-use reading::{Act, Dialect, NumberRead};
+use reading::{Act, Dialect};
 
 pub fn least(a: usize, b: usize) -> usize
     ensures { result ≡ min a b }
@@ -152,7 +152,7 @@ pub fn infer_process(
                 return none;
             }
             let read = type_at(Dialect::Current, s, at + 1);
-            let NumberRead::Found(t) = read else {
+            let Ok(t) = read else {
                 return none;
             };
             let inner = Spot {
@@ -168,7 +168,7 @@ pub fn infer_process(
                 return none;
             }
             let read = type_at(Dialect::Current, s, at + 2);
-            let NumberRead::Found(t) = read else {
+            let Ok(t) = read else {
                 return none;
             };
             let act = Act {

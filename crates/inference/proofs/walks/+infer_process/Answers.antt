@@ -31,12 +31,12 @@ returns-in-0 t c = search walk_steps
 pub returns-in-1 : goal.returns-in-1
 returns-in-1 t c = search walk_steps
 
-pub returns-in-Found : goal.returns-in-Found
-returns-in-Found t c = new_walked _ _ _ _ _ _ _ _ (search rules) (search rules) _ _ _ _ _ (search (rules, type_found)) (search rules) (search rules) (search rules)
+pub returns-in-Ok : goal.returns-in-Ok
+returns-in-Ok t c = new_walked _ _ _ _ _ _ _ _ (search rules) (search rules) _ _ _ _ _ (search (rules, type_found)) (search rules) (search rules) (search rules)
     _ c.bind.ensures c.infer_process.ensures
 
-pub returns-in-Found-read : goal.returns-in-Found-read
-returns-in-Found-read t c = input_walked _ _ _ _ _ _ _ _ c.if-spot-eq0.false c.if-s-at.false _ _ _ _ _ c.with_fault-in-5.ensures
+pub returns-in-Ok-read : goal.returns-in-Ok-read
+returns-in-Ok-read t c = input_walked _ _ _ _ _ _ _ _ c.if-spot-eq0.false c.if-s-at.false _ _ _ _ _ c.with_fault-in-5.ensures
     _ _ (search (rules, type_found)) (search rules) (search rules) c.requires.1 _ c.bind-in-5.ensures
     _ _ c.byte_in.ensures.value c.input_fault-fault.ensures.value c.input_fault-fault.ensures.table_after c.infer_process-rest.ensures
 
