@@ -99,7 +99,7 @@ pub placed_fails :
 unfolding guarantees_computed
 placed_fails = refl
 
--- `no_error_lem`: W's threads under W's charter; under one whose node 1 lacks the list; a next act with a dangling name; and a dangling
+-- `error_free`: W's threads under W's charter; under one whose node 1 lacks the list; a next act with a dangling name; and a dangling
 -- name behind a repeat, which has no next act.
 pub error_found :
     no_error (charter once) (state (sender ∷ receiver ∷ []))
@@ -225,7 +225,7 @@ pub purpose_placed : map (all_located w) (state (for 0 sender ∷ []) ∷ state 
 unfolding guarantees_computed
 purpose_placed = refl
 
--- `no_error_lem`: the sender with purposes 0 and 1, each under both charters, and under one that grants for no purpose.
+-- `error_free`: the sender with purposes 0 and 1, each under both charters, and under one that grants for no purpose.
 pub purpose_error :
     map (λ t. no_error (charter (once_for 1)) (state (t ∷ []))) (for 0 sender ∷ for 1 sender ∷ [])
     ∷ map (λ t. no_error (charter (once_for 2)) (state (t ∷ []))) (for 0 sender ∷ for 1 sender ∷ [])

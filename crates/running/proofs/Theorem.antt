@@ -28,7 +28,7 @@ guaranteed sheet charter a accepted ms = record {
   placed = run_located a.sheet ms;
   typed = run_typed a.sheet ms (accepted_typed sheet charter a accepted);
   not_beyond = run_not_beyond a.sheet ms (accepted_typed sheet charter a accepted);
-  no_error_lem = run_fine a.policy a.sheet ms (accepted_fine sheet charter a accepted);
+  error_free = run_fine a.policy a.sheet ms (accepted_fine sheet charter a accepted);
   within = λ l member k h below₁₆ below₆₄.
       within_grant (count_granted h a.policy k l.component) (disclosed_where (shares l.component) k h (start a.sheet) ms)
       (disclosed k h (acts_where (shares l.component) (state_acts (reached a ms)))) (disclosed k h (acts_where (shares l.component) (sheet_acts a.sheet)))

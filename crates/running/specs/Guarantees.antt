@@ -155,7 +155,7 @@ reached a ms = run_states (start a.sheet) ms
 -- Demand 3, of one list of moves: what holds of the state after them.
 pub record Guaranteed (a : Accepted) (ms : List Move) : Type 0 where
   -- every run name of every thread has a type, and every thread is one of a component of the sheet, with that component's path and
-  -- purpose ("Threads take their post's purpose through a run", document 02, Q-6): so `typed` and `no_error_lem`, which ask of the thread's
+  -- purpose ("Threads take their post's purpose through a run", document 02, Q-6): so `typed` and `error_free`, which ask of the thread's
   -- own names, path and purpose, ask of the sheet's
   pub named : all_named (reached a ms) ≡ true
   pub placed : all_located a.sheet (reached a ms) ≡ true
@@ -166,7 +166,7 @@ pub record Guaranteed (a : Accepted) (ms : List Move) : Type 0 where
   pub not_beyond : (n : ℕ) → NotBeyond (of_component n (state_acts (reached a ms))) (of_component n (sheet_acts a.sheet))
   -- no thread's next act is an error: none "fails 7 to 10 under the names' types, or needs a permission that its path's grant
   -- lacks", which is the grant for its purpose
-  pub no_error_lem : no_error a.policy (reached a ms) ≡ true
+  pub error_free : no_error a.policy (reached a ms) ≡ true
   -- of the class of each component (the components whose paths have its groups and which have its purpose), kind and group whose count
   -- is finite: "the links all its posts have handed over, plus those they still infer, are together at most the charter's count"
   -- (document 02, Q-4), which "belong[s] to path and purpose" (Q-6)

@@ -5,3 +5,4 @@ pub mod Moves
 pub mod Script
 pub mod Play
 pub mod Guarantees
+pub mod Theorem

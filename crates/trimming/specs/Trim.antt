@@ -1,12 +1,15 @@
 -- Trimming a policy (document 02, Q-5): "Editors trim charters and want the slack." One group's count for another is lowered in the
 -- tree of a kind; and the slack says by how much it may be.
-use Rattle.std.specs.Prelude.{ℕ, ◌-◌, List, [], ◌∷◌, map, Bool, cond, ◌&&◌, eqb}
+use Rattle.std.specs.Prelude.{ℕ, ◌-◌, ◌≡◌, List, [], ◌∷◌, map, Bool, true, cond, ◌&&◌, eqb}
+use Rattle.reading.specs.Read.{got}
+use Rattle.reading.specs.System.{sheet_of}
 use Rattle.reading.specs.Forms.{member}
 use Rattle.inference.specs.Lists.{only}
 use Rattle.inference.specs.Counts.{Count, fin, unlimited, at_most}
-use Rattle.inference.specs.Interface.{Entry, Required, is_empty}
+use Rattle.inference.specs.Interface.{Entry, Required, is_empty, required_of, interface}
 use Rattle.policy.specs.Syntax.{Granted, Permissions, Nodes, none, more, Node, Tree, has_bit}
 use Rattle.fit.specs.Satisfies.{Verdict, flag, counts, covering}
+use Rattle.service.specs.Questions.{Accepted, passed, judged_from, judged}
 
 -- A stored count, lowered: 65,535, which is unlimited, stays.
 unfoldable pub lowered : ℕ → ℕ → ℕ
@@ -88,3 +91,11 @@ draws_on kind g e = eqb e.kind kind && member g e.component.path
 -- The smallest slack told for group h among the entries that draw on group g.
 unfoldable pub least_slack : List Tree → Required → ℕ → ℕ → ℕ → List Entry → Count
 least_slack policy required kind g h entries = least (λ e. slack_in h (covering policy required e)) (only (draws_on kind g) entries)
+
+-- The slack is worth telling: lower the count for a group h of one group g, at all its nodes of a kind's tree alike, by at most the
+-- smallest slack told for h among the entries of that kind whose path has g, and the sheet is still accepted.
+abbrev pub AlwaysAccepted : Type 0
+AlwaysAccepted =
+    (s c : List ℕ) (a : Accepted) → judged s c ≡ passed a → (kind g h by : ℕ)
+    → at_most (fin by) (least_slack a.policy (required_of a.sheet) kind g h (interface a.sheet)) ≡ true
+    → (end : ℕ) → judged_from (sheet_of s c) (got (lower kind g h by a.policy) end) ≡ passed (record { sheet = a.sheet; policy = lower kind g h by a.policy })
