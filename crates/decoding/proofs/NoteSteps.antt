@@ -7,6 +7,8 @@ use native.Mathlib.Omega.{arith}
 use borrow.Author.Rules.{rules}
 use lib.Dec.{lit<}
 use lib.ListN.{length, get_or, set, length-set}
+use Rattle.std.specs.Prelude.{Result, Ok, Err}
+use Rattle.std.proofs.Common.{◌⊎◌, inl, inr}
 use Rattle.reading.specs.declared.Dialect.TheVariants.{Current as current}
 use Rattle.reading.specs.Read.{Read, got, refused, and_then}
 use Rattle.reading.specs.Syntax.{Process, nil, par, new, input, output, repl, System, nilₛ, parₛ, groupₛ, newₛ, compₛ, components}
@@ -17,11 +19,7 @@ use Rattle.reading.specs.Told.{number, form, path_of}
 use Rattle.reading.specs.declared.Act.{Act}
 use Rattle.reading.specs.declared.Form.{Form}
 use Rattle.reading.specs.declared.Form.TheVariants.{Nil, Par, Group, New, Component, Input, Output, Replicate}
-use Rattle.reading.specs.declared.FormRead.{FormRead}
-use Rattle.reading.specs.declared.FormRead.TheVariants as form_read
 use Rattle.reading.specs.declared.Number.{Number}
-use Rattle.reading.specs.declared.NumberRead.{NumberRead}
-use Rattle.reading.specs.declared.NumberRead.TheVariants as number_read
 use Rattle.reading.specs.declared.OwnFields.{OwnFields}
 use Rattle.reading.specs.declared.Path.{Path}
 use Rattle.reading.specs.declared.Place.{Place}
@@ -198,7 +196,7 @@ module _ (s : List ℕ) (from levels : ℕ) (forms₀ : List ℕ) (at nest : ℕ
       → (get_or s at 0 ≡ 6 → ⊥) → (get_or s at 0 ≡ 7 → ⊥) → ProcessNoted s from levels forms₀ forms at
   no_code a b c d f g = no_form (λ names x k e. none_stands s at nest names e a b c d f g)
 
-  module _ (q : NumberRead) (w : Refusal) (g : q ≡ number_read.Refused w) where
+  module _ (q : Result Number Refusal) (w : Refusal) (g : q ≡ Err w) where
     pub no_new : get_or s at 0 ≡ 3 → number q ≡ type_at s (at + 1) → ProcessNoted s from levels forms₀ forms at
     unfolding and_then
     no_new c told = no_form (λ names f k e. never (rw (sym (rw g at told)) at (new_stands s at nest names e c)))
@@ -225,7 +223,7 @@ module _ (s : List ℕ) (from levels : ℕ) (forms₀ : List ℕ) (at nest : ℕ
         wide = rw stored (length-set forms at word ∙ h.wide);
       }
 
-      pub new_on : (q : NumberRead) (t : Number) → q ≡ number_read.Found t → get_or s at 0 ≡ 3 → number q ≡ type_at s (at + 1)
+      pub new_on : (q : Result Number Refusal) (t : Number) → q ≡ Ok t → get_or s at 0 ≡ 3 → number q ≡ type_at s (at + 1)
           → word ≡ digits 3 0 t.value t.next → Walking s from levels forms₀ t.next (nest - 1) between
       unfolding and_then process_from process_of packed_form FormFits
       new_on q t g c told w =
@@ -233,7 +231,7 @@ module _ (s : List ℕ) (from levels : ℕ) (forms₀ : List ℕ) (at nest : ℕ
           on (New t.value) t.next (λ names f k e. rw found at (new_stands s at nest names e c)) (λ n. n + 1) (new t.value)
           (small_type s (at + 1) found) (λ part. refl) (λ read names. refl) w
 
-      pub input_on : (q : NumberRead) (t : Number) (x : ℕ) → q ≡ number_read.Found t → get_or s at 0 ≡ 5 → number q ≡ type_at s (at + 2)
+      pub input_on : (q : Result Number Refusal) (t : Number) (x : ℕ) → q ≡ Ok t → get_or s at 0 ≡ 5 → number q ≡ type_at s (at + 2)
           → (x ≡ get_or s (at + 1) 0) × (x < 256) → word ≡ digits 5 x t.value t.next
           → Walking s from levels forms₀ t.next (nest - 1) between
       unfolding and_then process_from process_of packed_form FormFits
@@ -275,16 +273,16 @@ module _ (s : List ℕ) (at nest : ℕ) (before after : List ℕ) (r : ℕ) wher
   no_nest_left z fitted names path preceding p end e =
       let h = parts (system_at s at 0 names path preceding) (λ form next. refused 5 at) (rw z at e) in never h.rest
 
-  module _ (q : FormRead) (empty : Path) (none : path_of empty ≡ []) (reads : form q ≡ system_at s at 1 0 (path_of empty) 0) where
+  module _ (q : Result Place Refusal) (empty : Path) (none : path_of empty ≡ []) (reads : form q ≡ system_at s at 1 0 (path_of empty) 0) where
     told : form q ≡ system_at s at 1 0 [] 0
     told = rw none at reads
 
-    pub no_system : (w : Refusal) → q ≡ form_read.Refused w → SystemNoted s at nest before after r
+    pub no_system : (w : Refusal) → q ≡ Err w → SystemNoted s at nest before after r
     no_system w g fitted names path preceding p end e =
         let b = system_begins current nest s names path preceding at e in
         never (rw g at told ∙ system_any s at nest names path preceding b.stands)
 
-    module _ (place : Place) (g : q ≡ form_read.Found place) where
+    module _ (place : Place) (g : q ≡ Ok place) where
       pub system_found : system_at s at 1 0 [] 0 ≡ got place.form place.next
       system_found = sym (rw g at told)
 
@@ -412,9 +410,30 @@ module _ (s : List ℕ) (at nest : ℕ) (place : Place) (here : system_at s at 1
   unfolding system_from
   system_repl f fitted names path preceding p end h = never (rw f at h)
 
--- How far down the walk over a system is.
-pub form_falls : (nest t : ℕ) → (nest ≡ 0 → ⊥) → nest * 3 ≡ t → (nest - 1) * 3 + 2 < t
-form_falls nest t z e = omega arith
+  pub form_nil : place.form ≡ Nil → r ≡ place.next → after ≡ set before at 0 → SystemFormNoted s at nest place before after r
+  unfolding packed_form digits
+  form_nil f e g = system_nil f e g
+
+  pub form_par : place.form ≡ Par → (second word : ℕ) (left between : List ℕ) → length left ≡ length before
+      → SystemNoted s place.next nest before left second → word ≡ packed (record { form = place.form; next = place.next; second = second })
+      → between ≡ set left at word → SystemNoted s second nest between after r → SystemFormNoted s at nest place before after r
+  form_par f second word left between same n v e k =
+      system_par f (system_parts s at nest place.next second before left between after r same n (rw (v, f) at e) k)
+
+  pub form_part : ((g : ℕ) × (place.form ≡ Group g)) ⊎ ((t : ℕ) × (place.form ≡ New t)) → (word : ℕ) (between : List ℕ) → word ≡ packed item → between ≡ set before at word
+      → SystemNoted s place.next nest between after r → SystemFormNoted s at nest place before after r
+  form_part (inl h) word between v e n = system_group h.0 h.1 (system_part s at nest item before between after r (rw v at e) n)
+  form_part (inr h) word between v e n = system_new h.0 h.1 (system_part s at nest item before between after r (rw v at e) n)
+
+  pub form_component : (own : OwnFields) → place.form ≡ Component own → (word : ℕ) (between : List ℕ) → word ≡ packed item → between ≡ set before at word
+      → ProcessNoted s place.next nest between after r → SystemFormNoted s at nest place before after r
+  form_component own f word between v e n = system_component own f (part_noted s at nest item before between after r (rw v at e) n)
+
+  pub form_none : ((a : Act) × (place.form ≡ Input a)) ⊎ (((a : Act) × (place.form ≡ Output a)) ⊎ (place.form ≡ Replicate))
+      → SystemFormNoted s at nest place before after r
+  form_none (inl h) = system_input h.0 h.1
+  form_none (inr (inl h)) = system_output h.0 h.1
+  form_none (inr (inr h)) = system_repl h
 
 pub ruleset note_steps = (
   rules,
@@ -432,20 +451,13 @@ pub ruleset note_steps = (
 
 pub ruleset system_steps = (
   rules,
-  form_falls,
-  part_noted,
   no_nest_left,
   no_system,
   system_found,
   with_system,
-  system_part,
-  system_parts,
-  system_nil,
-  system_par,
-  system_group,
-  system_new,
-  system_component,
-  system_input,
-  system_output,
-  system_repl,
+  form_nil,
+  form_par,
+  form_part,
+  form_component,
+  form_none,
 )

@@ -7,8 +7,8 @@ pub mod words;
 
 use reading::Form;
 
-// What stands at a place: a form with its fields, the place of its part, and that of its second part where it has two.
-#[derive(Clone, Copy)]
+/// What stands at a place: a form with its fields, the place of its part, and that of its second part where it has two.
+#[derive(Clone, Copy, PartialEq, Eq, Debug)]
 pub struct Item {
     pub form: Form,
     pub next: usize,

@@ -6,7 +6,7 @@ ghost use Rattle.decoding.specs.Words.{digits, packed, form_of, unpacked, item_a
 use crate::Item;
 use reading::{Act, Form, OwnFields};
 
-// A code with its fields and the place of a part.
+/// A code with its fields and the place of a part, as a number.
 #[tactic(auto, unfolding(crate::specs::Words::digits))]
 pub fn number(code: usize, channel: usize, object: usize, next: usize) -> usize
     ensures { result ≡ digits code channel object next }
@@ -15,7 +15,7 @@ pub fn number(code: usize, channel: usize, object: usize, next: usize) -> usize
     (fields * 8192 + next % 8192) * 8 + code % 8
 }
 
-// A form as a number.
+/// A form as a number.
 #[tactic(auto, using(crate::proofs::WordSteps::word_steps))]
 pub fn pack(item: Item) -> usize
     ensures { result ≡ packed item }
@@ -69,14 +69,10 @@ fn unpack(w: usize) -> Item
     }
 }
 
-// What stands at a place of a table.
+/// What stands at a place of a table; past its end, what the number 0 stands for: a nothing-form.
 #[tactic(auto, using(crate::proofs::WordSteps::word_steps))]
 pub fn item_at(forms: &[usize], at: usize) -> Item
     ensures { result ≡ item_at forms.now at }
 {
-    if at < forms.len() {
-        unpack(forms[at])
-    } else {
-        unpack(0)
-    }
+    unpack(forms.get(at).copied().unwrap_or(0))
 }
