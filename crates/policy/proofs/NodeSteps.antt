@@ -10,6 +10,7 @@ use borrow.Author.Rules.{rules}
 use borrow.Author.Tests.{lt-ltb, le-ltb}
 use lib.Dec.{ltb}
 use lib.ListN.{length, length-append}
+use Rattle.std.specs.Prelude.{Result, Ok, Err}
 use Rattle.reading.proofs.Parts.{never}
 use Rattle.reading.specs.Read.{Read, got, refused, and_then, byte_at, below}
 use Rattle.reading.specs.Told.{number}
@@ -21,10 +22,8 @@ use Rattle.policy.proofs.StoreLaws.{stored_rows}
 use Rattle.policy.specs.Syntax.{Permissions, Node, Nodes, none, more, alone, heads, heads_of}
 use Rattle.policy.specs.Reading.{must, children, read_permissions, read_node_in, read_node}
 use Rattle.policy.specs.Rows.{with_node, flat_of, flats, flatten}
-use Rattle.policy.specs.Loads.{Opened, read_opening, opening_read, OpeningReadFits, OpeningFits, why_not, node_read, children_read, rows_only, Loaded}
+use Rattle.policy.specs.Loads.{Opened, read_opening, opening_read, OpeningReadFits, OpeningFits, node_read, children_read, rows_only, Loaded}
 use Rattle.policy.specs.declared.Opening.{Opening}
-use Rattle.policy.specs.declared.OpeningRead.{OpeningRead}
-use Rattle.policy.specs.declared.OpeningRead.TheVariants as opening_read_variants
 
 -- The first of some nodes, and the rest.
 pub more_heads : (g : ℕ) (p : Permissions) (below rest : Nodes) → length (heads_of (more g p below rest)) ≡ length (heads_of (more g p below none)) + length (heads_of rest)
@@ -265,15 +264,15 @@ module _ (level : ℕ) (c : List ℕ) (used at : ℕ) (nodes : List ℕ) where
     unfolding must node_read
     too_many d w l e = not_loaded d used w 11 at (rw (node_step level c used at h, le-ltb used 64 l)) (rw e)
 
-    module _ (low : used < 64) (b : OpeningRead) (e : opening_read c b ≡ read_opening c at) where
-      pub opening_refused : (d : ℕ) (q w : Refusal) → b ≡ opening_read_variants.Refused q → w ≡ why_not b
+    module _ (low : used < 64) (b : Result Opening Refusal) (e : opening_read c b ≡ read_opening c at) where
+      pub opening_refused : (d : ℕ) (w : Refusal) → b ≡ Err w
           → Loaded c (node_read (read_node level c used at)) d used nodes nodes (number_read.Refused w)
       unfolding must node_read and_then
-      opening_refused d q w f k =
+      opening_refused d w f =
           let z = sym (rw f at e) in
-          not_loaded d used (number_read.Refused w) q.question q.at (rw (node_step level c used at h, lt-ltb used 64 low, z)) (rw (k, f))
+          not_loaded d used (number_read.Refused w) w.question w.at (rw (node_step level c used at h, lt-ltb used 64 low, z)) refl
 
-      pub node_loaded : (o : Opening) (nodes₁ nodes₂ : List ℕ) (r : NumberRead) → level ≤ 8 → length nodes ≡ 384 → b ≡ opening_read_variants.Found o → OpeningReadFits (8 - level) b
+      pub node_loaded : (o : Opening) (nodes₁ nodes₂ : List ℕ) (r : NumberRead) → level ≤ 8 → length nodes ≡ 384 → b ≡ Ok o → OpeningReadFits (8 - level) b
           → nodes₁ ≡ with_node nodes used o.node
           → Loaded c (children_read (level - 1) c o.children (used + 1) o.next) (8 - (level - 1)) (used + 1) nodes₁ nodes₂ r
           → Loaded c (node_read (read_node level c used at)) (8 - level) used nodes nodes₂ r
@@ -286,7 +285,7 @@ module _ (level : ℕ) (c : List ℕ) (used at : ℕ) (nodes : List ℕ) where
           (nested c (8 - level) used nodes nodes₁ nodes₂ r o long low y s (children_read (level - 1) c o.children (used + 1) o.next) (rw x at l))
 
 -- What the calls ask.
-pub opening_small : (d : ℕ) (b : OpeningRead) (o : Opening) → b ≡ opening_read_variants.Found o → OpeningReadFits d b → o.children < 256
+pub opening_small : (d : ℕ) (b : Result Opening Refusal) (o : Opening) → b ≡ Ok o → OpeningReadFits d b → o.children < 256
 opening_small d b o f fits = let y : OpeningFits d o = rw f at fits in y.few
 
 pub descends : (level n t : ℕ) → (level ≡ 0 → ⊥) → n < 256 → level * 300 ≡ t → (level - 1) * 300 + n + 1 < t
