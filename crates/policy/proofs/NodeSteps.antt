@@ -143,34 +143,36 @@ module _ (level : ℕ) (c : List ℕ) (count used at d : ℕ) where
         (first_rows level c used at d nodes nodes₁ r l x.root n.value n.next x.is x.count)
         (children_read level c (count - 1) n.value n.next) m)
 
--- Where the loop over children stands: once those that are left are loaded, all are.
-pub record Loading (level : ℕ) (c : List ℕ) (count used at d : ℕ) (nodes₀ : List ℕ) (left rows next : ℕ) (nodes : List ℕ) : Type 0 where
-  pub whole : (nodes₂ : List ℕ) (r : NumberRead) → Loaded c (children_read level c left rows next) d rows nodes nodes₂ r
+-- Where the loop over children stands, of which `done` are loaded: once the others are loaded too, all are.
+pub record Loading (level : ℕ) (c : List ℕ) (count used at d : ℕ) (nodes₀ : List ℕ) (done rows next : ℕ) (nodes : List ℕ) : Type 0 where
+  pub whole : (nodes₂ : List ℕ) (r : NumberRead) → Loaded c (children_read level c (count - done) rows next) d rows nodes nodes₂ r
       → Loaded c (children_read level c count used at) d used nodes₀ nodes₂ r
   pub same : length nodes ≡ 384
 
 pub all_left : (level : ℕ) (c : List ℕ) (count used at d : ℕ) (nodes : List ℕ) → length nodes ≡ 384
-    → Loading level c count used at d nodes count used at nodes
-all_left level c count used at d nodes l = record { whole = λ nodes₂ r h. h; same = l }
+    → Loading level c count used at d nodes 0 used at nodes
+all_left level c count used at d nodes l = let z : count - 0 ≡ count = omega arith in record { whole = λ nodes₂ r h. rw z at h; same = l }
 
-module _ (level : ℕ) (c : List ℕ) (count used at d : ℕ) (nodes₀ : List ℕ) (left rows next : ℕ) (nodes : List ℕ)
-    (s : Loading level c count used at d nodes₀ left rows next nodes) where
-  pub none_left : left ≤ 0 → Loaded c (children_read level c count used at) d used nodes₀ nodes (number_read.Found (record { value = rows; next = next }))
-  none_left h = s.whole nodes _ (no_child level c left rows next d nodes (omega arith))
+module _ (level : ℕ) (c : List ℕ) (count used at d : ℕ) (nodes₀ : List ℕ) (done rows next : ℕ) (nodes : List ℕ)
+    (s : Loading level c count used at d nodes₀ done rows next nodes) where
+  pub none_left : count ≤ done → Loaded c (children_read level c count used at) d used nodes₀ nodes (number_read.Found (record { value = rows; next = next }))
+  none_left h = s.whole nodes _ (no_child level c (count - done) rows next d nodes (omega arith))
 
-  module _ (h : 0 < left) (nodes₁ : List ℕ) (r : NumberRead) (l : Loaded c (node_read (read_node level c rows next)) d rows nodes nodes₁ r) where
-    some_left : left ≡ 0 → ⊥
+  module _ (h : done < count) (nodes₁ : List ℕ) (r : NumberRead) (l : Loaded c (node_read (read_node level c rows next)) d rows nodes nodes₁ r) where
+    some_left : count - done ≡ 0 → ⊥
     some_left e = omega arith
 
     pub one_refused : (q : Refusal) → r ≡ number_read.Refused q → Loaded c (children_read level c count used at) d used nodes₀ nodes₁ r
-    one_refused q f = s.whole nodes₁ r (child_refused level c left rows next d some_left nodes nodes₁ r l q f)
+    one_refused q f = s.whole nodes₁ r (child_refused level c (count - done) rows next d some_left nodes nodes₁ r l q f)
 
     pub one_loaded : (n : Number) → r ≡ number_read.Found n → length nodes₁ ≡ length nodes
-        → Loading level c count used at d nodes₀ (left - 1) n.value n.next nodes₁
-    one_loaded n f k = record {
-      whole = λ nodes₂ r₂ m. s.whole nodes₂ r₂ (then_rest level c left rows next d some_left nodes nodes₁ r l n nodes₂ r₂ f m);
-      same = k ∙ s.same;
-    }
+        → Loading level c count used at d nodes₀ (done + 1) n.value n.next nodes₁
+    one_loaded n f k =
+        let z : count - (done + 1) ≡ count - done - 1 = omega arith in
+        record {
+          whole = λ nodes₂ r₂ m. s.whole nodes₂ r₂ (then_rest level c (count - done) rows next d some_left nodes nodes₁ r l n nodes₂ r₂ f (rw z at m));
+          same = k ∙ s.same;
+        }
 
 pub ruleset child_steps = (rules, all_left, none_left, one_refused, one_loaded)
 

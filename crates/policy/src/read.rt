@@ -54,17 +54,11 @@ pub fn two_bytes(c: &[u8], at: usize) -> NumberRead
 }
 
 // 1 to 4,095, or 65,535 for unlimited.
-#[tactic(auto, using(crate::proofs::ListSteps::count_steps))]
+#[tactic(auto, unfolding(crate::specs::Reading::is_count))]
 fn is_count(n: usize) -> bool
     ensures { result ≡ is_count n }
 {
-    if n == 65535 {
-        return true;
-    }
-    if n == 0 {
-        return false;
-    }
-    n <= 4095
+    (1..=4095).contains(&n) || n == 65535
 }
 
 // An item of a disclose list, whose group is at least `lowest`; the number found is its group.
@@ -100,15 +94,13 @@ fn read_list(c: &[u8], at: usize, count: usize) -> NumberRead
 {
     let mut next = at;
     let mut lowest: usize = 0;
-    let mut left = count;
-    while 0 < left {
+    for _ in 0..count {
         let read = item_at(c, next, lowest);
         let NumberRead::Found(item) = read else {
             return read;
         };
         next = item.next;
         lowest = item.value + 1;
-        left -= 1;
     }
     NumberRead::Found(Number { value: count, next })
 }
@@ -266,15 +258,13 @@ fn read_children(
 {
     let mut next = at;
     let mut rows = used;
-    let mut left = count;
-    while 0 < left {
+    for _ in 0..count {
         let read = read_node(c, next, level, rows, nodes);
         let NumberRead::Found(child) = read else {
             return read;
         };
         next = child.next;
         rows = child.value;
-        left -= 1;
     }
     NumberRead::Found(Number { value: rows, next })
 }
