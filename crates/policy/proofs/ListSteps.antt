@@ -1,11 +1,11 @@
 -- How a disclose list is read, step by step: a refusal is handed on, and what was found goes on.
 use Prim.Native.Nat.{ℕ, zero, suc, ◌+◌, ◌-◌, ◌*◌, ◌<◌, ◌≤◌}
-use mathlib.Core.Bool.{Bool, true, false, or-false}
+use mathlib.Core.Bool.{Bool, true, false}
 use mathlib.Core.List.{List, ◌∷◌}
 use mathlib.Core.Path.{◌≡◌, refl, sym, ap}
 use native.Mathlib.Numerals.{sub-one}
 use native.Mathlib.Omega.{arith}
-use borrow.Author.Tests.{lt-ltb, le-leb, lt-leb, ne_eqb}
+use borrow.Author.Tests.{lt-ltb, le-leb, lt-leb}
 use lib.Dec.{ltb, leb}
 use lib.ListN.{length, get_or}
 use mir.Syntax.{w8, w64}
@@ -35,21 +35,6 @@ module _ (s : List ℕ) (given : (i : ℕ) → Fits w8 (get_or s i 0)) (at : ℕ
   word_fits m q l g h = record { fits = omega (arith, byte_small s at r n given f e, byte_small s m q l given g h) }
 
 pub ruleset word_steps = (steps, high_fits, word_fits)
-
--- Which counts there are.
-pub count_unlimited : (n : ℕ) → n ≡ 65535 → true ≡ is_count n
-unfolding is_count
-count_unlimited n e = rw e
-
-pub count_zero : (n : ℕ) → n ≡ 0 → false ≡ is_count n
-unfolding is_count
-count_zero n e = rw e
-
-pub count_finite : (n : ℕ) → (n ≡ 65535 → ⊥) → (n ≡ 0 → ⊥) → leb n 4095 ≡ is_count n
-unfolding is_count
-count_finite n h k = rw (ne_eqb n 65535 h, le-leb 1 n (omega arith), or-false (leb n 4095))
-
-pub ruleset count_steps = (steps, count_unlimited, count_zero, count_finite)
 
 -- An item.
 module _ (s : List ℕ) (lowest at : ℕ) (r : NumberRead) (e : number r ≡ below 64 s at) where

@@ -18,7 +18,7 @@ use Rattle.reading.specs.declared.NumberRead.TheVariants as number_read
 use Rattle.policy.proofs.ListSteps.{byte_small}
 use Rattle.policy.specs.Reading.{read_permissions}
 use Rattle.policy.specs.Rows.{flat_of}
-use Rattle.policy.specs.Loads.{permissions_read, PermissionsReadFit, PermissionsFit, read_opening, opening_read, OpeningReadFits, OpeningFits}
+use Rattle.policy.specs.Loads.{permissions_read, PermissionsReadFit, PermissionsFit, read_opening, OpeningFits}
 use Rattle.policy.specs.declared.PermissionsAt.{PermissionsAt}
 
 module _ (s : List ℕ) (at : ℕ) (a : NumberRead) (e : number a ≡ below 64 s at) where

@@ -1,5 +1,5 @@
 -- What the policy's reader answers and what it leaves in the table of nodes.
-use Rattle.std.specs.Prelude.{ℕ, zero, suc, ◌+◌, ◌-◌, ◌%◌, ◌<◌, ◌≤◌, min, ◌≡◌, List, [], ◌∷◌, ◌++◌, length, get_or, set, replicate, Result, Ok, Err}
+use Rattle.std.specs.Prelude.{ℕ, zero, suc, ◌+◌, ◌-◌, ◌%◌, ◌<◌, ◌≤◌, ◌≡◌, List, [], ◌∷◌, ◌++◌, length, get_or, set, replicate, Result, Ok, Err}
 use Rattle.reading.specs.Read.{Read, got, refused, and_then, byte_at, below}
 use Rattle.reading.specs.System.{to_its_end}
 use Rattle.reading.specs.Told.{number}
@@ -9,7 +9,6 @@ use Rattle.policy.specs.declared.PermissionsAt.{PermissionsAt}
 use Rattle.policy.specs.declared.Permissions.{Permissions as Stored}
 use Rattle.policy.specs.declared.Node.{Node as Row}
 use Rattle.policy.specs.declared.Opening.{Opening}
-use Rattle.reading.specs.declared.End.{End}
 use Rattle.reading.specs.declared.End.TheVariants as end_case
 use Rattle.policy.specs.declared.PolicyRead.{PolicyRead}
 use Rattle.policy.specs.declared.Trees.{Trees}

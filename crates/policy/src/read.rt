@@ -22,9 +22,7 @@ ghost use Rattle.policy.specs.Loads.{
 };
 
 use crate::nodes::{has_bit, store_node};
-use crate::{
-    Node, Opening, Permissions, PermissionsAt, PolicyRead, Trees,
-};
+use crate::{Node, Opening, Permissions, PermissionsAt, PolicyRead, Trees};
 use reading::bytes::{byte_at, byte_below, refusal};
 use reading::{End, Number, NumberRead, Refusal};
 
@@ -325,7 +323,7 @@ fn read_trees(c: &[u8], at: usize, count: usize, nodes: &mut [u16]) -> PolicyRea
     let mut trees = no_trees();
     let mut next = at;
     let mut used: usize = 0;
-    while trees.len < count {
+    for _ in 0..count {
         let first = byte_below(c, next, 16);
         let NumberRead::Found(kind) = first else {
             return not_policy(first);
