@@ -1,31 +1,38 @@
--- Bit p of a map is the lowest bit after it is halved p times.
-use Prim.Native.Nat.{ℕ, zero, suc, ◌-◌, ◌/◌, ◌%◌, ◌<◌, ◌≤◌}
+-- Bit p of a map is the lowest bit of the map shifted by p.
+use Prim.Native.Nat.{ℕ, zero, suc, ◌+◌, ◌/◌, ◌%◌, ◌<◌, ◌≤◌, ◌^◌}
 use mathlib.Core.Bool.{not}
-use mathlib.Core.Path.{◌≡◌, refl, sym, ◌∙◌}
-use native.Mathlib.Numerals.{sub-one}
+use mathlib.Core.Path.{◌≡◌}
 use native.Mathlib.Omega.{arith}
-use lib.Dec.{eqb}
+use lib.Dec.{eqb, ltb}
+use mir.Syntax.{w64}
+use mir.Val.{Fits}
+use borrow.Author.Tests.{le-ltb}
+use Rattle.std.proofs.Math.Facts.{Fits-lt-pow}
+use Rattle.std.proofs.Math.Pow.{pow_mono}
+use Rattle.std.proofs.lemmas.Nat.{shr-shr, shr_below}
 use Rattle.reading.proofs.Tests.{tests}
 use Rattle.policy.specs.Syntax.{bit_at}
 
--- `left` halvings of `rest` are still to come.
-pub record BitLeft (map place rest left : ℕ) : Type 0 where
-  pub same : bit_at place map ≡ bit_at left rest
-
-pub bit_start : (map place : ℕ) → BitLeft map place map place
-bit_start map place = record { same = refl }
-
-half : (rest left : ℕ) → 0 < left → bit_at left rest ≡ bit_at (left - 1) (rest / 2)
+shifted : (p map : ℕ) → not (eqb (map / 2 ^ p % 2) 0) ≡ bit_at p map
 unfolding bit_at
-half rest zero h = absurd (omega arith)
-half rest (suc left) h = rw (sub-one (suc left))
+shifted zero map = let e : map / 1 ≡ map = omega arith in rw e
+shifted (suc p) map =
+    let a : suc p ≡ 1 + p = omega arith in rw (a, ← shr-shr map 1 p) (shifted p (map / 2))
 
-module _ (map place rest left : ℕ) (s : BitLeft map place rest left) where
-  pub bit_next : 0 < left → BitLeft map place (rest / 2) (left - 1)
-  bit_next h = record { same = s.same ∙ half rest left h }
+none_left : (map p : ℕ) → map < 2 ^ p → map / 2 ^ p ≡ 0
+none_left map p h =
+    let a : 0 + p ≡ p = omega arith in
+    let e : map / 2 ^ p < 2 ^ 0 = shr_below map 0 p (rw a h) in omega arith
 
-  pub bit_end : left ≤ 0 → not (eqb (rest % 2) 0) ≡ bit_at place map
-  unfolding bit_at
-  bit_end h = let z : left ≡ 0 = omega arith in sym (rw z at s.same)
+module _ (place map : ℕ) where
+  pub bit_low : place < 64 → not (eqb (map / 2 ^ place % 2) 0) ≡ bit_at place map
+  bit_low h = shifted place map
 
-pub ruleset bit_steps = (tests, bit_start, bit_next, bit_end)
+  pub bit_high : 64 ≤ place → Fits w64 map → ltb place 64 ≡ bit_at place map
+  bit_high h k =
+      let l : 2 ^ 64 ≤ 2 ^ place = pow_mono {i = 64} {j = place} h in
+      let m : map < 2 ^ place = omega (arith, Fits-lt-pow k) in
+      let e : map / 2 ^ place ≡ 0 = none_left map place m in
+      rw (le-ltb place 64 h) (rw e at (shifted place map))
+
+pub ruleset bit_steps = (tests, bit_low, bit_high)

@@ -1,6 +1,6 @@
 -- Worked cases of questions 13 and 14 put to the nodes one after another (document 02, Q-2), on the definitions alone.
 use Prim.Native.Nat.{ℕ}
-use mathlib.Core.List.{List, [], ◌∷◌, ◌++◌, map}
+use mathlib.Core.List.{List, [], ◌∷◌, map}
 use mathlib.Core.Path.{◌≡◌, refl}
 use Rattle.reading.specs.Forms.{member}
 use Rattle.inference.specs.Lists.{every, gather}

@@ -1,11 +1,11 @@
 -- How a disclose list is read, step by step: a refusal is handed on, and what was found goes on.
 use Prim.Native.Nat.{ℕ, zero, suc, ◌+◌, ◌-◌, ◌*◌, ◌<◌, ◌≤◌}
-use mathlib.Core.Bool.{Bool, true, false, or-false}
+use mathlib.Core.Bool.{Bool, true, false}
 use mathlib.Core.List.{List, ◌∷◌}
 use mathlib.Core.Path.{◌≡◌, refl, sym, ap}
 use native.Mathlib.Numerals.{sub-one}
 use native.Mathlib.Omega.{arith}
-use borrow.Author.Tests.{lt-ltb, le-leb, lt-leb, ne_eqb}
+use borrow.Author.Tests.{lt-ltb, le-leb, lt-leb}
 use lib.Dec.{ltb, leb}
 use lib.ListN.{length, get_or}
 use mir.Syntax.{w8, w64}
@@ -35,21 +35,6 @@ module _ (s : List ℕ) (given : (i : ℕ) → Fits w8 (get_or s i 0)) (at : ℕ
   word_fits m q l g h = record { fits = omega (arith, byte_small s at r n given f e, byte_small s m q l given g h) }
 
 pub ruleset word_steps = (steps, high_fits, word_fits)
-
--- Which counts there are.
-pub count_unlimited : (n : ℕ) → n ≡ 65535 → true ≡ is_count n
-unfolding is_count
-count_unlimited n e = rw e
-
-pub count_zero : (n : ℕ) → n ≡ 0 → false ≡ is_count n
-unfolding is_count
-count_zero n e = rw e
-
-pub count_finite : (n : ℕ) → (n ≡ 65535 → ⊥) → (n ≡ 0 → ⊥) → leb n 4095 ≡ is_count n
-unfolding is_count
-count_finite n h k = rw (ne_eqb n 65535 h, le-leb 1 n (omega arith), or-false (leb n 4095))
-
-pub ruleset count_steps = (steps, count_unlimited, count_zero, count_finite)
 
 -- An item.
 module _ (s : List ℕ) (lowest at : ℕ) (r : NumberRead) (e : number r ≡ below 64 s at) where
@@ -132,29 +117,34 @@ counted_alike n s lowest at = go (read_list n s lowest at) (λ ds k e. (list_is 
     go (got ds k) h = rw (h ds k refl)
     go (refused q p) h = refl
 
--- The loop over a list: `left` items are still to be read, from `next` on.
-pub record ItemsAhead (s : List ℕ) (at count next lowest left : ℕ) : Type 0 where
-  pub same : count_only (read_list count s 0 at) ≡ counting count (read_list left s lowest next)
+-- The loop over a list: `done` items are read, and the others are still to be read, from `next` on.
+pub record ItemsAhead (s : List ℕ) (at count next lowest done : ℕ) : Type 0 where
+  pub same : count_only (read_list count s 0 at) ≡ counting count (read_list (count - done) s lowest next)
 
-pub all_ahead : (s : List ℕ) (at count : ℕ) → ItemsAhead s at count at 0 count
-all_ahead s at count = record { same = counted_alike count s 0 at }
+pub all_ahead : (s : List ℕ) (at count : ℕ) → ItemsAhead s at count at 0 0
+all_ahead s at count = let z : count - 0 ≡ count = omega arith in record { same = rw z (counted_alike count s 0 at) }
 
-module _ (s : List ℕ) (at count next lowest left : ℕ) (t : ItemsAhead s at count next lowest left) where
-  pub none_ahead : left ≤ 0 → got count next ≡ count_only (read_list count s 0 at)
+module _ (s : List ℕ) (at count next lowest done : ℕ) (t : ItemsAhead s at count next lowest done) where
+  pub none_ahead : count ≤ done → got count next ≡ count_only (read_list count s 0 at)
   unfolding read_list counting and_then
-  none_ahead h = let z : left ≡ 0 = omega arith in rw (t.same, z)
+  none_ahead h = let z : count - done ≡ 0 = omega arith in rw (t.same, z)
 
-  pub item_refused : (r : NumberRead) (q : Refusal) → 0 < left → r ≡ number_read.Refused q → number r ≡ group_only (item_at s lowest next)
+  pub item_refused : (r : NumberRead) (q : Refusal) → done < count → r ≡ number_read.Refused q → number r ≡ group_only (item_at s lowest next)
       → number r ≡ count_only (read_list count s 0 at)
   unfolding counting and_then
-  item_refused r q h f e = rw (t.same, list_step left s lowest next h, group_not (item_at s lowest next) {q = q.question} {p = q.at} (rw f at e), f)
+  item_refused r q h f e =
+      rw (t.same, list_step (count - done) s lowest next (omega arith), group_not (item_at s lowest next) {q = q.question} {p = q.at} (rw f at e), f)
 
-  pub item_read : (r : NumberRead) (n : Number) → 0 < left → r ≡ number_read.Found n → number r ≡ group_only (item_at s lowest next)
-      → ItemsAhead s at count n.next (n.value + 1) (left - 1)
+  pub item_read : (r : NumberRead) (n : Number) → done < count → r ≡ number_read.Found n → number r ≡ group_only (item_at s lowest next)
+      → ItemsAhead s at count n.next (n.value + 1) (done + 1)
   unfolding and_then
   item_read r n h f e =
       let g = group_got (item_at s lowest next) {v = n.value} {k = n.next} (rw f at e) in
-      record { same = rw (t.same, list_step left s lowest next h, g.is, g.group) (counting_more count g.item (read_list (left - 1) s (n.value + 1) n.next)) }
+      let z : count - (done + 1) ≡ count - done - 1 = omega arith in
+      record {
+        same = rw (z, t.same, list_step (count - done) s lowest next (omega arith), g.is, g.group)
+            (counting_more count g.item (read_list (count - done - 1) s (n.value + 1) n.next));
+      }
 
 pub next_lowest : (s : List ℕ) (lowest at : ℕ) (r : NumberRead) (n : Number) → r ≡ number_read.Found n → number r ≡ group_only (item_at s lowest at) → Fits w64 (n.value + 1)
 next_lowest s lowest at r n f e =

@@ -10,6 +10,7 @@ use borrow.Author.Rules.{rules}
 use borrow.Author.Tests.{lt-ltb, le-ltb}
 use lib.Dec.{ltb}
 use lib.ListN.{length, length-append}
+use Rattle.std.specs.Prelude.{Result, Ok, Err}
 use Rattle.reading.proofs.Parts.{never}
 use Rattle.reading.specs.Read.{Read, got, refused, and_then, byte_at, below}
 use Rattle.reading.specs.Told.{number}
@@ -21,10 +22,8 @@ use Rattle.policy.proofs.StoreLaws.{stored_rows}
 use Rattle.policy.specs.Syntax.{Permissions, Node, Nodes, none, more, alone, heads, heads_of}
 use Rattle.policy.specs.Reading.{must, children, read_permissions, read_node_in, read_node}
 use Rattle.policy.specs.Rows.{with_node, flat_of, flats, flatten}
-use Rattle.policy.specs.Loads.{Opened, read_opening, opening_read, OpeningReadFits, OpeningFits, why_not, node_read, children_read, rows_only, Loaded}
+use Rattle.policy.specs.Loads.{Opened, read_opening, opening_read, OpeningReadFits, OpeningFits, node_read, children_read, rows_only, Loaded}
 use Rattle.policy.specs.declared.Opening.{Opening}
-use Rattle.policy.specs.declared.OpeningRead.{OpeningRead}
-use Rattle.policy.specs.declared.OpeningRead.TheVariants as opening_read_variants
 
 -- The first of some nodes, and the rest.
 pub more_heads : (g : ℕ) (p : Permissions) (below rest : Nodes) → length (heads_of (more g p below rest)) ≡ length (heads_of (more g p below none)) + length (heads_of rest)
@@ -144,34 +143,36 @@ module _ (level : ℕ) (c : List ℕ) (count used at d : ℕ) where
         (first_rows level c used at d nodes nodes₁ r l x.root n.value n.next x.is x.count)
         (children_read level c (count - 1) n.value n.next) m)
 
--- Where the loop over children stands: once those that are left are loaded, all are.
-pub record Loading (level : ℕ) (c : List ℕ) (count used at d : ℕ) (nodes₀ : List ℕ) (left rows next : ℕ) (nodes : List ℕ) : Type 0 where
-  pub whole : (nodes₂ : List ℕ) (r : NumberRead) → Loaded c (children_read level c left rows next) d rows nodes nodes₂ r
+-- Where the loop over children stands, of which `done` are loaded: once the others are loaded too, all are.
+pub record Loading (level : ℕ) (c : List ℕ) (count used at d : ℕ) (nodes₀ : List ℕ) (done rows next : ℕ) (nodes : List ℕ) : Type 0 where
+  pub whole : (nodes₂ : List ℕ) (r : NumberRead) → Loaded c (children_read level c (count - done) rows next) d rows nodes nodes₂ r
       → Loaded c (children_read level c count used at) d used nodes₀ nodes₂ r
   pub same : length nodes ≡ 384
 
 pub all_left : (level : ℕ) (c : List ℕ) (count used at d : ℕ) (nodes : List ℕ) → length nodes ≡ 384
-    → Loading level c count used at d nodes count used at nodes
-all_left level c count used at d nodes l = record { whole = λ nodes₂ r h. h; same = l }
+    → Loading level c count used at d nodes 0 used at nodes
+all_left level c count used at d nodes l = let z : count - 0 ≡ count = omega arith in record { whole = λ nodes₂ r h. rw z at h; same = l }
 
-module _ (level : ℕ) (c : List ℕ) (count used at d : ℕ) (nodes₀ : List ℕ) (left rows next : ℕ) (nodes : List ℕ)
-    (s : Loading level c count used at d nodes₀ left rows next nodes) where
-  pub none_left : left ≤ 0 → Loaded c (children_read level c count used at) d used nodes₀ nodes (number_read.Found (record { value = rows; next = next }))
-  none_left h = s.whole nodes _ (no_child level c left rows next d nodes (omega arith))
+module _ (level : ℕ) (c : List ℕ) (count used at d : ℕ) (nodes₀ : List ℕ) (done rows next : ℕ) (nodes : List ℕ)
+    (s : Loading level c count used at d nodes₀ done rows next nodes) where
+  pub none_left : count ≤ done → Loaded c (children_read level c count used at) d used nodes₀ nodes (number_read.Found (record { value = rows; next = next }))
+  none_left h = s.whole nodes _ (no_child level c (count - done) rows next d nodes (omega arith))
 
-  module _ (h : 0 < left) (nodes₁ : List ℕ) (r : NumberRead) (l : Loaded c (node_read (read_node level c rows next)) d rows nodes nodes₁ r) where
-    some_left : left ≡ 0 → ⊥
+  module _ (h : done < count) (nodes₁ : List ℕ) (r : NumberRead) (l : Loaded c (node_read (read_node level c rows next)) d rows nodes nodes₁ r) where
+    some_left : count - done ≡ 0 → ⊥
     some_left e = omega arith
 
     pub one_refused : (q : Refusal) → r ≡ number_read.Refused q → Loaded c (children_read level c count used at) d used nodes₀ nodes₁ r
-    one_refused q f = s.whole nodes₁ r (child_refused level c left rows next d some_left nodes nodes₁ r l q f)
+    one_refused q f = s.whole nodes₁ r (child_refused level c (count - done) rows next d some_left nodes nodes₁ r l q f)
 
     pub one_loaded : (n : Number) → r ≡ number_read.Found n → length nodes₁ ≡ length nodes
-        → Loading level c count used at d nodes₀ (left - 1) n.value n.next nodes₁
-    one_loaded n f k = record {
-      whole = λ nodes₂ r₂ m. s.whole nodes₂ r₂ (then_rest level c left rows next d some_left nodes nodes₁ r l n nodes₂ r₂ f m);
-      same = k ∙ s.same;
-    }
+        → Loading level c count used at d nodes₀ (done + 1) n.value n.next nodes₁
+    one_loaded n f k =
+        let z : count - (done + 1) ≡ count - done - 1 = omega arith in
+        record {
+          whole = λ nodes₂ r₂ m. s.whole nodes₂ r₂ (then_rest level c (count - done) rows next d some_left nodes nodes₁ r l n nodes₂ r₂ f (rw z at m));
+          same = k ∙ s.same;
+        }
 
 pub ruleset child_steps = (rules, all_left, none_left, one_refused, one_loaded)
 
@@ -265,15 +266,15 @@ module _ (level : ℕ) (c : List ℕ) (used at : ℕ) (nodes : List ℕ) where
     unfolding must node_read
     too_many d w l e = not_loaded d used w 11 at (rw (node_step level c used at h, le-ltb used 64 l)) (rw e)
 
-    module _ (low : used < 64) (b : OpeningRead) (e : opening_read c b ≡ read_opening c at) where
-      pub opening_refused : (d : ℕ) (q w : Refusal) → b ≡ opening_read_variants.Refused q → w ≡ why_not b
+    module _ (low : used < 64) (b : Result Opening Refusal) (e : opening_read c b ≡ read_opening c at) where
+      pub opening_refused : (d : ℕ) (w : Refusal) → b ≡ Err w
           → Loaded c (node_read (read_node level c used at)) d used nodes nodes (number_read.Refused w)
       unfolding must node_read and_then
-      opening_refused d q w f k =
+      opening_refused d w f =
           let z = sym (rw f at e) in
-          not_loaded d used (number_read.Refused w) q.question q.at (rw (node_step level c used at h, lt-ltb used 64 low, z)) (rw (k, f))
+          not_loaded d used (number_read.Refused w) w.question w.at (rw (node_step level c used at h, lt-ltb used 64 low, z)) refl
 
-      pub node_loaded : (o : Opening) (nodes₁ nodes₂ : List ℕ) (r : NumberRead) → level ≤ 8 → length nodes ≡ 384 → b ≡ opening_read_variants.Found o → OpeningReadFits (8 - level) b
+      pub node_loaded : (o : Opening) (nodes₁ nodes₂ : List ℕ) (r : NumberRead) → level ≤ 8 → length nodes ≡ 384 → b ≡ Ok o → OpeningReadFits (8 - level) b
           → nodes₁ ≡ with_node nodes used o.node
           → Loaded c (children_read (level - 1) c o.children (used + 1) o.next) (8 - (level - 1)) (used + 1) nodes₁ nodes₂ r
           → Loaded c (node_read (read_node level c used at)) (8 - level) used nodes nodes₂ r
@@ -286,7 +287,7 @@ module _ (level : ℕ) (c : List ℕ) (used at : ℕ) (nodes : List ℕ) where
           (nested c (8 - level) used nodes nodes₁ nodes₂ r o long low y s (children_read (level - 1) c o.children (used + 1) o.next) (rw x at l))
 
 -- What the calls ask.
-pub opening_small : (d : ℕ) (b : OpeningRead) (o : Opening) → b ≡ opening_read_variants.Found o → OpeningReadFits d b → o.children < 256
+pub opening_small : (d : ℕ) (b : Result Opening Refusal) (o : Opening) → b ≡ Ok o → OpeningReadFits d b → o.children < 256
 opening_small d b o f fits = let y : OpeningFits d o = rw f at fits in y.few
 
 pub descends : (level n t : ℕ) → (level ≡ 0 → ⊥) → n < 256 → level * 300 ≡ t → (level - 1) * 300 + n + 1 < t

@@ -6,6 +6,7 @@ use native.Mathlib.Omega.{arith}
 use lib.ListN.{get_or}
 use mir.Syntax.{w8}
 use mir.Val.{Fits}
+use Rattle.std.specs.Prelude.{Result, Ok, Err}
 use Rattle.reading.proofs.Parts.{below_found}
 use Rattle.reading.proofs.Steps.{steps}
 use Rattle.reading.specs.Read.{got, refused, and_then, byte_at, below}
@@ -17,28 +18,21 @@ use Rattle.reading.specs.declared.NumberRead.TheVariants as number_read
 use Rattle.policy.proofs.ListSteps.{byte_small}
 use Rattle.policy.specs.Reading.{read_permissions}
 use Rattle.policy.specs.Rows.{flat_of}
-use Rattle.policy.specs.Loads.{permissions_read, PermissionsReadFit, PermissionsFit, why_of, read_opening, opening_read, OpeningReadFits, OpeningFits}
+use Rattle.policy.specs.Loads.{permissions_read, PermissionsReadFit, PermissionsFit, read_opening, OpeningFits}
 use Rattle.policy.specs.declared.PermissionsAt.{PermissionsAt}
-use Rattle.policy.specs.declared.PermissionsRead.{PermissionsRead}
-use Rattle.policy.specs.declared.PermissionsRead.TheVariants as permissions_read_variants
-use Rattle.policy.specs.declared.OpeningRead.{OpeningRead}
-use Rattle.policy.specs.declared.OpeningRead.TheVariants as opening_read_variants
-
-pub no_opening_fits : (depth : ℕ) (w : OpeningRead) (q : Refusal) → w ≡ opening_read_variants.Refused q → OpeningReadFits depth w
-no_opening_fits depth w q e = rw e tt
 
 module _ (s : List ℕ) (at : ℕ) (a : NumberRead) (e : number a ≡ below 64 s at) where
-  pub group_refused : (q : Refusal) (w : OpeningRead) → a ≡ number_read.Refused q → w ≡ opening_read_variants.Refused (refusal_of a) → opening_read s w ≡ read_opening s at
+  pub group_refused : (q w : Refusal) → a ≡ number_read.Refused q → w ≡ refusal_of a → refused w.question w.at ≡ read_opening s at
   unfolding read_opening and_then
   group_refused q w f k = let z = sym (rw f at e) in rw (z, k, f)
 
-  module _ (g : Number) (f : a ≡ number_read.Found g) (b : PermissionsRead) (h : permissions_read s b ≡ read_permissions s g.next) where
-    pub permissions_refused : (q w : Refusal) → b ≡ permissions_read_variants.Refused q → w ≡ why_of b → refused w.question w.at ≡ read_opening s at
+  module _ (g : Number) (f : a ≡ number_read.Found g) (b : Result PermissionsAt Refusal) (h : permissions_read s b ≡ read_permissions s g.next) where
+    pub permissions_refused : (w : Refusal) → b ≡ Err w → refused w.question w.at ≡ read_opening s at
     unfolding read_opening and_then
-    permissions_refused q w k l = let z = sym (rw f at e) in let y = sym (rw k at h) in rw (z, y, l, k)
+    permissions_refused w k = let z = sym (rw f at e) in let y = sym (rw k at h) in rw (z, y)
 
-    module _ (p : PermissionsAt) (k : b ≡ permissions_read_variants.Found p) (c : NumberRead) (i : number c ≡ byte_at s p.next) where
-      pub children_refused : (q : Refusal) (w : OpeningRead) → c ≡ number_read.Refused q → w ≡ opening_read_variants.Refused (refusal_of c) → opening_read s w ≡ read_opening s at
+    module _ (p : PermissionsAt) (k : b ≡ Ok p) (c : NumberRead) (i : number c ≡ byte_at s p.next) where
+      pub children_refused : (q w : Refusal) → c ≡ number_read.Refused q → w ≡ refusal_of c → refused w.question w.at ≡ read_opening s at
       unfolding read_opening and_then
       children_refused q w l m = let z = sym (rw f at e) in let y = sym (rw k at h) in let x = sym (rw l at i) in rw (z, y, x, m, l)
 
@@ -62,4 +56,4 @@ module _ (s : List ℕ) (at : ℕ) (a : NumberRead) (e : number a ≡ below 64 s
               few = omega (arith, byte_small s p.next c n t l i);
             }
 
-pub ruleset opening_steps = (steps, no_opening_fits, group_refused, permissions_refused, children_refused, opening_is, opening_fits)
+pub ruleset opening_steps = (steps, group_refused, permissions_refused, children_refused, opening_is, opening_fits)

@@ -20,10 +20,8 @@ use Rattle.policy.proofs.ListLaws.{ByteIs, below_is, word_is, list_is, held}
 use Rattle.policy.specs.Syntax.{Granted, has_bit}
 use Rattle.policy.specs.Reading.{must, two_bytes, read_list, counted_list, read_purposes, maps_in, read_permissions_in, read_permissions}
 use Rattle.policy.specs.Rows.{word_in, items_at, permissions_of}
-use Rattle.policy.specs.Loads.{count_only, permissions_read, PermissionsReadFit, PermissionsFit}
+use Rattle.policy.specs.Loads.{count_only, PermissionsFit}
 use Rattle.policy.specs.declared.Permissions.{Permissions as Stored}
-use Rattle.policy.specs.declared.PermissionsRead.{PermissionsRead}
-use Rattle.policy.specs.declared.PermissionsRead.TheVariants as permissions_read_variants
 
 -- The list that a map announces, and its purposes.
 abbrev list_for : ℕ → List ℕ → ℕ → Read (List Granted)
@@ -98,12 +96,9 @@ purposes_low map s at {v} {k} g e = by_bit (has_bit 32 map) e
     by_bit true h = two h
     by_bit false h = let z : 65535 ≡ v = cc in omega arith
 
-pub no_permissions_fit : (w : PermissionsRead) (q : Refusal) → w ≡ permissions_read_variants.Refused q → PermissionsReadFit w
-no_permissions_fit w q e = rw e tt
-
 -- Permissions: the map, the list and the purposes.
 module _ (s : List ℕ) (at : ℕ) (r : NumberRead) (e : number r ≡ below 64 s at) where
-  pub map_refused : (q : Refusal) (w : PermissionsRead) → r ≡ number_read.Refused q → w ≡ permissions_read_variants.Refused (refusal_of r) → permissions_read s w ≡ read_permissions s at
+  pub map_refused : (q w : Refusal) → r ≡ number_read.Refused q → w ≡ refusal_of r → refused w.question w.at ≡ read_permissions s at
   unfolding maps_in read_permissions_in and_then
   map_refused q w f k = let z = sym (rw f at e) in rw (z, k, f)
 
@@ -123,7 +118,7 @@ module _ (s : List ℕ) (at : ℕ) (r : NumberRead) (e : number r ≡ below 64 s
     list_place_lem q = record { fits = omega (arith, map_place.next, map_place.inside) }
 
     module _ (c : NumberRead) (i : number c ≡ count_only (cond (has_bit 16 m.value) (counted_list s m.next) (got [] m.next))) where
-      pub list_refused : (q : Refusal) (w : PermissionsRead) → c ≡ number_read.Refused q → w ≡ permissions_read_variants.Refused (refusal_of c) → permissions_read s w ≡ read_permissions s at
+      pub list_refused : (q w : Refusal) → c ≡ number_read.Refused q → w ≡ refusal_of c → refused w.question w.at ≡ read_permissions s at
       unfolding and_then
       list_refused q w j k = rw (map_read, list_not (list_for m.value s m.next) {q = q.question} {p = q.at} (rw j at i), k, j)
 
@@ -137,8 +132,7 @@ module _ (s : List ℕ) (at : ℕ) (r : NumberRead) (e : number r ≡ below 64 s
         list_read = rw (map_read, list_of.is)
 
         module _ (p : NumberRead) (l : number p ≡ read_purposes m.value s n.next) where
-          pub purposes_refused : (q : Refusal) (w : PermissionsRead) → p ≡ number_read.Refused q → w ≡ permissions_read_variants.Refused (refusal_of p)
-              → permissions_read s w ≡ read_permissions s at
+          pub purposes_refused : (q w : Refusal) → p ≡ number_read.Refused q → w ≡ refusal_of p → refused w.question w.at ≡ read_permissions s at
           unfolding and_then
           purposes_refused q w o k = let z = sym (rw o at l) in rw (list_read, z, k, o)
 
@@ -155,4 +149,4 @@ module _ (s : List ℕ) (at : ℕ) (r : NumberRead) (e : number r ≡ below 64 s
               small_purposes = omega (arith, purposes_low m.value s n.next {v = v.value} {k = v.next} t (rw o at (sym l)));
             }
 
-pub ruleset permission_steps = (steps, no_permissions_fit, map_refused, list_place_lem, list_refused, purposes_refused, permissions_are, permissions_fit)
+pub ruleset permission_steps = (steps, map_refused, list_place_lem, list_refused, purposes_refused, permissions_are, permissions_fit)

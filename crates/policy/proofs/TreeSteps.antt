@@ -14,7 +14,6 @@ use Rattle.reading.proofs.Parts.{below_found}
 use Rattle.reading.specs.Read.{Read, got, refused, and_then, below}
 use Rattle.reading.specs.System.{to_its_end}
 use Rattle.reading.specs.Told.{number, refusal_of}
-use Rattle.reading.specs.declared.End.{End}
 use Rattle.reading.specs.declared.End.TheVariants as end_case
 use Rattle.reading.specs.declared.Number.{Number}
 use Rattle.reading.specs.declared.Refusal.{Refusal}
@@ -52,9 +51,10 @@ unfolding after and_then
 after_none (got rest k) = refl
 after_none (refused q p) = refl
 
--- The trees that were read so far are in the table, and the rest is still to be read.
-pub record TreesRead (c : List ℕ) (at count : ℕ) (nodes : List ℕ) (trees : Trees) (next used : ℕ) : Type 0 where
+-- The `done` trees that were read so far are in the table, and the rest is still to be read.
+pub record TreesRead (c : List ℕ) (at count : ℕ) (nodes : List ℕ) (trees : Trees) (next used done : ℕ) : Type 0 where
   pub policy : List Tree
+  pub all_done : trees.len ≡ done
   pub whole : read_trees count c 0 at ≡ after policy (read_trees (count - trees.len) c used next)
   pub many : trees.len ≡ length policy
   pub few : trees.len ≤ count
@@ -71,12 +71,13 @@ all_zero_lem zero t = omega arith
 all_zero_lem (suc n) zero = omega arith
 all_zero_lem (suc n) (suc t) = all_zero_lem n t
 
-pub none_read : (c : List ℕ) (at count : ℕ) (nodes : List ℕ) (trees : Trees) → trees ≡ no_trees → TreesRead c at count nodes trees at 0
+pub none_read : (c : List ℕ) (at count : ℕ) (nodes : List ℕ) (trees : Trees) → trees ≡ no_trees → TreesRead c at count nodes trees at 0 0
 unfolding no_trees flats rising kinds_of ends_of rows_of all_rows
 none_read c at count nodes trees e =
     let z : count - 0 ≡ count = omega arith in
     rw e (record {
       policy = [];
+      all_done = refl;
       whole = rw z (after_none (read_trees count c 0 at));
       many = refl;
       few = omega arith;
@@ -115,12 +116,12 @@ module _ (c : List ℕ) (at count : ℕ) where
   unfolding trees_to_end as_eleven and_then to_its_end
   read_short policy next e h = rw (e, ne_eqb next (length c) h)
 
-module _ (c : List ℕ) (at count : ℕ) (nodes : List ℕ) (trees : Trees) (next used : ℕ) (s : TreesRead c at count nodes trees next used) where
+module _ (c : List ℕ) (at count : ℕ) (nodes : List ℕ) (trees : Trees) (next used done : ℕ) (s : TreesRead c at count nodes trees next used done) where
   -- All trees are read.
-  module _ (h : count ≤ trees.len) where
+  module _ (h : count ≤ done) where
     policy_is : read_trees count c 0 at ≡ got s.policy next
     unfolding read_trees_in after and_then
-    policy_is = let z : count - trees.len ≡ 0 = omega arith in s.whole ∙ rw (z, append-nil s.policy)
+    policy_is = let z : count - trees.len ≡ 0 = omega (arith, s.all_done) in s.whole ∙ rw (z, append-nil s.policy)
 
     pub all_read : count ≤ 16 → next ≡ length c → LoadedPolicy c (trees_to_end count c at) nodes (record { end = end_case.At next; trees = trees })
     unfolding start_of
@@ -134,7 +135,7 @@ module _ (c : List ℕ) (at count : ℕ) (nodes : List ℕ) (trees : Trees) (nex
     left_over_lem w e f = unread {why = record { question = 11; at = next }} (read_short c at count s.policy next policy_is e) f
 
   -- One tree more is read.
-  module _ (h : trees.len < count) (small : count ≤ 16) (t : Tree) (m v j : ℕ) (z : below 16 c next ≡ got t.kind m) (y : read_node 8 c used m ≡ got t.root j)
+  module _ (h : done < count) (small : count ≤ 16) (t : Tree) (m v j : ℕ) (z : below 16 c next ≡ got t.kind m) (y : read_node 8 c used m ≡ got t.root j)
       (u : v ≡ used + length (heads_of (alone t.root))) where
     as_sized : v ≡ used + size t
     unfolding size
@@ -144,18 +145,18 @@ module _ (c : List ℕ) (at count : ℕ) (nodes : List ℕ) (trees : Trees) (nex
     unfolding and_then heads
     rest_is =
         let n : count - trees.len - 1 ≡ count - (trees.len + 1) = omega arith in
-        rw (trees_step (count - trees.len) c used next (omega arith), z, y, n, ← u) (after_one s.policy t (read_trees (count - (trees.len + 1)) c v j))
+        rw (trees_step (count - trees.len) c used next (omega (arith, s.all_done)), z, y, n, ← u) (after_one s.policy t (read_trees (count - (trees.len + 1)) c v j))
 
     kinds_with : take (trees.len + 1) (set trees.kinds trees.len t.kind) ≡ kinds_of (s.policy ++ (t ∷ []))
     kinds_with =
         rw (add-one trees.len, kinds_of_end t s.policy, ← s.kinds_are)
-        (take-suc-set trees.kinds trees.len t.kind (omega (arith, s.long_kinds)))
+        (take-suc-set trees.kinds trees.len t.kind (omega (arith, s.long_kinds, s.all_done)))
 
     ends_with : take (trees.len + 1) (set trees.ends trees.len v) ≡ ends_of 0 (s.policy ++ (t ∷ []))
     ends_with =
         let x : 0 + rows_of s.policy + size t ≡ v = omega (arith, s.used_is, as_sized) in
         rw (add-one trees.len, ends_of_end t 0 s.policy, ← s.ends_are, x)
-        (take-suc-set trees.ends trees.len v (omega (arith, s.long_ends)))
+        (take-suc-set trees.ends trees.len v (omega (arith, s.long_ends, s.all_done)))
 
     -- The kind and the end are bytes.
     kind_is_byte : t.kind % 256 ≡ t.kind
@@ -167,13 +168,14 @@ module _ (c : List ℕ) (at count : ℕ) (nodes : List ℕ) (trees : Trees) (nex
     end_is_byte : v % 256 ≡ v
     end_is_byte = mod-eq_of_lt (omega (arith, end_low))
 
-    with_one : (nodes₁ : List ℕ) → flats c nodes₁ 0 v ≡ flats c nodes 0 used ++ flatten 0 (alone t.root) → TreesRead c at count nodes₁ (with_tree trees t.kind v) j v
+    with_one : (nodes₁ : List ℕ) → flats c nodes₁ 0 v ≡ flats c nodes 0 used ++ flatten 0 (alone t.root) → TreesRead c at count nodes₁ (with_tree trees t.kind v) j v (done + 1)
     unfolding with_tree
     with_one nodes₁ r = rw (kind_is_byte, end_is_byte) (record {
       policy = s.policy ++ (t ∷ []);
+      all_done = omega (arith, s.all_done);
       whole = s.whole ∙ rest_is;
       many = omega (arith, s.many, length-append s.policy (t ∷ []));
-      few = omega arith;
+      few = omega (arith, s.all_done);
       long_kinds = length-set trees.kinds trees.len t.kind ∙ s.long_kinds;
       long_ends = length-set trees.ends trees.len v ∙ s.long_ends;
       kinds_are = kinds_with;
@@ -184,13 +186,13 @@ module _ (c : List ℕ) (at count : ℕ) (nodes : List ℕ) (trees : Trees) (nex
     })
 
   -- One tree more is to be read.
-  module _ (h : trees.len < count) (r : NumberRead) (e : number r ≡ below 16 c next) where
+  module _ (h : done < count) (r : NumberRead) (e : number r ≡ below 16 c next) where
     pub kind_refused : (q : Refusal) (w : PolicyRead) → r ≡ number_read.Refused q
         → w.end ≡ end_case.Refused (record { question = 11; at = (refusal_of r).at }) → LoadedPolicy c (trees_to_end count c at) nodes w
     unfolding after and_then
     kind_refused q w f g =
         let z = sym (rw f at e) in
-        not_read c at count nodes w q.question q.at (s.whole ∙ rw (trees_step (count - trees.len) c used next (omega arith), z)) (rw (same_place r q f) at g)
+        not_read c at count nodes w q.question q.at (s.whole ∙ rw (trees_step (count - trees.len) c used next (omega (arith, s.all_done)), z)) (rw (same_place r q f) at g)
 
     module _ (k : Number) (f : r ≡ number_read.Found k) (nodes₁ : List ℕ) (b : NumberRead)
         (l : Loaded c (node_read (read_node 8 c used k.next)) 0 used nodes nodes₁ b) where
@@ -200,21 +202,21 @@ module _ (c : List ℕ) (at count : ℕ) (nodes : List ℕ) (trees : Trees) (nex
       tree_refused q w g i =
           let z = sym (rw f at e) in
           let y = root_not used (read_node 8 c used k.next) {q = q.question} {p = q.at} (rw g at l.answer) in
-          not_read c at count nodes₁ w q.question q.at (s.whole ∙ rw (trees_step (count - trees.len) c used next (omega arith), z, y)) (rw (same_place b q g) at i)
+          not_read c at count nodes₁ w q.question q.at (s.whole ∙ rw (trees_step (count - trees.len) c used next (omega (arith, s.all_done)), z, y)) (rw (same_place b q g) at i)
 
       pub tree_read : (n : Number) (w : Trees) → b ≡ number_read.Found n → w ≡ with_tree trees k.value n.value → count ≤ 16
-          → TreesRead c at count nodes₁ w n.next n.value
+          → TreesRead c at count nodes₁ w n.next n.value (done + 1)
       tree_read n w g i few =
           let x = root_got used (read_node 8 c used k.next) {v = n.value} {k = n.next} (rw g at l.answer) in
           let z : below 16 c next ≡ got k.value k.next = sym (rw f at e) in
           rw i (with_one h few (record { kind = k.value; root = x.root }) k.next n.value n.next z x.is x.count nodes₁
           (first_rows 8 c used k.next 0 nodes nodes₁ b l x.root n.value n.next x.is x.count))
 
-pub fewer_left : (trees w : Trees) (kind v count : ℕ) → w ≡ with_tree trees kind v → trees.len < count → count - w.len < count - trees.len
-unfolding with_tree
-fewer_left trees w kind v count e h = rw e (omega arith)
+pub room_for_one : (c : List ℕ) (at count : ℕ) (nodes : List ℕ) (trees : Trees) (next used done : ℕ) → TreesRead c at count nodes trees next used done
+    → done < count → count ≤ 16 → trees.len < 16
+room_for_one c at count nodes trees next used done s h few = omega (arith, s.all_done)
 
-pub ruleset tree_steps = (rules, fewer_left, none_read, all_read, left_over_lem, kind_refused, tree_refused, tree_read)
+pub ruleset tree_steps = (rules, room_for_one, none_read, all_read, left_over_lem, kind_refused, tree_refused, tree_read)
 
 -- The count of trees, and then the trees.
 module _ (c : List ℕ) (r : NumberRead) (e : number r ≡ below 17 c 0) where

@@ -1,18 +1,14 @@
 -- What the policy's reader answers and what it leaves in the table of nodes.
-use Rattle.std.specs.Prelude.{ℕ, zero, suc, ◌+◌, ◌-◌, ◌%◌, ◌<◌, ◌≤◌, min, ◌≡◌, List, [], ◌∷◌, ◌++◌, length, get_or, set, replicate}
+use Rattle.std.specs.Prelude.{ℕ, zero, suc, ◌+◌, ◌-◌, ◌%◌, ◌<◌, ◌≤◌, ◌≡◌, List, [], ◌∷◌, ◌++◌, length, get_or, set, replicate, Result, Ok, Err}
 use Rattle.reading.specs.Read.{Read, got, refused, and_then, byte_at, below}
 use Rattle.reading.specs.System.{to_its_end}
 use Rattle.reading.specs.Told.{number}
 use Rattle.reading.specs.declared.NumberRead.{NumberRead}
 use Rattle.reading.specs.declared.Refusal.{Refusal}
-use Rattle.policy.specs.declared.PermissionsRead.{PermissionsRead}
-use Rattle.policy.specs.declared.PermissionsRead.TheVariants as permissions_read_variants
+use Rattle.policy.specs.declared.PermissionsAt.{PermissionsAt}
 use Rattle.policy.specs.declared.Permissions.{Permissions as Stored}
 use Rattle.policy.specs.declared.Node.{Node as Row}
 use Rattle.policy.specs.declared.Opening.{Opening}
-use Rattle.policy.specs.declared.OpeningRead.{OpeningRead}
-use Rattle.policy.specs.declared.OpeningRead.TheVariants as opening_read_variants
-use Rattle.reading.specs.declared.End.{End}
 use Rattle.reading.specs.declared.End.TheVariants as end_case
 use Rattle.policy.specs.declared.PolicyRead.{PolicyRead}
 use Rattle.policy.specs.declared.Trees.{Trees}
@@ -21,13 +17,9 @@ use Rattle.policy.specs.Reading.{as_eleven, children, read_permissions, read_nod
 use Rattle.policy.specs.Rows.{permissions_of, flat_of, flats, flatten}
 
 -- permissions that were read, by where they stand
-abbrev pub permissions_read : List ℕ → PermissionsRead → Read Permissions
-permissions_read c (permissions_read_variants.Found p) = got (permissions_of c p.permissions) p.next
-permissions_read c (permissions_read_variants.Refused r) = refused r.question r.at
-
-abbrev pub why_of : PermissionsRead → Refusal
-why_of (permissions_read_variants.Found p) = record { question = 0; at = 0 }
-why_of (permissions_read_variants.Refused r) = r
+abbrev pub permissions_read : List ℕ → Result PermissionsAt Refusal → Read Permissions
+permissions_read c (Ok p) = got (permissions_of c p.permissions) p.next
+permissions_read c (Err r) = refused r.question r.at
 
 -- What is stored of permissions fits its cells, and so does what is stored of a node.
 pub record PermissionsFit (p : Stored) : Type 0 where
@@ -41,9 +33,9 @@ pub record NodeFits (n : Row) : Type 0 where
   pub small_permissions : PermissionsFit n.permissions
   pub small_depth : n.depth < 8
 
-abbrev pub PermissionsReadFit : PermissionsRead → Type 0
-PermissionsReadFit (permissions_read_variants.Found p) = PermissionsFit p.permissions
-PermissionsReadFit (permissions_read_variants.Refused r) = Unit {0}
+abbrev pub PermissionsReadFit : Result PermissionsAt Refusal → Type 0
+PermissionsReadFit (Ok p) = PermissionsFit p.permissions
+PermissionsReadFit (Err r) = Unit {0}
 
 -- A node without its children, and how many follow.
 pub record Opened : Type 0 where
@@ -56,22 +48,18 @@ read_opening c at =
     and_then (read_permissions c m) (λ p k.
     and_then (byte_at c k) (λ n e. got (record { head = record { group = g; permissions = p }; children = n }) e)))
 
-abbrev pub opening_read : List ℕ → OpeningRead → Read Opened
-opening_read c (opening_read_variants.Found o) = got (record { head = (flat_of c o.node).head; children = o.children }) o.next
-opening_read c (opening_read_variants.Refused r) = refused r.question r.at
+abbrev pub opening_read : List ℕ → Result Opening Refusal → Read Opened
+opening_read c (Ok o) = got (record { head = (flat_of c o.node).head; children = o.children }) o.next
+opening_read c (Err r) = refused r.question r.at
 
 pub record OpeningFits (depth : ℕ) (o : Opening) : Type 0 where
   pub fits : NodeFits o.node
   pub at_depth : o.node.depth ≡ depth
   pub few : o.children < 256
 
-abbrev pub OpeningReadFits : ℕ → OpeningRead → Type 0
-OpeningReadFits depth (opening_read_variants.Found o) = OpeningFits depth o
-OpeningReadFits depth (opening_read_variants.Refused r) = Unit {0}
-
-abbrev pub why_not : OpeningRead → Refusal
-why_not (opening_read_variants.Found o) = record { question = 0; at = 0 }
-why_not (opening_read_variants.Refused r) = r
+abbrev pub OpeningReadFits : ℕ → Result Opening Refusal → Type 0
+OpeningReadFits depth (Ok o) = OpeningFits depth o
+OpeningReadFits depth (Err r) = Unit {0}
 
 -- an item of which only the group is kept
 unfoldable pub group_only : Read Granted → Read ℕ

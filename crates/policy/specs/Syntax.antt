@@ -1,6 +1,5 @@
 -- Policies (document 01, "Charter"): a hierarchy of groups for each kind, each node with permissions.
-use Rattle.std.specs.Prelude.{ℕ, zero, suc, ◌+◌, ◌/◌, ◌%◌, List, [], ◌∷◌, ◌++◌, Bool, not, eqb}
-use Rattle.inference.specs.Lists.{gather}
+use Rattle.std.specs.Prelude.{ℕ, zero, suc, ◌/◌, ◌%◌, List, [], ◌∷◌, ◌++◌, Bool, not, eqb}
 
 -- A group that a node discloses to, with the stored count: 1 to 4,095, or 65,535 for unlimited.
 pub record Granted : Type 0 where

@@ -3,7 +3,7 @@
 use Rattle.std.specs.Prelude.{ℕ, List, [], ◌∷◌, ◌++◌, map, Bool, true, false, cond, not, ◌&&◌, ◌||◌, eqb}
 use Rattle.reading.specs.Forms.{member}
 use Rattle.inference.specs.Lists.{every, gather}
-use Rattle.policy.specs.Syntax.{Granted, Permissions, Node, Nodes, none, more, Tree, Head, has_bit, alone, heads, heads_of}
+use Rattle.policy.specs.Syntax.{Granted, Permissions, Nodes, none, more, Tree, Head, has_bit, alone, heads, heads_of}
 
 unfoldable pub distinct : List ℕ → Bool
 distinct [] = true

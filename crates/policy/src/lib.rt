@@ -8,11 +8,11 @@ ghost use Rattle.policy.specs.Loads.{Bounded};
 pub mod nodes;
 pub mod read;
 
-use reading::{End, Refusal};
+use reading::End;
 
 // A node's permission map, where its disclose list stands (the place of its first item, and how many there are: 0 where it has no
 // list), and the purposes for which it grants, bit p for purpose p.
-#[derive(Clone, Copy)]
+#[derive(Clone, Copy, Debug, PartialEq, Eq)]
 pub struct Permissions {
     pub map: usize,
     pub list: usize,
@@ -21,20 +21,14 @@ pub struct Permissions {
 }
 
 // A permission map with its list and its purposes, and the place after them.
-#[derive(Clone, Copy)]
+#[derive(Clone, Copy, Debug, PartialEq, Eq)]
 pub struct PermissionsAt {
     pub permissions: Permissions,
     pub next: usize,
 }
 
-#[derive(Clone, Copy)]
-pub enum PermissionsRead {
-    Found(PermissionsAt),
-    Refused(Refusal),
-}
-
 // A node of the table: its group, its permissions, and how many nodes stand above it.
-#[derive(Clone, Copy)]
+#[derive(Clone, Copy, Debug, PartialEq, Eq)]
 pub struct Node {
     pub group: usize,
     pub permissions: Permissions,
@@ -42,21 +36,15 @@ pub struct Node {
 }
 
 // A node without its children: its fields, how many children follow it, and the place of the first.
-#[derive(Clone, Copy)]
+#[derive(Clone, Copy, Debug, PartialEq, Eq)]
 pub struct Opening {
     pub node: Node,
     pub children: usize,
     pub next: usize,
 }
 
-#[derive(Clone, Copy)]
-pub enum OpeningRead {
-    Found(Opening),
-    Refused(Refusal),
-}
-
 // The trees of a policy: how many, and for each its kind and the table's row after its last node.
-#[derive(Clone, Copy)]
+#[derive(Clone, Copy, Debug, PartialEq, Eq)]
 pub struct Trees {
     pub len: usize,
     pub kinds: [u8; 16],
@@ -72,7 +60,7 @@ pub struct PolicyRead {
 }
 
 // The rows of one tree: from its root's row up to `to`.
-#[derive(Clone, Copy)]
+#[derive(Clone, Copy, Debug, PartialEq, Eq)]
 pub struct Span {
     pub from: usize,
     pub to: usize,

@@ -8,17 +8,11 @@ ghost use Rattle.policy.specs.Loads.{start_of};
 use crate::{Node, Permissions, Policy, Span, Trees};
 use reading::bytes::byte_in;
 
-fn wide(x: u16) -> usize
-    ensures { result ≡ x }
-{
-    x as usize
-}
-
-#[tactic(auto, using(crate::proofs::NodeLaws::node_steps))]
+// A cell of the table, 0 past its end.
 fn cell(nodes: &[u16], at: usize) -> usize
     ensures { result ≡ get_or nodes.now at 0 }
 {
-    if at < nodes.len() { wide(nodes[at]) } else { 0 }
+    nodes.get(at).copied().unwrap_or(0) as usize
 }
 
 // The node in a row, each cell within its range.
@@ -42,6 +36,7 @@ pub fn node_at(nodes: &[u16], row: usize) -> Node
 }
 
 #[tactic(auto, using(crate::proofs::NodeLaws::node_steps))]
+// Stores a number, cut to two bytes, in a cell; past the table's end it stores nothing.
 fn put(nodes: &mut [u16], at: usize, value: usize)
     ensures { nodes.new ≡ set nodes.old at (value % 65536) }
 {
@@ -89,13 +84,7 @@ pub fn has_bit(map: usize, value: usize) -> bool
 pub fn bit_at(map: usize, place: usize) -> bool
     ensures { result ≡ bit_at place map }
 {
-    let mut rest = map;
-    let mut left = place;
-    while 0 < left {
-        rest /= 2;
-        left -= 1;
-    }
-    rest % 2 != 0
+    place < 64 && (map >> place) % 2 != 0
 }
 
 // A kind or an end of the trees, at full width.

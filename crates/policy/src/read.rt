@@ -7,8 +7,6 @@ ghost use Rattle.policy.specs.Reading.{two_bytes, is_count, item_at, read_list, 
 ghost use Rattle.policy.specs.Loads.{
   permissions_read,
   PermissionsReadFit,
-  why_of,
-  why_not,
   group_only,
   count_only,
   opening_read,
@@ -24,9 +22,7 @@ ghost use Rattle.policy.specs.Loads.{
 };
 
 use crate::nodes::{has_bit, store_node};
-use crate::{
-    Node, Opening, OpeningRead, Permissions, PermissionsAt, PermissionsRead, PolicyRead, Trees,
-};
+use crate::{Node, Opening, Permissions, PermissionsAt, PolicyRead, Trees};
 use reading::bytes::{byte_at, byte_below, refusal};
 use reading::{End, Number, NumberRead, Refusal};
 
@@ -56,17 +52,11 @@ pub fn two_bytes(c: &[u8], at: usize) -> NumberRead
 }
 
 // 1 to 4,095, or 65,535 for unlimited.
-#[tactic(auto, using(crate::proofs::ListSteps::count_steps))]
+#[tactic(auto, unfolding(crate::specs::Reading::is_count))]
 fn is_count(n: usize) -> bool
     ensures { result ≡ is_count n }
 {
-    if n == 65535 {
-        return true;
-    }
-    if n == 0 {
-        return false;
-    }
-    n <= 4095
+    (1..=4095).contains(&n) || n == 65535
 }
 
 // An item of a disclose list, whose group is at least `lowest`; the number found is its group.
@@ -102,15 +92,13 @@ fn read_list(c: &[u8], at: usize, count: usize) -> NumberRead
 {
     let mut next = at;
     let mut lowest: usize = 0;
-    let mut left = count;
-    while 0 < left {
+    for _ in 0..count {
         let read = item_at(c, next, lowest);
         let NumberRead::Found(item) = read else {
             return read;
         };
         next = item.next;
         lowest = item.value + 1;
-        left -= 1;
     }
     NumberRead::Found(Number { value: count, next })
 }
@@ -128,12 +116,6 @@ fn counted_list(c: &[u8], at: usize) -> NumberRead
         return fault(at);
     }
     read_list(c, count.next, count.value)
-}
-
-fn not_permissions(read: NumberRead) -> PermissionsRead
-    ensures { result ≡ PermissionsRead.Refused (refusal_of read) }
-{
-    PermissionsRead::Refused(refusal(read))
 }
 
 // The list of a permission map, where bit 4 announces one; the number found is how many items it has.
@@ -165,22 +147,22 @@ fn purposes_at(c: &[u8], at: usize, map: usize) -> NumberRead
 
 // A permission map with its list and its purposes: where the list stands, not what it holds.
 #[tactic(auto, using(crate::proofs::PermissionSteps::permission_steps))]
-fn permissions_at(c: &[u8], at: usize) -> PermissionsRead
+fn permissions_at(c: &[u8], at: usize) -> Result<PermissionsAt, Refusal>
     requires { length c.now ≤ 4096 }
     ensures result_value { permissions_read c.now result ≡ read_permissions c.now at }
     ensures permissions_fit { PermissionsReadFit result }
 {
     let first = byte_below(c, at, 64);
     let NumberRead::Found(map) = first else {
-        return not_permissions(first);
+        return Err(refusal(first));
     };
     let second = list_at(c, map.next, map.value);
     let NumberRead::Found(list) = second else {
-        return not_permissions(second);
+        return Err(refusal(second));
     };
     let third = purposes_at(c, list.next, map.value);
     let NumberRead::Found(purposes) = third else {
-        return not_permissions(third);
+        return Err(refusal(third));
     };
     let permissions = Permissions {
         map: map.value,
@@ -188,46 +170,30 @@ fn permissions_at(c: &[u8], at: usize) -> PermissionsRead
         count: list.value,
         purposes: purposes.value,
     };
-    PermissionsRead::Found(PermissionsAt {
+    Ok(PermissionsAt {
         permissions,
         next: purposes.next,
     })
 }
 
-// Why permissions were not read.
-fn why(read: PermissionsRead) -> Refusal
-    ensures { result ≡ why_of read }
-{
-    match read {
-        PermissionsRead::Found(_) => Refusal { question: 0, at: 0 },
-        PermissionsRead::Refused(r) => r,
-    }
-}
-
-fn not_opening(read: NumberRead) -> OpeningRead
-    ensures { result ≡ OpeningRead.Refused (refusal_of read) }
-{
-    OpeningRead::Refused(refusal(read))
-}
-
 // A node without its children, at a depth.
 #[tactic(auto, using(crate::proofs::OpeningSteps::opening_steps))]
-fn read_opening(c: &[u8], at: usize, depth: usize) -> OpeningRead
+fn read_opening(c: &[u8], at: usize, depth: usize) -> Result<Opening, Refusal>
     requires { (depth < 8) × (length c.now ≤ 4096) }
     ensures result_value { opening_read c.now result ≡ read_opening c.now at }
     ensures opening_fits { OpeningReadFits depth result }
 {
     let first = byte_below(c, at, 64);
     let NumberRead::Found(group) = first else {
-        return not_opening(first);
+        return Err(refusal(first));
     };
     let second = permissions_at(c, group.next);
-    let PermissionsRead::Found(found) = second else {
-        return OpeningRead::Refused(why(second));
+    let Ok(found) = second else {
+        return Err(second.unwrap_err());
     };
     let third = byte_at(c, found.next);
     let NumberRead::Found(count) = third else {
-        return not_opening(third);
+        return Err(refusal(third));
     };
     let permissions = found.permissions;
     let node = Node {
@@ -235,21 +201,11 @@ fn read_opening(c: &[u8], at: usize, depth: usize) -> OpeningRead
         permissions,
         depth,
     };
-    OpeningRead::Found(Opening {
+    Ok(Opening {
         node,
         children: count.value,
         next: count.next,
     })
-}
-
-// Why a node was not read.
-fn why_not(read: OpeningRead) -> Refusal
-    ensures { result ≡ why_not read }
-{
-    match read {
-        OpeningRead::Found(_) => Refusal { question: 0, at: 0 },
-        OpeningRead::Refused(r) => r,
-    }
 }
 
 // Reads a node and the nodes below it into the table from row `used` on; the number found is that of the rows then used.
@@ -268,8 +224,8 @@ fn read_node(c: &[u8], at: usize, level: usize, used: usize, nodes: &mut [u16]) 
         return fault(at);
     }
     let read = read_opening(c, at, 8 - level);
-    let OpeningRead::Found(opening) = read else {
-        return NumberRead::Refused(why_not(read));
+    let Ok(opening) = read else {
+        return NumberRead::Refused(read.unwrap_err());
     };
     let node = opening.node;
     store_node(nodes, used, node);
@@ -300,15 +256,13 @@ fn read_children(
 {
     let mut next = at;
     let mut rows = used;
-    let mut left = count;
-    while 0 < left {
+    for _ in 0..count {
         let read = read_node(c, next, level, rows, nodes);
         let NumberRead::Found(child) = read else {
             return read;
         };
         next = child.next;
         rows = child.value;
-        left -= 1;
     }
     NumberRead::Found(Number { value: rows, next })
 }
@@ -369,7 +323,7 @@ fn read_trees(c: &[u8], at: usize, count: usize, nodes: &mut [u16]) -> PolicyRea
     let mut trees = no_trees();
     let mut next = at;
     let mut used: usize = 0;
-    while trees.len < count {
+    for _ in 0..count {
         let first = byte_below(c, next, 16);
         let NumberRead::Found(kind) = first else {
             return not_policy(first);

@@ -3,7 +3,7 @@
 
 ghost use Rattle.running.specs.Theorem.{AlwaysGuaranteed, AlwaysWithinEach};
 
-/// Demand 3: what holds of each state of each run of an accepted sheet, whatever its moves. It does nothing when it runs.
+/// What holds of each state of each run of an accepted sheet, whatever its moves. It does nothing when it runs.
 pub fn guaranteed()
     ensures { AlwaysGuaranteed }
 {}

@@ -10,6 +10,7 @@ use policy::{Permissions, Span};
 use reading::bytes::byte_in;
 
 // The groups of a node and of the nodes below it, marked by 1.
+#[tactic(auto, using(crate::proofs::FenceSteps::fence_steps, crate::proofs::FenceSteps::marks_next))]
 fn marked(nodes: &[u16], row: usize, to: usize) -> [usize; 64]
     requires { (row < to) × (to ≤ 64) }
     ensures { (c : List ℕ) (h : ℕ) → h < 64 → is_marked result h ≡ member h (fence_of (flats c nodes.now row (to - row))) }
@@ -32,6 +33,7 @@ fn marked(nodes: &[u16], row: usize, to: usize) -> [usize; 64]
 }
 
 // Is each group of a list marked?
+#[tactic(auto, using(crate::proofs::FenceSteps::fence_steps, crate::proofs::FenceSteps::list_next))]
 fn list_marked(c: &[u8], p: Permissions, marks: [usize; 64]) -> bool
     requires { (p.list < 8192) × (p.count < 128) }
     ensures { result ≡ all_marked marks (listed_groups (items_at p.count c.now p.list)) }
@@ -51,6 +53,7 @@ fn list_marked(c: &[u8], p: Permissions, marks: [usize; 64]) -> bool
 }
 
 // Is every group disclosed to by the nodes below a row marked?
+#[tactic(auto, using(crate::proofs::FenceSteps::fence_steps, crate::proofs::FenceSteps::kept_next))]
 fn kept_below(c: &[u8], nodes: &[u16], row: usize, to: usize, marks: [usize; 64]) -> bool
     requires { (row < to) × (to ≤ 64) }
     ensures { result ≡ all_marked marks
@@ -73,6 +76,7 @@ fn kept_below(c: &[u8], nodes: &[u16], row: usize, to: usize, marks: [usize; 64]
 }
 
 // Where a row's node has nondisclose: is every group disclosed to below it a group of it or of a node below it?
+#[tactic(auto, using(crate::proofs::FenceSteps::fence_steps))]
 fn keeps_within(c: &[u8], nodes: &[u16], row: usize, to: usize) -> bool
     requires { (row < to) × (to ≤ 64) }
     ensures { result ≡ kept_in (flat_of c.now (node_at nodes.now row))
@@ -86,6 +90,7 @@ fn keeps_within(c: &[u8], nodes: &[u16], row: usize, to: usize) -> bool
 }
 
 // 15 in one tree.
+#[tactic(auto, using(crate::proofs::FenceSteps::fence_steps))]
 pub fn fenced(c: &[u8], nodes: &[u16], tree: Span) -> bool
     requires { tree.to ≤ 64 }
     ensures { result ≡ all_kept (flats c.now nodes.now tree.from (tree.to - tree.from)) }

@@ -10,6 +10,7 @@ use reading::bytes::byte_in;
 use reading::{Path, paths};
 
 // The same item at two places?
+#[tactic(auto, using(crate::proofs::AgreeSteps::agree_steps))]
 fn same_item(c: &[u8], a: usize, b: usize) -> bool
     requires { (a < 9000) × (b < 9000) }
     ensures { result ≡ (eqb (get_or c.now a 0) (get_or c.now b 0)
@@ -23,6 +24,7 @@ fn same_item(c: &[u8], a: usize, b: usize) -> bool
 }
 
 // The same items in two lists?
+#[tactic(auto, using(crate::proofs::AgreeSteps::agree_steps))]
 fn same_items(c: &[u8], a: usize, b: usize, count: usize) -> bool
     requires { (a < 8192) × (b < 8192) × (count < 128) }
     ensures { result ≡ same_list (items_at count c.now a) (items_at count c.now b) }
@@ -38,6 +40,7 @@ fn same_items(c: &[u8], a: usize, b: usize, count: usize) -> bool
 }
 
 // The same map, list and purposes?
+#[tactic(auto, using(crate::proofs::AgreeSteps::agree_steps))]
 fn same_permissions(c: &[u8], p: Permissions, q: Permissions) -> bool
     requires { (p.list < 8192) × (q.list < 8192) × (p.count < 128) }
     ensures { result ≡ same_permissions (permissions_of c.now p) (permissions_of c.now q) }
@@ -56,6 +59,7 @@ fn same_permissions(c: &[u8], p: Permissions, q: Permissions) -> bool
 
 // 14 at one node: the same map, list and purposes as at the last node of its group before it, whose row is the one before
 // `next`? Where `next` is 0 there is no such node.
+#[tactic(auto, using(crate::proofs::HeadSteps::head_steps))]
 fn same_as_last(c: &[u8], nodes: &[u16], next: usize, node: Node) -> bool
     requires { (next ≤ 64) × (node.permissions.list < 8192) }
     ensures { result ≡ same_as_last c.now nodes.now next (permissions_of c.now node.permissions) }
@@ -67,6 +71,7 @@ fn same_as_last(c: &[u8], nodes: &[u16], next: usize, node: Node) -> bool
 }
 
 // The question that a node fails, or 0: where it fails both, 14. `same` and `fresh` are what 14 and 13 say of it.
+#[tactic(auto, using(crate::proofs::HeadSteps::head_steps))]
 fn node_fault(same: bool, fresh: bool) -> usize
     ensures { result ≡ fault_of same fresh }
 {
@@ -77,6 +82,7 @@ fn node_fault(same: bool, fresh: bool) -> usize
 }
 
 // 13 and 14 in one tree, node after node: the question that the first node with a fault fails, or 0.
+#[tactic(auto, using(crate::proofs::HeadSteps::head_steps))]
 pub fn heads_fault(c: &[u8], nodes: &[u16], tree: Span) -> usize
     requires { tree.to ≤ 64 }
     ensures { result ≡ heads_fault (replicate 8 0) [] (flats c.now nodes.now tree.from (tree.to - tree.from)) }

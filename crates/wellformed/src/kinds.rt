@@ -6,6 +6,7 @@ ghost use Rattle.policy.specs.WellFormed.{distinct};
 use policy::Trees;
 
 // Does a kind stand among the trees after the t-th?
+#[tactic(auto, using(crate::proofs::KindSteps::kind_steps))]
 fn kind_after(trees: Trees, t: usize) -> bool
     requires { (t < trees.len) × (trees.len ≤ 16) }
     ensures { result ≡ member (get_or trees.kinds t 0) (drop (t + 1) (take trees.len trees.kinds)) }
@@ -22,6 +23,7 @@ fn kind_after(trees: Trees, t: usize) -> bool
 }
 
 // 12: kinds distinct?
+#[tactic(auto, using(crate::proofs::KindSteps::kind_steps))]
 pub fn kinds_distinct(trees: Trees) -> bool
     requires { trees.len ≤ 16 }
     ensures { result ≡ distinct (take trees.len trees.kinds) }

@@ -13,6 +13,7 @@ use policy::nodes::span_of;
 use policy::{Span, Trees};
 
 // The question that a tree fails, or 0. Asked 15, its fences decide, otherwise its first node that fails 13 or 14.
+#[tactic(auto, using(crate::proofs::PassSteps::ask_steps))]
 fn tree_fault(question: usize, c: &[u8], nodes: &[u16], tree: Span) -> usize
     requires { tree.to ≤ 64 }
     ensures { result ≡ fault_in question (flats c.now nodes.now tree.from (tree.to - tree.from)) }
@@ -24,6 +25,7 @@ fn tree_fault(question: usize, c: &[u8], nodes: &[u16], tree: Span) -> usize
 }
 
 // The question that the first tree with a fault fails, or 0.
+#[tactic(auto, using(crate::proofs::PassSteps::pass_steps))]
 fn trees_fault(question: usize, c: &[u8], nodes: &[u16], trees: Trees) -> usize
     requires { Bounded trees }
     ensures { (policy : List Tree) → AllHeld c.now nodes.now trees 0 policy
@@ -41,6 +43,7 @@ fn trees_fault(question: usize, c: &[u8], nodes: &[u16], trees: Trees) -> usize
 }
 
 // The first of questions 12 to 15 that a policy fails, or 16.
+#[tactic(auto, using(crate::proofs::PassSteps::fault_steps))]
 pub fn policy_fault(c: &[u8], nodes: &[u16], trees: Trees) -> usize
     requires { Bounded trees }
     ensures { (policy : List Tree) → AllHeld c.now nodes.now trees 0 policy → result ≡ policy_fault policy }

@@ -6,8 +6,8 @@ use Rattle.policy.proofs.read.+read_children_read_node.Goals as goal
 pub read_children-returns-in_default : goal.read_children-returns-in_default
 read_children-returns-in_default t c = search child_steps
 
-pub read_children-loop-left-preserved : goal.read_children-loop-left-preserved
-read_children-loop-left-preserved t c = search child_steps
+pub read_children-loop-preserved : goal.read_children-loop-preserved
+read_children-loop-preserved t c = search child_steps
 
 pub read_children-returns : goal.read_children-returns
 read_children-returns t c = search child_steps

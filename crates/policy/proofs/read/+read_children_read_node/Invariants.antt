@@ -10,8 +10,5 @@ decreases-read_children l = l.level * 2 + 1
 abbrev pub decreases-read_node : goal.decreases-read_node
 decreases-read_node l = l.level * 2
 
-abbrev pub invariant-read_children-loop-left : goal.invariant-read_children-loop-left
-invariant-read_children-loop-left l = Loading l.level l.c l.count l.used l.at (8 - l.level) l.initial.nodes l.left l.rows l.next l.nodes
-
-abbrev pub decreases-read_children-loop-left : goal.decreases-read_children-loop-left
-decreases-read_children-loop-left l = l.left
+abbrev pub invariant-read_children-loop : goal.invariant-read_children-loop
+invariant-read_children-loop l = Loading l.level l.c l.count l.used l.at (8 - l.level) l.initial.nodes l.counter l.rows l.next l.nodes

@@ -2,8 +2,5 @@
 use Rattle.policy.proofs.ListSteps.{ItemsAhead}
 use Rattle.policy.proofs.read.read_list.Given as goal
 
-abbrev pub invariant-loop-left : goal.invariant-loop-left
-invariant-loop-left l = ItemsAhead l.c l.at l.count l.next l.lowest l.left
-
-abbrev pub decreases-loop-left : goal.decreases-loop-left
-decreases-loop-left l = l.left
+abbrev pub invariant-loop : goal.invariant-loop
+invariant-loop l = ItemsAhead l.c l.at l.count l.next l.lowest l.counter

@@ -8,8 +8,8 @@ returns-in_default c = search tree_steps
 pub returns-in_default-second : goal.returns-in_default-second
 returns-in_default-second c = search tree_steps
 
-pub loop-trees-preserved : goal.loop-trees-preserved
-loop-trees-preserved c = search tree_steps
+pub loop-preserved : goal.loop-preserved
+loop-preserved c = search tree_steps
 
 pub returns-then-next-c : goal.returns-then-next-c
 returns-then-next-c c = search tree_steps
