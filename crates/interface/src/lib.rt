@@ -12,6 +12,7 @@ use inference::rows::{cell_at, cell_of, group_at, group_count, path_len, path_of
 use reading::Path;
 
 // What stands in the cell of a component, a kind and a column.
+#[tactic(auto, using(crate::proofs::InterfaceSteps::interface_steps))]
 pub fn count_at(table: &[u16], component: usize, kind: usize, column: usize) -> usize
     requires { (component < 32) × (kind < 16) × (column < 12) }
     ensures { result ≡ cell table.now component kind column }
@@ -20,6 +21,7 @@ pub fn count_at(table: &[u16], component: usize, kind: usize, column: usize) -> 
 }
 
 // Does a component need anything of a kind?
+#[tactic(auto, using(crate::proofs::InterfaceSteps::interface_steps))]
 pub fn is_used(table: &[u16], component: usize, kind: usize) -> bool
     requires { (component < 32) × (kind < 16) }
     ensures { result ≡ is_set (cell table.now component kind 11) }
@@ -28,6 +30,7 @@ pub fn is_used(table: &[u16], component: usize, kind: usize) -> bool
 }
 
 // How many groups a component discloses data of a kind to.
+#[tactic(auto, using(crate::proofs::InterfaceSteps::interface_steps))]
 pub fn disclosed_groups(table: &[u16], component: usize, kind: usize) -> usize
     requires { (component < 32) × (kind < 16) }
     ensures value { result ≡ length (disclosures_at table.now component kind) }
@@ -44,6 +47,7 @@ pub fn disclosed_groups(table: &[u16], component: usize, kind: usize) -> usize
 }
 
 // A value where a count is not 0.
+#[tactic(auto, using(crate::proofs::InterfaceSteps::interface_steps))]
 pub fn bit(count: usize, value: usize) -> usize
     ensures value { result ≡ flag (is_set count) value }
     ensures few { result ≤ value }
@@ -52,6 +56,7 @@ pub fn bit(count: usize, value: usize) -> usize
 }
 
 // The permission map of an entry that discloses to so many groups; 0 where there is no permission.
+#[tactic(auto, using(crate::proofs::InterfaceSteps::interface_steps))]
 pub fn map_at(table: &[u16], component: usize, kind: usize, groups: usize) -> usize
     requires { (component < 32) × (kind < 16) × (groups ≡ length (disclosures_at table.now component kind)) }
     ensures { result ≡ map_of (entry_at table.now component kind) }
@@ -62,6 +67,7 @@ pub fn map_at(table: &[u16], component: usize, kind: usize, groups: usize) -> us
 }
 
 // The length of a component's path.
+#[tactic(auto, using(crate::proofs::InterfaceSteps::interface_steps))]
 fn path_size(table: &[u16], component: usize) -> usize
     requires { component < 32 }
     ensures value { result ≡ length (path_at table.now component) }
@@ -71,6 +77,7 @@ fn path_size(table: &[u16], component: usize) -> usize
 }
 
 // The length of a disclose list of so many groups, 0 where there is none.
+#[tactic(auto, using(crate::proofs::InterfaceSteps::interface_steps))]
 fn list_len(groups: usize) -> usize
     requires { groups ≤ 8 }
     ensures value { (ds : List Disclosure) → groups ≡ length ds → result ≡ length (list_bytes ds) }
@@ -80,6 +87,7 @@ fn list_len(groups: usize) -> usize
 }
 
 // The length of an entry's bytes, 0 where there is no entry.
+#[tactic(auto, using(crate::proofs::InterfaceSteps::interface_steps))]
 pub fn entry_len(table: &[u16], component: usize, kind: usize) -> usize
     requires { (component < 32) × (kind < 16) }
     ensures { result ≡ length (entry_bytes_at table.now component kind) }
@@ -95,6 +103,7 @@ pub fn entry_len(table: &[u16], component: usize, kind: usize) -> usize
 }
 
 // The length of the entries of a component.
+#[tactic(auto, using(crate::proofs::InterfaceSteps::interface_steps))]
 fn row_len(table: &[u16], component: usize) -> usize
     requires { component < 32 }
     ensures { result ≡ length (interface_bytes (row_entries table.now component)) }
@@ -109,6 +118,7 @@ fn row_len(table: &[u16], component: usize) -> usize
 }
 
 // The length of the interface.
+#[tactic(auto, using(crate::proofs::InterfaceSteps::interface_steps))]
 pub fn interface_len(table: &[u16], components: usize) -> usize
     requires { components ≤ 32 }
     ensures { result ≡ length (interface_bytes (table_entries table.now components)) }
@@ -123,6 +133,7 @@ pub fn interface_len(table: &[u16], components: usize) -> usize
 }
 
 // Stores a byte, where there is room.
+#[tactic(auto, using(crate::proofs::InterfaceSteps::interface_steps))]
 fn store(out: &mut [u8], at: usize, value: usize)
     ensures { out.new ≡ set out.old at (value % 256) }
 {
@@ -132,6 +143,7 @@ fn store(out: &mut [u8], at: usize, value: usize)
 }
 
 // Stores a byte and answers the next place.
+#[tactic(auto, using(crate::proofs::InterfaceSteps::interface_steps))]
 pub fn put(out: &mut [u8], at: usize, value: usize) -> usize
     requires { at < 4294967296 }
     ensures { Stored out.old out.new at (value ∷ []) result }
@@ -141,6 +153,7 @@ pub fn put(out: &mut [u8], at: usize, value: usize) -> usize
 }
 
 // Writes the groups of a path.
+#[tactic(auto, using(crate::proofs::InterfaceSteps::interface_steps))]
 fn put_groups(path: Path, out: &mut [u8], at: usize) -> usize
     requires { at < 4100000000 }
     ensures stored { Stored out.old out.new at (path_of path) result }
@@ -158,6 +171,7 @@ fn put_groups(path: Path, out: &mut [u8], at: usize) -> usize
 }
 
 // Writes a component's path: its length, then its groups.
+#[tactic(auto, using(crate::proofs::InterfaceSteps::interface_steps))]
 fn put_path(table: &[u16], component: usize, out: &mut [u8], at: usize) -> usize
     requires { (component < 32) × (at < 4000000000) }
     ensures stored { Stored out.old out.new at
@@ -170,6 +184,7 @@ fn put_path(table: &[u16], component: usize, out: &mut [u8], at: usize) -> usize
 }
 
 // Writes a group and a two-byte count, the low byte first; nothing where the count is 0.
+#[tactic(auto, using(crate::proofs::InterfaceSteps::interface_steps))]
 fn put_disclosure(count: usize, group: usize, out: &mut [u8], at: usize) -> usize
     requires { at < 4100000000 }
     ensures { Stored out.old out.new at (group_bytes group count) result }
@@ -183,6 +198,7 @@ fn put_disclosure(count: usize, group: usize, out: &mut [u8], at: usize) -> usiz
 }
 
 // Writes the groups that a component discloses data of a kind to, with their counts.
+#[tactic(auto, using(crate::proofs::InterfaceSteps::interface_steps))]
 fn put_disclosures(table: &[u16], component: usize, kind: usize, out: &mut [u8], at: usize) -> usize
     requires { (component < 32) × (kind < 16) × (at < 4010000000) }
     ensures { Stored out.old out.new at
@@ -200,6 +216,7 @@ fn put_disclosures(table: &[u16], component: usize, kind: usize, out: &mut [u8],
 }
 
 // Writes an entry's disclose list of so many groups, where there is one.
+#[tactic(auto, using(crate::proofs::InterfaceSteps::interface_steps))]
 fn put_list(
     table: &[u16],
     component: usize,
@@ -219,6 +236,7 @@ fn put_list(
 }
 
 // Writes an entry up to its map: kind, path, purpose, map.
+#[tactic(auto, using(crate::proofs::InterfaceSteps::interface_steps))]
 pub fn put_head(
     table: &[u16],
     component: usize,
@@ -238,6 +256,7 @@ pub fn put_head(
 }
 
 // Writes the entry of a component and a kind, where there is one.
+#[tactic(auto, using(crate::proofs::InterfaceSteps::interface_steps))]
 fn put_entry(table: &[u16], component: usize, kind: usize, out: &mut [u8], at: usize) -> usize
     requires { (component < 32) × (kind < 16) × (at < 3000000000) }
     ensures { Stored out.old out.new at (entry_bytes_at table.now component kind) result }
@@ -255,6 +274,7 @@ fn put_entry(table: &[u16], component: usize, kind: usize, out: &mut [u8], at: u
 }
 
 // Writes the entries of a component.
+#[tactic(auto, using(crate::proofs::InterfaceSteps::interface_steps))]
 fn put_row(table: &[u16], component: usize, out: &mut [u8], at: usize) -> usize
     requires { (component < 32) × (at < 2000000000) }
     ensures { Stored out.old out.new at (interface_bytes (row_entries table.now component)) result }
@@ -269,6 +289,7 @@ fn put_row(table: &[u16], component: usize, out: &mut [u8], at: usize) -> usize
 }
 
 // Writes the interface from the output's first byte on; the number of bytes written.
+#[tactic(auto, using(crate::proofs::InterfaceSteps::interface_steps))]
 pub fn write_interface(table: &[u16], components: usize, out: &mut [u8]) -> usize
     requires { components ≤ 32 }
     ensures { Stored out.old out.new 0 (interface_bytes (table_entries table.now components)) result }

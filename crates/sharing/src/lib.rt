@@ -12,6 +12,7 @@ use inference::rows::{group_at, group_count, purpose_of};
 use interface::{count_at, is_used};
 
 // A number for the groups of a component's path, one for each set of groups: they are its digits.
+#[tactic(auto, using(crate::proofs::SumSteps::key_steps))]
 fn groups_key(table: &[u16], component: usize) -> usize
     requires { component < 32 }
     ensures value { result ≡ key_of (row_groups table.now component) }
@@ -27,6 +28,7 @@ fn groups_key(table: &[u16], component: usize) -> usize
 }
 
 // The same with its purpose as the last digit: one for each class.
+#[tactic(auto, using(crate::proofs::SumSteps::class_steps))]
 fn class_key(table: &[u16], component: usize) -> usize
     requires { component < 32 }
     ensures { result ≡ row_key table.now component }
@@ -35,6 +37,7 @@ fn class_key(table: &[u16], component: usize) -> usize
 }
 
 // The place of the sum of a class, a kind and a group.
+#[tactic(auto, using(crate::proofs::SumSteps::cell_steps))]
 fn sum_cell(class: usize, kind: usize, place: usize) -> usize
     requires { (class < 4294967296) × (kind < 16) × (place < 8) }
     ensures { result ≡ sum_cell class kind place }
@@ -43,6 +46,7 @@ fn sum_cell(class: usize, kind: usize, place: usize) -> usize
 }
 
 // What stands in a cell, 0 past the end.
+#[tactic(auto, using(crate::proofs::SumSteps::cell_steps))]
 fn cell_in(sums: &[u32], at: usize) -> usize
     ensures value { result ≡ get_or sums.now at 0 }
     ensures few { result < 4294967296 }
@@ -57,6 +61,7 @@ fn wide(x: u32) -> usize
     x as usize
 }
 
+#[tactic(auto, using(crate::proofs::SumSteps::cell_steps))]
 fn put(sums: &mut [u32], at: usize, value: usize)
     ensures { sums.new ≡ set sums.old at (value % 4294967296) }
 {
@@ -66,6 +71,7 @@ fn put(sums: &mut [u32], at: usize, value: usize)
 }
 
 // A count joined to a sum; 65,535 is an unlimited count.
+#[tactic(auto, using(crate::proofs::SumSteps::cell_steps))]
 pub fn add(sum: usize, count: usize) -> usize
     requires { sum < 4294967296 }
     ensures { result ≡ added sum count }
@@ -76,6 +82,7 @@ pub fn add(sum: usize, count: usize) -> usize
     if sum < 4000000 { sum + count } else { sum }
 }
 
+#[tactic(auto, using(crate::proofs::SumSteps::cell_steps))]
 fn add_at(sums: &mut [u32], at: usize, count: usize)
     ensures { sums.new ≡ add_at sums.old at count }
 {
@@ -84,6 +91,7 @@ fn add_at(sums: &mut [u32], at: usize, count: usize)
 }
 
 // Joins a component's count for a kind and the group at a place to the sum of its class.
+#[tactic(auto, using(crate::proofs::SumSteps::cell_steps))]
 fn add_place(
     sums: &mut [u32],
     class: usize,
@@ -101,6 +109,7 @@ fn add_place(
 }
 
 // Joins a component's counts for a kind to the sums of its class, where anything of the kind is needed.
+#[tactic(auto, using(crate::proofs::SumSteps::place_steps))]
 fn add_kind(sums: &mut [u32], class: usize, table: &[u16], component: usize, kind: usize)
     requires { (class < 32) × (component < 32) × (kind < 16) }
     ensures { sums.new ≡ add_kind sums.old class table.now component kind }
@@ -117,6 +126,7 @@ fn add_kind(sums: &mut [u32], class: usize, table: &[u16], component: usize, kin
 }
 
 // Joins all counts of a component to the sums of its class, and notes the class.
+#[tactic(auto, using(crate::proofs::SumSteps::row_steps))]
 fn add_row(sums: &mut [u32], class: usize, table: &[u16], component: usize)
     requires { (class < 32) × (component < 32) }
     ensures { sums.new ≡ add_row sums.old class table.now component }
@@ -130,6 +140,7 @@ fn add_row(sums: &mut [u32], class: usize, table: &[u16], component: usize)
 }
 
 // The first of the keys up to a component's that is the same: the number of the first component of its class.
+#[tactic(auto, using(crate::proofs::SumSteps::seek_steps))]
 fn first_of(keys: &[usize], component: usize) -> usize
     requires { component < length keys.now }
     ensures value { result ≡ first_with (get_or keys.now component 0) keys.now 0 component }
@@ -147,6 +158,7 @@ fn first_of(keys: &[usize], component: usize) -> usize
 }
 
 // The sums of all classes of the components in a table, in clear memory.
+#[tactic(auto, using(crate::proofs::SumSteps::sum_steps))]
 pub fn sum_classes(table: &[u16], components: usize, sums: &mut [u32])
     requires { components ≤ 32 }
     ensures { sums.new ≡ add_rows sums.old table.now 0 components }
@@ -161,6 +173,7 @@ pub fn sum_classes(table: &[u16], components: usize, sums: &mut [u32])
 }
 
 // Do any two of the components share a count?
+#[tactic(auto, using(crate::proofs::SumSteps::compare_steps))]
 pub fn any_shared(table: &[u16], components: usize) -> bool
     requires { components ≤ 32 }
     ensures { result ≡ any_shared table.now 0 components }
@@ -178,6 +191,7 @@ pub fn any_shared(table: &[u16], components: usize) -> bool
 }
 
 // The sum of a component's class for a kind and the group at a place.
+#[tactic(auto, using(crate::proofs::SumSteps::cell_steps))]
 fn sum_at(sums: &[u32], component: usize, kind: usize, place: usize) -> usize
     requires { (component < 32) × (kind < 16) × (place < 8) }
     ensures { result ≡ sum_at sums.now component kind place }
@@ -187,6 +201,7 @@ fn sum_at(sums: &[u32], component: usize, kind: usize, place: usize) -> usize
 
 // How much a component's class needs to disclose data of a kind into the group at a place among the component's groups. Without sums,
 // which nobody makes where no components share, it is the component's own count.
+#[tactic(auto, using(crate::proofs::SumSteps::needed_steps))]
 pub fn needed_at(sums: &[u32], table: &[u16], component: usize, kind: usize, place: usize) -> usize
     requires { (component < 32) × (kind < 16) × (place < 8) }
     ensures { result ≡ needed_at sums.now table.now component kind place }
