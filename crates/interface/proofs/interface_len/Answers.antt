@@ -1,5 +1,4 @@
--- The length of the interface. Invariant: what is summed and what the components left would add are all, at most 3,264 a
--- component, so that the sum fits.
+-- The length of the interface.
 use Rattle.interface.proofs.InterfaceSteps.{interface_steps}
 use Rattle.interface.proofs.interface_len.Goals as goal
 

@@ -1,5 +1,4 @@
--- The interface. Invariant: storing the components left makes of the output now what storing all makes of it at first, at most
--- 3,264 bytes a component.
+-- The interface, component by component.
 use Rattle.interface.proofs.InterfaceSteps.{interface_steps}
 use Rattle.interface.proofs.write_interface.Goals as goal
 

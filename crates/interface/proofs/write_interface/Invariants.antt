@@ -1,12 +1,7 @@
--- The interface. Invariant: storing the components left makes of the output now what storing all makes of it at first, at most
--- 3,264 bytes a component.
+-- Storing the components left makes of the output now what storing all makes of it at first, at most 592 bytes a component.
 use Rattle.interface.proofs.WriteLaws.{Writing}
 use Rattle.interface.proofs.InterfaceLaws.{row_bytes_at}
-use Prim.Native.Nat.{◌-◌}
 use Rattle.interface.proofs.write_interface.Given as goal
 
 abbrev pub invariant-loop-component : goal.invariant-loop-component
 invariant-loop-component l = Writing (row_bytes_at l.table) 592 l.components l.initial.out 0 l.out l.next l.component
-
-abbrev pub decreases-loop-component : goal.decreases-loop-component
-decreases-loop-component l = l.components - l.component
