@@ -1,5 +1,4 @@
--- The components, one after another, each compared with those before it. The invariant: none has shared so far, so that those left decide
--- (`Comparing`). The measure: how many components are left.
+-- A component that shares with one before it.
 use Rattle.sharing.proofs.SumSteps.{compare_steps}
 use Rattle.sharing.proofs.any_shared.Goals as goal
 

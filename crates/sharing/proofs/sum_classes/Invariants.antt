@@ -1,11 +1,6 @@
--- The components, one after another. The invariant: what is left to join makes of the sums now what all of it makes of them at first, and
--- the keys so far are those of the rows (`Summing`). The measure: how many components are left.
-use Prim.Native.Nat.{◌-◌}
+-- What is left to join makes of the sums now what all of it makes of them at first, and the keys so far are those of the rows.
 use Rattle.sharing.proofs.SumSteps.{Summing}
 use Rattle.sharing.proofs.sum_classes.Given as goal
 
 abbrev pub invariant-loop-component : goal.invariant-loop-component
 invariant-loop-component l = Summing l.initial.sums l.table l.components l.sums l.keys l.component
-
-abbrev pub decreases-loop-component : goal.decreases-loop-component
-decreases-loop-component l = l.components - l.component
