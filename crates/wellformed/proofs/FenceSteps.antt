@@ -21,34 +21,34 @@ use Rattle.wellformed.specs.Rows.{heads_in, below_in, kept_in, all_kept, fence_o
 use Rattle.policy.specs.declared.Node.{Node}
 
 -- One group more is marked.
-mark_one : (marks : List ℕ) (g h : ℕ) → g < length marks → is_marked (set marks g 1) h ≡ (eqb g h || is_marked marks h)
+mark_one : (marks : List Bool) (g h : ℕ) → g < length marks → is_marked (set marks g true) h ≡ (eqb g h || is_marked marks h)
 unfolding is_marked
 mark_one marks g h k = go (eqb g h) refl
   where
-    go : (t : Bool) → eqb g h ≡ t → not (eqb (get_or (set marks g 1) h 0) 0) ≡ (t || not (eqb (get_or marks h 0) 0))
-    go true e = rw (← eqb-true g h e, get_or-set_same marks g 1 0 k)
-    go false e = rw (get_or-set_other marks g h 1 0 (λ z. eqb-false g h e (sym z)))
+    go : (t : Bool) → eqb g h ≡ t → get_or (set marks g true) h false ≡ (t || get_or marks h false)
+    go true e = rw (← eqb-true g h e, get_or-set_same marks g true false k)
+    go false e = rw (get_or-set_other marks g h true false (λ z. eqb-false g h e (sym z)))
 
-none_marked : (h : ℕ) → h < 64 → is_marked (replicate 64 0) h ≡ false
+none_marked : (h : ℕ) → h < 64 → is_marked (replicate 64 false) h ≡ false
 unfolding is_marked
-none_marked h k = rw (get_or-replicate {A = ℕ} 64 h 0 0 k)
+none_marked h k = rw (get_or-replicate {A = Bool} 64 h false false k)
 
 -- The groups at and below a row are the marked ones and those from the i-th row on.
-pub record MarksLeft (nodes marks : List ℕ) (row to i : ℕ) : Type 0 where
+pub record MarksLeft (nodes : List ℕ) (marks : List Bool) (row to i : ℕ) : Type 0 where
   pub long : length marks ≡ 64
   pub same : (c : List ℕ) (h : ℕ) → h < 64
       → (is_marked marks h || member h (groups_at (heads_in (below_in (node_at nodes row).depth (flats c nodes i (to - i))))))
       ≡ member h (fence_of (flats c nodes row (to - row)))
 
 pub marks_start : (nodes : List ℕ) (row to : ℕ) (n : Node) → row < to → n ≡ node_at nodes row
-    → MarksLeft nodes (set (replicate 64 0) n.group 1) row to (row + 1)
+    → MarksLeft nodes (set (replicate 64 false) n.group true) row to (row + 1)
 unfolding fence_of flat_of member
 marks_start nodes row to n h e = record {
-  long = length-set (replicate 64 0) n.group 1;
-  same = λ c g k. rw (flats_more c nodes row to h, ← e, mark_one (replicate 64 0) n.group g (group_small nodes row n e), none_marked g k, or-false);
+  long = length-set (replicate 64 false) n.group true;
+  same = λ c g k. rw (flats_more c nodes row to h, ← e, mark_one (replicate 64 false) n.group g (group_small nodes row n e), none_marked g k, or-false);
 }
 
-module _ (nodes marks : List ℕ) (row to i : ℕ) (s : MarksLeft nodes marks row to i) where
+module _ (nodes : List ℕ) (marks : List Bool) (row to i : ℕ) (s : MarksLeft nodes marks row to i) where
   abbrev Whole : Type 0
   Whole = (c : List ℕ) (h : ℕ) → h < 64 → is_marked marks h ≡ member h (fence_of (flats c nodes row (to - row)))
 
@@ -63,10 +63,10 @@ module _ (nodes marks : List ℕ) (row to i : ℕ) (s : MarksLeft nodes marks ro
         let z = rw (flats_more c nodes i to h, ← e, ← f, le-ltb n.depth m.depth k) at (s.same c g l) in
         sym (or-false (is_marked marks g)) ∙ z
 
-    pub marks_next : n.depth < m.depth → MarksLeft nodes (set marks m.group 1) row to (i + 1)
+    pub marks_next : n.depth < m.depth → MarksLeft nodes (set marks m.group true) row to (i + 1)
     unfolding below_in flat_of heads_in groups_at member
     marks_next k = record {
-      long = length-set marks m.group 1 ∙ s.long;
+      long = length-set marks m.group true ∙ s.long;
       same = λ c g l.
           let deeper : (node_at nodes row).depth < m.depth = rw e at k in
           let z = rw (flats_more c nodes i to h, ← f, lt-ltb (node_at nodes row).depth m.depth deeper) at (s.same c g l) in
@@ -78,13 +78,13 @@ module _ (nodes marks : List ℕ) (row to i : ℕ) (s : MarksLeft nodes marks ro
         swap false b d = refl
 
 -- Whether all items' groups are marked is whether those of the items from the i-th on are.
-pub record ListLeft (c marks : List ℕ) (at n i : ℕ) : Type 0 where
+pub record ListLeft (c : List ℕ) (marks : List Bool) (at n i : ℕ) : Type 0 where
   pub same : all_marked marks (listed_groups (items_at n c at)) ≡ all_marked marks (listed_groups (items_at (n - i) c (at + 3 * i)))
 
-pub list_start : (c marks : List ℕ) (at n : ℕ) → ListLeft c marks at n 0
+pub list_start : (c : List ℕ) (marks : List Bool) (at n : ℕ) → ListLeft c marks at n 0
 list_start c marks at n = record { same = rw (items_all c n at) }
 
-module _ (c marks : List ℕ) (at n i : ℕ) (s : ListLeft c marks at n i) where
+module _ (c : List ℕ) (marks : List Bool) (at n i : ℕ) (s : ListLeft c marks at n i) where
   pub list_end : n ≤ i → true ≡ all_marked marks (listed_groups (items_at n c at))
   unfolding all_marked listed_groups every
   list_end h = rw (items_none c n at i h) at (sym s.same)
@@ -94,27 +94,27 @@ module _ (c marks : List ℕ) (at n i : ℕ) (s : ListLeft c marks at n i) where
     unfolding all_marked listed_groups every
     list_large k = sym (rw (items_more c n at i h, ← e, le-ltb g 64 k) at s.same)
 
-    pub list_unmarked : g < 64 → get_or marks g 0 ≡ 0 → false ≡ all_marked marks (listed_groups (items_at n c at))
+    pub list_unmarked : g < 64 → not (get_or marks g false) ≡ true → false ≡ all_marked marks (listed_groups (items_at n c at))
     unfolding all_marked listed_groups every is_marked
-    list_unmarked l k = sym (rw (items_more c n at i h, ← e, lt-ltb g 64 l, k) at s.same)
+    list_unmarked l k = sym (rw (items_more c n at i h, ← e, lt-ltb g 64 l, not-true (get_or marks g false) k) at s.same)
 
-    pub list_next : g < 64 → (get_or marks g 0 ≡ 0 → ⊥) → ListLeft c marks at n (i + 1)
+    pub list_next : g < 64 → not (get_or marks g false) ≡ false → ListLeft c marks at n (i + 1)
     unfolding all_marked listed_groups every is_marked
-    list_next l k = record { same = rw (items_more c n at i h, ← e, lt-ltb g 64 l, ne_eqb (get_or marks g 0) 0 k) at s.same }
+    list_next l k = record { same = rw (items_more c n at i h, ← e, lt-ltb g 64 l, not-false (get_or marks g false) k) at s.same }
 
 -- Whether every group disclosed to below a row is marked is whether those of the rows from the i-th on are.
-pub record KeptLeft (c nodes marks : List ℕ) (row to i : ℕ) : Type 0 where
+pub record KeptLeft (c nodes : List ℕ) (marks : List Bool) (row to i : ℕ) : Type 0 where
   pub same : all_marked marks (disclosed_to (heads_in (below_in (node_at nodes row).depth (flats c nodes (row + 1) (to - (row + 1))))))
       ≡ all_marked marks (disclosed_to (heads_in (below_in (node_at nodes row).depth (flats c nodes i (to - i)))))
 
-pub kept_start : (c nodes marks : List ℕ) (row to : ℕ) → KeptLeft c nodes marks row to (row + 1)
+pub kept_start : (c nodes : List ℕ) (marks : List Bool) (row to : ℕ) → KeptLeft c nodes marks row to (row + 1)
 kept_start c nodes marks row to = record { same = refl }
 
-marked_append : (marks l m : List ℕ) → all_marked marks (l ++ m) ≡ (all_marked marks l && all_marked marks m)
+marked_append : (marks : List Bool) (l m : List ℕ) → all_marked marks (l ++ m) ≡ (all_marked marks l && all_marked marks m)
 unfolding all_marked
 marked_append marks l m = every_append (λ h. ltb h 64 && is_marked marks h) l m
 
-module _ (c nodes marks : List ℕ) (row to i : ℕ) (s : KeptLeft c nodes marks row to i) where
+module _ (c nodes : List ℕ) (marks : List Bool) (row to i : ℕ) (s : KeptLeft c nodes marks row to i) where
   abbrev kept_below : ℕ → Bool
   kept_below k = all_marked marks (disclosed_to (heads_in (below_in (node_at nodes row).depth (flats c nodes (k + 1) (to - (k + 1))))))
 
@@ -164,7 +164,7 @@ module _ (c nodes : List ℕ) (row to : ℕ) (n : Node) (e : n ≡ node_at nodes
   unfolding kept_in flat_of permissions_of
   keeps_free f = rw (← e, ← k, f)
 
-  module _ (h : row < to) (f : b ≡ true) (marks : List ℕ)
+  module _ (h : row < to) (f : b ≡ true) (marks : List Bool)
       (m : (c : List ℕ) (g : ℕ) → g < 64 → is_marked marks g ≡ member g (fence_of (flats c nodes row (to - row)))) where
     fence : List ℕ
     fence = (node_at nodes row).group ∷ groups_at (heads_in (below_in (node_at nodes row).depth (flats c nodes (row + 1) (to - (row + 1)))))

@@ -1,16 +1,20 @@
 -- Questions 13 and 14 over the rows of a tree, row by row: the groups on the way down are kept by depth, and for each group the row
 -- after its last node. To compare a node with the last of its group is to compare it with all before it, since those are all the same.
-use Prim.Native.Nat.{ℕ, zero, suc, ◌+◌, ◌-◌, ◌%◌, ◌<◌, ◌≤◌}
+use Prim.Native.Nat.{ℕ, zero, suc, ◌+◌, ◌-◌, ◌<◌, ◌≤◌}
 use mathlib.Core.Bool.{Bool, true, false, cond, not, ◌&&◌, ◌||◌, and-true}
 use mathlib.Core.List.{List, [], ◌∷◌, ◌++◌}
 use mathlib.Core.Path.{◌≡◌, refl, sym, ◌∙◌}
-use native.Mathlib.Nat.{mod-eq_of_lt}
 use native.Mathlib.Numerals.{add-one, sub-one}
 use native.Mathlib.Omega.{arith}
 use borrow.Author.Tests.{not-true, not-false, eq-eqb, ne_eqb, eqb-true, eqb-false}
 use lib.Dec.{eqb}
 use lib.ListN.{length, get_or, take, set, replicate, length-set, get_or-replicate}
 use lib.Seq.{get_or-set_same, get_or-set_other}
+use Rattle.std.specs.Prelude.{Option, None, Some}
+use Rattle.std.specs.Option.{is_some}
+use Rattle.std.specs.List.{list_any}
+use Rattle.reading.specs.Told.{number_of, numbered}
+use Rattle.reading.specs.declared.Question.{Question}
 use Rattle.reading.specs.Forms.{member}
 use Rattle.inference.specs.Lists.{every}
 use Rattle.policy.proofs.NodeLaws.{node_steps, group_small}
@@ -20,7 +24,9 @@ use Rattle.policy.specs.WellFormed.{same_permissions, agree, is_new, is_same, fa
 use Rattle.policy.specs.Rows.{node_at, permissions_of, flat_of, flats}
 use Rattle.policy.specs.declared.Node.{Node}
 use Rattle.wellformed.specs.Rows.{met_rows, heads_fault, same_as_last}
+use Rattle.wellformed.specs.Faults.{failed}
 use Rattle.wellformed.proofs.AgreeSteps.{permissions_equal}
+use Rattle.wellformed.proofs.KindSteps.{found_among}
 use Rattle.inference.proofs.EveryLaws.{every_append}
 
 -- 14 against the last node.
@@ -35,17 +41,32 @@ one_before c nodes zero p n r h e k = absurd (h refl)
 one_before c nodes (suc row) p n r h e k = k ∙ rw (e, sub-one (suc row))
 
 -- At one node.
-pub fault_14 : (same fresh : Bool) → not same ≡ true → 14 ≡ fault_of same fresh
-unfolding fault_of
+pub fault_14 : (same fresh : Bool) → not same ≡ true → Some 14 ≡ failed (fault_of same fresh)
+unfolding fault_of failed
 fault_14 same fresh h = rw (not-true same h)
 
-pub fault_none : (same fresh : Bool) → not same ≡ false → fresh ≡ true → 0 ≡ fault_of same fresh
-unfolding fault_of
+pub fault_none : (same fresh : Bool) → not same ≡ false → fresh ≡ true → None ≡ failed (fault_of same fresh)
+unfolding fault_of failed
 fault_none same fresh h k = rw (not-false same h, k)
 
-pub fault_13 : (same fresh : Bool) → not same ≡ false → fresh ≡ false → 13 ≡ fault_of same fresh
-unfolding fault_of
+pub fault_13 : (same fresh : Bool) → not same ≡ false → fresh ≡ false → Some 13 ≡ failed (fault_of same fresh)
+unfolding fault_of failed
 fault_13 same fresh h k = rw (not-false same h, k)
+
+-- Whether a question fails is whether its number is not 0.
+pub some_fails : (fault : Option Question) (n : ℕ) → numbered fault ≡ failed n → is_some fault ≡ true → n ≡ 0 → ⊥
+unfolding failed
+some_fails None n e h k = let z : ◌≡◌ {A = ℕ} 0 1 = cc in omega arith
+some_fails (Some q) n e h k = let y : Some (number_of q) ≡ None = rw k at e in let z : ◌≡◌ {A = ℕ} 0 1 = cc in omega arith
+
+pub none_fails : (fault : Option Question) (n : ℕ) → numbered fault ≡ failed n → is_some fault ≡ false → n ≡ 0
+unfolding failed
+none_fails (Some q) n e h = let z : ◌≡◌ {A = ℕ} 0 1 = cc in absurd (omega arith)
+none_fails None n e h = go (eqb n 0) refl e
+  where
+    go : (t : Bool) → eqb n 0 ≡ t → ◌≡◌ {A = Option ℕ} None (cond t None (Some n)) → n ≡ 0
+    go true k l = eqb-true n 0 k
+    go false k l = let z : ◌≡◌ {A = ℕ} 0 1 = cc in absurd (omega arith)
 
 -- All nodes before are answered for by `last`.
 abbrev pub Answers : List ℕ → List ℕ → List Head → List ℕ → Type 0
@@ -103,9 +124,10 @@ heads_start c nodes start to = record {
 }
 
 module _ (c nodes : List ℕ) (start to : ℕ) (last groups : List ℕ) (i : ℕ) (s : HeadsLeft c nodes start to last groups i) where
-  pub heads_end : to ≤ i → 0 ≡ heads_fault (replicate 8 0) [] (flats c nodes start (to - start))
-  unfolding heads_fault met_rows first_fault
-  heads_end h = rw (flats_none c nodes i to h) at (sym s.same)
+  pub heads_end : to ≤ i → None ≡ failed (heads_fault (replicate 8 0) [] (flats c nodes start (to - start)))
+  unfolding heads_fault met_rows first_fault failed
+  heads_end h =
+      let z : heads_fault (replicate 8 0) [] (flats c nodes start (to - start)) ≡ 0 = rw (flats_none c nodes i to h) at s.same in rw z
 
   pub last_row : (g : ℕ) → g < 64 → i < to → to ≤ 64 → get_or last g 0 ≤ 64
   last_row g h k l = omega (arith, s.rows g h)
@@ -117,20 +139,21 @@ module _ (c nodes : List ℕ) (start to : ℕ) (last groups : List ℕ) (i : ℕ
         s.answers (node_at nodes i).group (permissions_of c (node_at nodes i).permissions) (group_small nodes i (node_at nodes i) refl)
         ∙ sym (rw e at a)
 
-    module _ (b : Bool) (m : b ≡ member n.group (take n.depth groups)) (fault : ℕ) (f : fault ≡ fault_of r (not b)) where
+    module _ (b : Bool) (k : b ≡ list_any (λ y. eqb y n.group) (take n.depth groups)) (fault : Option Question) (f : numbered fault ≡ failed (fault_of r (not b))) where
       fault_is : heads_fault (replicate 8 0) [] (flats c nodes start (to - start))
-          ≡ cond (eqb fault 0)
-          (heads_fault (set groups n.depth n.group) (s.earlier ++ ((flat_of c n).head ∷ [])) (flats c nodes (i + 1) (to - (i + 1)))) fault
+          ≡ cond (eqb (fault_of r (not b)) 0)
+          (heads_fault (set groups n.depth n.group) (s.earlier ++ ((flat_of c n).head ∷ [])) (flats c nodes (i + 1) (to - (i + 1)))) (fault_of r (not b))
       unfolding heads_fault met_rows first_fault node_fault is_same is_new flat_of
-      fault_is = rw (flats_more c nodes i to h, same_is, ← e, ← m, ← f) at s.same
+      fault_is = let m : b ≡ member n.group (take n.depth groups) = k ∙ found_among n.group (take n.depth groups) in
+          rw (flats_more c nodes i to h, same_is, ← e, ← m) at s.same
 
-      pub heads_fail : (fault ≡ 0 → ⊥) → fault ≡ heads_fault (replicate 8 0) [] (flats c nodes start (to - start))
-      heads_fail k = sym (rw (ne_eqb fault 0 k) at fault_is)
+      pub heads_fail : (d : Bool) → d ≡ is_some fault → d ≡ true → numbered fault ≡ failed (heads_fault (replicate 8 0) [] (flats c nodes start (to - start)))
+      heads_fail d o l = rw (rw (ne_eqb (fault_of r (not b)) 0 (some_fails fault (fault_of r (not b)) f (sym o ∙ l))) at fault_is) f
 
-      same_here : (t : Bool) → fault ≡ fault_of t (not b) → fault ≡ 0 → t ≡ true
+      same_here : (t u : Bool) → fault_of t u ≡ 0 → t ≡ true
       unfolding fault_of
-      same_here true x k = refl
-      same_here false x k = absurd (omega arith)
+      same_here true u l = refl
+      same_here false u l = absurd (omega arith)
 
       rows_next : (g : ℕ) → g < 64 → get_or (set last n.group (i + 1)) g 0 ≤ i + 1
       rows_next g x = go (eqb n.group g) refl
@@ -139,17 +162,16 @@ module _ (c nodes : List ℕ) (start to : ℕ) (last groups : List ℕ) (i : ℕ
           go true z = rw (← eqb-true n.group g z, get_or-set_same last n.group (i + 1) 0 (omega (arith, group_small nodes i n e, s.long))) (omega arith)
           go false z = rw (get_or-set_other last n.group g (i + 1) 0 (λ y. eqb-false n.group g z (sym y))) (omega (arith, s.rows g x))
 
-      pub heads_next : fault ≡ 0
-          → HeadsLeft c nodes start to (set last n.group (i + 1)) (set groups n.depth (n.group % 65536)) (i + 1)
-      heads_next k = rw (mod-eq_of_lt small) (record {
+      pub heads_next : (d : Bool) → d ≡ is_some fault → d ≡ false → HeadsLeft c nodes start to (set last n.group (i + 1)) (set groups n.depth n.group) (i + 1)
+      heads_next d o l = record {
         long = length-set last n.group (i + 1) ∙ s.long;
         earlier = s.earlier ++ ((flat_of c n).head ∷ []);
-        answers = rw e (answers_next c nodes s.earlier last i s.long s.answers (same_is ∙ same_here r f k));
+        answers = rw e (answers_next c nodes s.earlier last i s.long s.answers (same_is ∙ same_here r (not b) passes));
         rows = rows_next;
-        same = rw (eq-eqb fault 0 k) at fault_is;
-      })
+        same = rw (eq-eqb (fault_of r (not b)) 0 passes) at fault_is;
+      }
         where
-          small : n.group < 65536
-          small = omega (arith, group_small nodes i n e)
+          passes : fault_of r (not b) ≡ 0
+          passes = none_fails fault (fault_of r (not b)) f (sym o ∙ l)
 
 pub ruleset head_steps = (node_steps, none_before, one_before, heads_start, heads_end, last_row, fault_14, fault_none, fault_13, heads_fail, heads_next)

@@ -1,55 +1,52 @@
 -- Question 12, kind by kind: a kind is distinct from those after it, and then those from each other.
-use Prim.Native.Nat.{ℕ, ◌+◌, ◌<◌, ◌≤◌}
-use mathlib.Core.Bool.{Bool, true, false}
-use mathlib.Core.List.{List}
-use mathlib.Core.Path.{◌≡◌, refl, sym}
-use borrow.Author.Tests.{eq-eqb, ne_eqb}
-use lib.ListN.{length, take, drop, get_or}
+use Prim.Native.Nat.{ℕ, ◌+◌, ◌-◌, ◌<◌, ◌≤◌}
+use mathlib.Core.Bool.{Bool, true, false, not, ◌&&◌, ◌||◌}
+use mathlib.Core.List.{List, [], ◌∷◌}
+use mathlib.Core.Path.{◌≡◌, refl, sym, ap}
+use native.Mathlib.Numerals.{add-one}
+use native.Mathlib.Omega.{arith}
+use lib.Dec.{eqb}
+use lib.ListN.{length, take, drop, get_or, drop_of_length-le, length-drop}
+use lib.Seq.{drop-cons, take_all}
+use Rattle.std.specs.List.{list_any}
 use Rattle.reading.proofs.Tests.{tests}
 use Rattle.reading.specs.Forms.{member}
-use Rattle.policy.proofs.RowLaws.{kinds_more, kinds_none}
 use Rattle.policy.specs.WellFormed.{distinct}
 
--- Whether the t-th kind stands after the t-th is whether it stands from the i-th on.
-pub record KindLeft (kinds : List ℕ) (len t i : ℕ) : Type 0 where
-  pub same : member (get_or kinds t 0) (drop (t + 1) (take len kinds)) ≡ member (get_or kinds t 0) (drop i (take len kinds))
-
-pub kind_start : (kinds : List ℕ) (len t : ℕ) → KindLeft kinds len t (t + 1)
-kind_start kinds len t = record { same = refl }
-
-module _ (kinds : List ℕ) (len t i : ℕ) (s : KindLeft kinds len t i) where
-  pub kind_absent : len ≤ i → false ≡ member (get_or kinds t 0) (drop (t + 1) (take len kinds))
-  unfolding member
-  kind_absent h = rw (kinds_none kinds len i h) at (sym s.same)
-
-  module _ (l : length kinds ≡ 16) (few : len ≤ 16) (h : i < len) where
-    pub kind_found : get_or kinds i 0 ≡ get_or kinds t 0 → true ≡ member (get_or kinds t 0) (drop (t + 1) (take len kinds))
-    unfolding member
-    kind_found e = sym (rw (kinds_more kinds len i l few h, eq-eqb (get_or kinds i 0) (get_or kinds t 0) e) at s.same)
-
-    pub kind_next : (get_or kinds i 0 ≡ get_or kinds t 0 → ⊥) → KindLeft kinds len t (i + 1)
-    unfolding member
-    kind_next e = record { same = rw (kinds_more kinds len i l few h, ne_eqb (get_or kinds i 0) (get_or kinds t 0) e) at s.same }
+-- What `contains` says.
+pub found_among : (g : ℕ) (xs : List ℕ) → list_any (λ y. eqb y g) xs ≡ member g xs
+unfolding member
+found_among g [] = refl
+found_among g (x ∷ xs) = ap (λ (b : Bool). eqb x g || b) (found_among g xs)
 
 -- Whether all kinds are distinct is whether those from the t-th on are.
-pub record KindsLeft (kinds : List ℕ) (len t : ℕ) : Type 0 where
-  pub same : distinct (take len kinds) ≡ distinct (drop t (take len kinds))
+pub record KindsLeft (kinds : List ℕ) (t : ℕ) : Type 0 where
+  pub same : distinct kinds ≡ distinct (drop t kinds)
 
-pub kinds_start : (kinds : List ℕ) (len : ℕ) → KindsLeft kinds len 0
-kinds_start kinds len = record { same = refl }
+pub kinds_start : (kinds : List ℕ) → KindsLeft kinds 0
+kinds_start kinds = record { same = refl }
 
-module _ (kinds : List ℕ) (len t : ℕ) (s : KindsLeft kinds len t) where
-  pub kinds_end : len ≤ t → true ≡ distinct (take len kinds)
+module _ (kinds : List ℕ) (t : ℕ) (s : KindsLeft kinds t) where
+  pub kinds_end : length kinds ≤ t → true ≡ distinct kinds
   unfolding distinct
-  kinds_end h = rw (kinds_none kinds len t h) at (sym s.same)
+  kinds_end h = rw (drop_of_length-le kinds {i = t} h) at (sym s.same)
 
-  module _ (l : length kinds ≡ 16) (few : len ≤ 16) (h : t < len) (b : Bool) (e : b ≡ member (get_or kinds t 0) (drop (t + 1) (take len kinds))) where
-    pub kinds_twice : b ≡ true → false ≡ distinct (take len kinds)
+  module _ (h : t < length kinds) (b : Bool) (e : b ≡ list_any (λ y. eqb y (get_or kinds t 0)) (take (length kinds - (t + 1)) (drop (t + 1) kinds))) where
+    abbrev kind : ℕ
+    kind = get_or kinds t 0
+
+    more_kinds : distinct kinds ≡ (not b && distinct (drop (t + 1) kinds))
     unfolding distinct
-    kinds_twice k = sym (rw (kinds_more kinds len t l few h, ← e, k) at s.same)
+    more_kinds =
+        let z : drop t kinds ≡ kind ∷ drop (t + 1) kinds = rw (add-one t) (drop-cons kinds t 0 h) in
+        let l : take (length kinds - (t + 1)) (drop (t + 1) kinds) ≡ drop (t + 1) kinds =
+        take_all (length kinds - (t + 1)) (drop (t + 1) kinds) (omega (arith, length-drop (t + 1) kinds)) in
+        rw (s.same, z, ← found_among kind (drop (t + 1) kinds), ← rw l at e)
 
-    pub kinds_next : b ≡ false → KindsLeft kinds len (t + 1)
-    unfolding distinct
-    kinds_next k = record { same = rw (kinds_more kinds len t l few h, ← e, k) at s.same }
+    pub kinds_twice : b ≡ true → false ≡ distinct kinds
+    kinds_twice k = sym (rw k at more_kinds)
 
-pub ruleset kind_steps = (tests, kind_start, kind_absent, kind_found, kind_next, kinds_start, kinds_end, kinds_twice, kinds_next)
+    pub kinds_next : b ≡ false → KindsLeft kinds (t + 1)
+    kinds_next k = record { same = rw k at more_kinds }
+
+pub ruleset kind_steps = (tests, kinds_start, kinds_end, kinds_twice, kinds_next)

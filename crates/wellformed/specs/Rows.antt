@@ -1,5 +1,5 @@
 -- Questions 13 to 15 over the rows of a tree, as the code asks them.
-use Rattle.std.specs.Prelude.{ℕ, zero, suc, List, [], ◌∷◌, ◌++◌, map, Bool, true, cond, not, ◌&&◌, ◌||◌, get_or, set, take, replicate, ltb, eqb}
+use Rattle.std.specs.Prelude.{ℕ, zero, suc, List, [], ◌∷◌, ◌++◌, map, Bool, true, false, cond, not, ◌&&◌, ◌||◌, get_or, set, take, ltb}
 use Rattle.reading.specs.Forms.{member}
 use Rattle.inference.specs.Lists.{every}
 use Rattle.policy.specs.Syntax.{Granted, Permissions, Head, has_bit}
@@ -45,18 +45,13 @@ unfoldable pub fence_of : List Flat → List ℕ
 fence_of [] = []
 fence_of (f ∷ later) = f.head.group ∷ groups_at (heads_in (below_in f.depth later))
 
-unfoldable pub is_marked : List ℕ → ℕ → Bool
-is_marked marks h = not (eqb (get_or marks h 0) 0)
+unfoldable pub is_marked : List Bool → ℕ → Bool
+is_marked marks h = get_or marks h false
 
 -- Are all of these groups marked?
-unfoldable pub all_marked : List ℕ → List ℕ → Bool
+unfoldable pub all_marked : List Bool → List ℕ → Bool
 all_marked marks hs = every (λ h. ltb h 64 && is_marked marks h) hs
 
 -- the groups that a list discloses to
 unfoldable pub listed_groups : List Granted → List ℕ
 listed_groups ds = map (λ d. d.group) ds
-
--- The question that a tree's rows fail, or 0. Asked 15, the fences decide, otherwise the first node that fails 13 or 14.
-unfoldable pub fault_in : ℕ → List Flat → ℕ
-fault_in question fs =
-    cond (eqb question 15) (cond (all_kept fs) 0 15) (heads_fault (replicate 8 0) [] fs)

@@ -9,60 +9,50 @@ use policy::nodes::{has_bit, node_at};
 use policy::{Permissions, Span};
 use reading::bytes::byte_in;
 
-// The groups of a node and of the nodes below it, marked by 1.
+// The groups of a node and of the nodes below it, marked.
 #[tactic(auto, using(crate::proofs::FenceSteps::fence_steps, crate::proofs::FenceSteps::marks_next))]
-fn marked(nodes: &[u16], row: usize, to: usize) -> [usize; 64]
+fn marked(nodes: &[u16], row: usize, to: usize) -> [bool; 64]
     requires { (row < to) × (to ≤ 64) }
     ensures { (c : List ℕ) (h : ℕ) → h < 64 → is_marked result h ≡ member h (fence_of (flats c nodes.now row (to - row))) }
 {
-    let mut marks = [0usize; 64];
+    let mut marks = [false; 64];
     let node = node_at(nodes, row);
-    let own = node.group;
-    marks[own] = 1;
-    let mut i = row + 1;
-    while i < to {
+    marks[node.group] = true;
+    for i in row + 1..to {
         let below = node_at(nodes, i);
         if below.depth <= node.depth {
             return marks;
         }
-        let group = below.group;
-        marks[group] = 1;
-        i += 1;
+        marks[below.group] = true;
     }
     marks
 }
 
 // Is each group of a list marked?
 #[tactic(auto, using(crate::proofs::FenceSteps::fence_steps, crate::proofs::FenceSteps::list_next))]
-fn list_marked(c: &[u8], p: Permissions, marks: [usize; 64]) -> bool
+fn list_marked(c: &[u8], p: Permissions, marks: &[bool; 64]) -> bool
     requires { (p.list < 8192) × (p.count < 128) }
-    ensures { result ≡ all_marked marks (listed_groups (items_at p.count c.now p.list)) }
+    ensures { result ≡ all_marked marks.now (listed_groups (items_at p.count c.now p.list)) }
 {
-    let mut i: usize = 0;
-    while i < p.count {
+    for i in 0..p.count {
         let group = byte_in(c, p.list + 3 * i);
-        if 64 <= group {
+        if 64 <= group || !marks[group] {
             return false;
         }
-        if marks[group] == 0 {
-            return false;
-        }
-        i += 1;
     }
     true
 }
 
 // Is every group disclosed to by the nodes below a row marked?
 #[tactic(auto, using(crate::proofs::FenceSteps::fence_steps, crate::proofs::FenceSteps::kept_next))]
-fn kept_below(c: &[u8], nodes: &[u16], row: usize, to: usize, marks: [usize; 64]) -> bool
+fn kept_below(c: &[u8], nodes: &[u16], row: usize, to: usize, marks: &[bool; 64]) -> bool
     requires { (row < to) × (to ≤ 64) }
-    ensures { result ≡ all_marked marks
+    ensures { result ≡ all_marked marks.now
         (disclosed_to (heads_in (below_in (node_at nodes.now row).depth
         (flats c.now nodes.now (row + 1) (to - (row + 1)))))) }
 {
     let depth = node_at(nodes, row).depth;
-    let mut i = row + 1;
-    while i < to {
+    for i in row + 1..to {
         let below = node_at(nodes, i);
         if below.depth <= depth {
             return true;
@@ -70,7 +60,6 @@ fn kept_below(c: &[u8], nodes: &[u16], row: usize, to: usize, marks: [usize; 64]
         if !list_marked(c, below.permissions, marks) {
             return false;
         }
-        i += 1;
     }
     true
 }
@@ -82,25 +71,20 @@ fn keeps_within(c: &[u8], nodes: &[u16], row: usize, to: usize) -> bool
     ensures { result ≡ kept_in (flat_of c.now (node_at nodes.now row))
         (below_in (node_at nodes.now row).depth (flats c.now nodes.now (row + 1) (to - (row + 1)))) }
 {
-    if has_bit(node_at(nodes, row).permissions.map, 8) {
-        kept_below(c, nodes, row, to, marked(nodes, row, to))
-    } else {
-        true
-    }
+    !has_bit(node_at(nodes, row).permissions.map, 8)
+        || kept_below(c, nodes, row, to, &marked(nodes, row, to))
 }
 
-// 15 in one tree.
+/// Question 15 in one tree.
 #[tactic(auto, using(crate::proofs::FenceSteps::fence_steps))]
 pub fn fenced(c: &[u8], nodes: &[u16], tree: Span) -> bool
     requires { tree.to ≤ 64 }
     ensures { result ≡ all_kept (flats c.now nodes.now tree.from (tree.to - tree.from)) }
 {
-    let mut i = tree.from;
-    while i < tree.to {
-        if !keeps_within(c, nodes, i, tree.to) {
+    for row in tree.from..tree.to {
+        if !keeps_within(c, nodes, row, tree.to) {
             return false;
         }
-        i += 1;
     }
     true
 }

@@ -2,5 +2,5 @@
 use Rattle.wellformed.proofs.FenceSteps.{fence_steps}
 use Rattle.wellformed.proofs.fences.keeps_within.Goals as goal
 
-pub returns-then-has_bit : goal.returns-then-has_bit
-returns-then-has_bit c = search fence_steps
+pub returns-else-not-has_bit : goal.returns-else-not-has_bit
+returns-else-not-has_bit c = search fence_steps

@@ -1,10 +1,6 @@
 -- `list_marked`: the items that are left decide (ListLeft).
 use Rattle.wellformed.proofs.FenceSteps.{ListLeft}
-use Prim.Native.Nat.{◌≤◌, ◌-◌}
 use Rattle.wellformed.proofs.fences.list_marked.Given as goal
 
 abbrev pub invariant-loop-i : goal.invariant-loop-i
-invariant-loop-i l = (l.i ≤ l.p.count) × ListLeft l.c l.marks l.p.list l.p.count l.i
-
-abbrev pub decreases-loop-i : goal.decreases-loop-i
-decreases-loop-i l = l.p.count - l.i
+invariant-loop-i l = ListLeft l.c l.marks l.p.list l.p.count l.i

@@ -2,11 +2,14 @@
 use Rattle.wellformed.proofs.HeadSteps.{head_steps}
 use Rattle.wellformed.proofs.heads.heads_fault.Goals as goal
 
-pub loop-i-init : goal.loop-i-init
-loop-i-init c = search head_steps
+pub loop-row-init : goal.loop-row-init
+loop-row-init c = search head_steps
 
-pub returns-then-fault-ne0 : goal.returns-then-fault-ne0
-returns-then-fault-ne0 c = search head_steps
+pub returns-then-is_some : goal.returns-then-is_some
+returns-then-is_some c = search head_steps
+
+pub loop-row-preserved : goal.loop-row-preserved
+loop-row-preserved c = search head_steps
 
 pub returns : goal.returns
 returns c = search head_steps

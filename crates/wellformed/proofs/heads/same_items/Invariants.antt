@@ -1,10 +1,6 @@
 -- `same_items`: the items that are left decide (ItemsLeft).
 use Rattle.wellformed.proofs.AgreeSteps.{ItemsLeft}
-use Prim.Native.Nat.{◌≤◌, ◌-◌}
 use Rattle.wellformed.proofs.heads.same_items.Given as goal
 
 abbrev pub invariant-loop-i : goal.invariant-loop-i
-invariant-loop-i l = (l.i ≤ l.count) × ItemsLeft l.c l.a l.b l.count l.i
-
-abbrev pub decreases-loop-i : goal.decreases-loop-i
-decreases-loop-i l = l.count - l.i
+invariant-loop-i l = ItemsLeft l.c l.a l.b l.count l.i

@@ -2,8 +2,8 @@
 use Rattle.wellformed.proofs.PassSteps.{fault_steps}
 use Rattle.wellformed.proofs.questions.policy_fault.Goals as goal
 
-pub returns-then-fault-ne0 : goal.returns-then-fault-ne0
-returns-then-fault-ne0 c = search fault_steps
+pub returns-then-all_fenced : goal.returns-then-all_fenced
+returns-then-all_fenced c = search fault_steps
 
-pub returns-then-fence-ne0 : goal.returns-then-fence-ne0
-returns-then-fence-ne0 c = search fault_steps
+pub returns-else-all_fenced : goal.returns-else-all_fenced
+returns-else-all_fenced c = search fault_steps
