@@ -1,5 +1,5 @@
 // What stands at a place: the form's code byte (questions 2, 4 and 5), then its fields (questions 2, 4 and 6).
-ghost use Rattle.std.specs.Prelude.{◌≡◌, ◌&&◌, ltb};
+ghost use Rattle.std.specs.Prelude.{◌≡◌, ◌&&◌, ltb, length};
 ghost use Rattle.reading.specs.Read.{got, refused};
 ghost use Rattle.reading.specs.Forms.{
   limited,
@@ -40,7 +40,7 @@ fn no_form(at: usize) -> Result<Place, Refusal>
 }
 
 // A form without fields.
-#[tactic(auto, using(crate::proofs::Steps::steps))]
+#[tactic(auto, using(crate::proofs::FormSteps::form_steps))]
 fn bare(form: Form, at: usize, next: usize, room: bool) -> Result<Place, Refusal>
     ensures { told result ≡ limited room at (got form next) }
 {
@@ -58,11 +58,25 @@ impl Spot {
     {
         0 < self.nest && self.names < 64
     }
+
+    // Is there room for one more group in the path?
+    fn deepens(self, path: Path) -> bool
+        ensures { result ≡ (ltb 0 self.nest && ltb (length (path_of path)) 8) }
+    {
+        0 < self.nest && path.has_room()
+    }
+
+    // Is there room for one more group in the path, and for one more component?
+    fn places(self, path: Path, components: usize) -> bool
+        ensures { result ≡ ((ltb 0 self.nest && ltb (length (path_of path)) 8) && ltb components 32) }
+    {
+        self.deepens(path) && components < 32
+    }
 }
 
 impl Source<'_> {
     // A new name: its type.
-    #[tactic(auto, using(crate::proofs::Steps::steps), unfolding(crate::specs::Forms::new_form_in))]
+    #[tactic(auto, using(crate::proofs::FormSteps::form_steps))]
     fn new_form(self, at: usize, next: usize, room: bool) -> Result<Place, Refusal>
         ensures { told result ≡ limited room at (new_form_in self.entry.dialect self.entry.bytes.now next) }
     {
@@ -80,7 +94,7 @@ impl Source<'_> {
     }
 
     // An input: the channel, then the type of the bound name.
-    #[tactic(auto, using(crate::proofs::Steps::steps), unfolding(crate::specs::Forms::input_form_in))]
+    #[tactic(auto, using(crate::proofs::FormSteps::form_steps))]
     fn input_form(self, at: usize, next: usize, room: bool) -> Result<Place, Refusal>
         ensures { told result ≡ limited room at (input_form_in self.entry.dialect self.entry.bytes.now next) }
     {
@@ -105,7 +119,7 @@ impl Source<'_> {
     }
 
     // An output: the channel, then the name sent.
-    #[tactic(auto, using(crate::proofs::Steps::steps), unfolding(crate::specs::Forms::output_form))]
+    #[tactic(auto, using(crate::proofs::FormSteps::form_steps))]
     fn output_form(self, at: usize, next: usize, room: bool) -> Result<Place, Refusal>
         ensures { told result ≡ limited room at (output_form self.entry.bytes.now next) }
     {
@@ -149,7 +163,7 @@ impl Source<'_> {
     }
 
     // A group: one that is new to the path.
-    #[tactic(auto, using(crate::proofs::Steps::steps), unfolding(crate::specs::Forms::group_form_in))]
+    #[tactic(auto, using(crate::proofs::FormSteps::form_steps))]
     fn group_form(self, at: usize, next: usize, path: Path, room: bool) -> Result<Place, Refusal>
         ensures { told result ≡ limited room at (group_form_in self.entry.dialect self.entry.bytes.now next (path_of path)) }
     {
@@ -180,7 +194,7 @@ impl Source<'_> {
     }
 
     // A component: its own fields, the group, which is new to the path, and then the purpose.
-    #[tactic(auto, using(crate::proofs::Steps::steps), unfolding(crate::specs::Forms::component_form_in))]
+    #[tactic(auto, using(crate::proofs::FormSteps::form_steps))]
     fn component_form(
         self,
         at: usize,
@@ -211,7 +225,7 @@ impl Source<'_> {
     }
 
     /// What stands at a place of a process, with the permitted nesting that is left and the number of names in scope.
-    #[tactic(auto, using(crate::proofs::FormSteps::process_forms_lem), unfolding(crate::specs::Forms::process_at_in))]
+    #[tactic(auto, using(crate::proofs::FormSteps::process_forms_lem))]
     pub fn process_at(self, spot: Spot) -> Result<Place, Refusal>
         ensures { told result ≡ process_at_in self.entry.dialect self.entry.bytes.now spot.at spot.nest spot.names }
     {
@@ -235,7 +249,7 @@ impl Source<'_> {
     }
 
     /// What stands at a place of a system; beside a process's limits, the path so far and the number of components so far.
-    #[tactic(auto, using(crate::proofs::FormSteps::system_forms_lem), unfolding(crate::specs::Forms::system_at_in))]
+    #[tactic(auto, using(crate::proofs::FormSteps::system_forms_lem))]
     pub fn system_at(self, spot: Spot, path: Path, components: usize) -> Result<Place, Refusal>
         ensures { told result ≡ system_at_in self.entry.dialect self.entry.bytes.now spot.at spot.nest spot.names (path_of path) components }
     {
@@ -247,14 +261,12 @@ impl Source<'_> {
         let next = byte.next;
         let level = 0 < spot.nest;
         let binder = spot.binds();
-        let deeper = level && path.has_room();
-        let another = deeper && components < 32;
         match byte.value {
             0 => bare(Form::Nil, at, next, level),
             1 => bare(Form::Par, at, next, level),
-            2 => self.group_form(at, next, path, deeper),
+            2 => self.group_form(at, next, path, spot.deepens(path)),
             3 => self.new_form(at, next, binder),
-            4 => self.component_form(at, next, path, another),
+            4 => self.component_form(at, next, path, spot.places(path, components)),
             _ => no_form(at),
         }
     }
