@@ -1,5 +1,5 @@
 -- What each return and turn of the walk has to show, over plain values.
-use Prim.Native.Nat.{ℕ, zero, suc, ◌+◌, ◌-◌, ◌*◌, ◌<◌, ◌≤◌}
+use Prim.Native.Nat.{ℕ, zero, suc, ◌+◌, ◌-◌, ◌*◌, ◌<◌, ◌≤◌, min}
 use mathlib.Core.Bool.{Bool, true, false, cond, not, ◌&&◌}
 use mathlib.Core.List.{List, [], ◌++◌}
 use mathlib.Core.Path.{◌≡◌, refl, sym, ◌∙◌}
@@ -55,14 +55,10 @@ form_some x y z =
     either (eqb x 2) _ _ (omega arith) (either (eqb x 3) _ _ (omega arith) (either (eqb x 4) _ _ (omega arith) (either (eqb x 5) _ _ (omega arith) (either (eqb x 6) _ _ (omega arith) (omega arith)))))
 
 -- At a place, and no more than there are.
-module _ (s : List ℕ) (at len : ℕ) (e : len ≡ form_len (get_or s at 0) (get_or s (at + 1) 0) (get_or s (at + 2) 0)) (h : at < length s) where
-  pub head_whole : len < length s - at → len ≡ head_len s at
-  unfolding head_len
-  head_whole k = omega (arith, e)
-
-  pub head_cut : length s - at ≤ len → length s - at ≡ head_len s at
-  unfolding head_len
-  head_cut k = omega (arith, e)
+pub head_is : (s : List ℕ) (at len : ℕ) → len ≡ form_len (get_or s at 0) (get_or s (at + 1) 0) (get_or s (at + 2) 0)
+    → min len (length s - at) ≡ head_len s at
+unfolding head_len
+head_is s at len e = rw e refl
 
 pub head_within : (s : List ℕ) (at : ℕ) → at < length s → (0 < head_len s at) × (at + head_len s at ≤ length s)
 unfolding head_len
@@ -70,13 +66,11 @@ head_within s at h =
     let f = form_some (get_or s at 0) (get_or s (at + 1) 0) (get_or s (at + 2) 0) in
     (omega (arith, f), omega (arith, f))
 
-pub some_is : (s : List ℕ) (at r : ℕ) → at < length s → r ≡ head_len s at → 0 < r
-some_is s at r h e = rw e (head_within s at h).0
+pub head_some : (s : List ℕ) (at len : ℕ) → at < length s → len ≡ form_len (get_or s at 0) (get_or s (at + 1) 0) (get_or s (at + 2) 0)
+    → (0 < min len (length s - at)) × (at + min len (length s - at) ≤ length s)
+head_some s at len h e = rw (head_is s at len e) (head_within s at h)
 
-pub within_is : (s : List ℕ) (at r : ℕ) → at < length s → r ≡ head_len s at → at + r ≤ length s
-within_is s at r h e = rw e (head_within s at h).1
-
-pub ruleset walk_arms = (rules, head_whole, head_cut, some_is, within_is)
+pub ruleset walk_arms = (rules, head_is, head_some)
 
 -- A purpose's bytes.
 module _ (d : Dialect) (n : ℕ) (e : n ≡ purposes_in d) where
@@ -120,22 +114,27 @@ module _ (s : List ℕ) (at code : ℕ) (e : code ≡ get_or s at 0) where
 pub ruleset states_arms = (rules, states_none, states_zero, states_another)
 
 -- Past the types of the free names: those that are left end where all do.
-pub record Starting (s : List ℕ) (at count : ℕ) : Type 0 where
-  pub whole : types_end count s at ≡ types_end (get_or s 0 0) s 1
-  pub near : at + 257 * count ≤ 65536
+pub record Starting (s : List ℕ) (at passed : ℕ) : Type 0 where
+  pub whole : types_end (get_or s 0 0 - passed) s at ≡ types_end (get_or s 0 0) s 1
+  pub near : at ≤ 1 + 257 * passed
 
-pub start_first : (s : List ℕ) (count : ℕ) → count ≡ get_or s 0 0 → count < 256 → Starting s 1 count
-start_first s count e h = record { whole = rw e; near = omega arith }
+pub start_first : (s : List ℕ) → Starting s 1 0
+start_first s = let e : get_or s 0 0 - 0 ≡ get_or s 0 0 = omega arith in record { whole = rw e refl; near = omega arith }
 
-pub start_next : (s : List ℕ) (at count b : ℕ) → Starting s at count → 0 < count → b ≡ get_or s at 0 → b < 256 → Starting s (at + (b + 2)) (count - 1)
+types_next : (s : List ℕ) (at n b : ℕ) → 0 < n → b ≡ get_or s at 0 → types_end n s at ≡ types_end (n - 1) s (at + (b + 2))
 unfolding types_end
-start_next s at zero b t h e l = absurd (omega arith)
-start_next s at (suc n) b t h e l = record { whole = rw (sub-one (suc n), e) t.whole; near = omega (arith, t.near) }
+types_next s at zero b h e = absurd (omega arith)
+types_next s at (suc n) b h e = rw (sub-one (suc n), e) refl
 
-pub start_last : (s : List ℕ) (at count : ℕ) → Starting s at count → count ≤ 0 → at ≡ system_start s
+pub start_next : (s : List ℕ) (at passed count b : ℕ) → Starting s at passed → passed < count → count ≡ get_or s 0 0 → b ≡ get_or s at 0 → b < 256
+    → Starting s (at + (b + 2)) (passed + 1)
+start_next s at passed count b t h e f l =
+    let n : get_or s 0 0 - (passed + 1) ≡ get_or s 0 0 - passed - 1 = omega arith in
+    record { whole = rw n (sym (types_next s at (get_or s 0 0 - passed) b (omega arith) f) ∙ t.whole); near = omega (arith, t.near) }
+
+pub start_last : (s : List ℕ) (at passed : ℕ) → Starting s at passed → passed ≡ get_or s 0 0 → at ≡ system_start s
 unfolding system_start types_end
-start_last s at zero t h = t.whole
-start_last s at (suc n) t h = absurd (omega arith)
+start_last s at passed t h = let z : get_or s 0 0 - passed ≡ 0 = omega arith in rw z at t.whole
 
 pub ruleset start_steps = (rules, start_first, start_next, start_last)
 

@@ -10,8 +10,8 @@ use borrow.Author.Rules.{rules}
 use mir.Syntax.{w64}
 use mir.Val.{Fits}
 use lib.Dec.{eqb, eqb-suc-zero}
-use lib.ListN.{length, take, drop, get_or, set, length-take, take-append-drop}
-use lib.Seq.{take-append_seam}
+use lib.ListN.{length, get_or, set, length-take}
+use lib.Seq.{take_all}
 use Rattle.reading.specs.Told.{path_of}
 use Rattle.reading.specs.declared.Path.{Path}
 use Rattle.inference.specs.Lists.{gather}
@@ -181,19 +181,12 @@ module _ (o : List ℕ) (at : ℕ) where
   pub path_first : (l : List ℕ) (n : ℕ) → Writing (one_at l) 1 n o at o at 0
   path_first l n = write_first (one_at l) 1 n o at (λ j. omega arith)
 
-  pub path_last : {o₁ : List ℕ} {n m i : ℕ} (p : Path) → Writing (one_at p.groups) 1 n o at o₁ m i → n ≤ i → n ≡ length (path_of p)
-      → Stored o o₁ at (path_of p) m
-  path_last {o₁} {n} {m} p w h e = rw whole at (write_last w h)
-    where
-      own : take (length (path_of p)) p.groups ≡ path_of p
-      own = rw (take-append-drop p.len p.groups) at (take-append_seam (path_of p) (drop p.len p.groups))
+  pub path_last : {o₁ : List ℕ} {m i : ℕ} (l : List ℕ) → Writing (one_at l) 1 (length l) o at o₁ m i → length l ≤ i → Stored o o₁ at l m
+  path_last l w h = rw (ones_are l (length l) (omega arith), take_all (length l) l (omega arith)) at (write_last w h)
 
-      whole : parts_from (one_at p.groups) n 0 ≡ path_of p
-      whole = ones_are p.groups n (omega (arith, length-take p.len p.groups)) ∙ rw e own
-
-  pub path_written : {o₁ o₂ : List ℕ} {n m r : ℕ} (t : List ℕ) (c : ℕ) (p : Path) → path_of p ≡ path_at t c → n ≡ length (path_of p)
-      → Stored o o₁ at (n ∷ []) m → Stored o₁ o₂ m (path_of p) r → Stored o o₂ at (length (path_at t c) ∷ path_at t c) r
-  path_written t c p e f s u = rw (← e, ← f) (stored_more s u)
+  pub path_written : {o₁ o₂ : List ℕ} {m r : ℕ} (n : ℕ) (path groups : List ℕ) → groups ≡ path → n ≡ length path
+      → Stored o o₁ at (n ∷ []) m → Stored o₁ o₂ m groups r → Stored o o₂ at (length path ∷ path) r
+  path_written n path groups e f s u = rw (← e) (rw (f, ← e) at (stored_more s u))
 
   -- A group and its count.
   pub no_group : (g n : ℕ) → n ≡ 0 → Stored o o at (group_bytes g n) at

@@ -1,7 +1,7 @@
 -- The components of a sheet that was read can be stored in the table: their numbers are consecutive, there are at most 32 of
 -- them, their paths have at most eight groups below 64, none twice, their purposes are below 16, and they have fewer acts than the sheet
 -- has bytes.
-use Prim.Native.Nat.{ℕ, zero, suc, ◌+◌, ◌-◌, ◌*◌, ◌<◌, ◌≤◌}
+use Prim.Native.Nat.{ℕ, zero, suc, ◌+◌, ◌*◌, ◌<◌, ◌≤◌}
 use mathlib.Core.Option.{Option, some}
 use mathlib.Core.Path.{◌≡◌, refl, sym, ap, ap₂, ◌∙◌}
 use mathlib.Core.List.{List, [], ◌∷◌, ◌++◌, map}

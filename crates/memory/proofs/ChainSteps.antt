@@ -28,27 +28,24 @@ chain_last cells cell level =
     let parent = parent_of cells cell in
     get_or_at (chain cells level parent) (name_of cells cell) [] 65535 level (chain_length cells level parent)
 
--- The loop: `left` cells are left, and the last is `cell`.
-pub record Sought (cells : List ℕ) (names env level left cell : ℕ) : Type 0 where
-  pub more : level < left
-  pub most : left ≤ names
-  pub same : get_or (chain cells names env) level 65535 ≡ get_or (chain cells left cell) level 65535
+-- The loop: after `passed` cells `names - passed` are left, and the last is `cell`.
+pub record Sought (cells : List ℕ) (names env level passed cell : ℕ) : Type 0 where
+  pub same : get_or (chain cells names env) level 65535 ≡ get_or (chain cells (names - passed) cell) level 65535
 
-pub search_begins : (cells : List ℕ) (names env level : ℕ) → level < names → Sought cells names env level names env
-search_begins cells names env level h = record { more = h; most = omega arith; same = refl }
+pub search_begins : (cells : List ℕ) (names env level : ℕ) → Sought cells names env level 0 env
+search_begins cells names env level = let e : names - 0 ≡ names = omega arith in record { same = rw e refl }
 
-module _ (cells : List ℕ) (names env level left cell : ℕ) (t : Sought cells names env level left cell) where
-  pub search_goes_on : (parent : ℕ) → level + 1 < left → parent ≡ parent_of cells cell → Sought cells names env level (left - 1) parent
-  search_goes_on parent h e = record {
-    more = omega arith;
-    most = omega (arith, t.most);
-    same = rw e (t.same ∙ chain_below cells left cell level h);
-  }
+pub search_goes_on : (cells : List ℕ) (names env level passed cell parent : ℕ) → Sought cells names env level passed cell
+    → level < names → passed < names - level - 1 → parent ≡ parent_of cells cell → Sought cells names env level (passed + 1) parent
+search_goes_on cells names env level passed cell parent t h k e =
+    let n : names - (passed + 1) ≡ names - passed - 1 = omega arith in
+    record { same = rw (e, n) (t.same ∙ chain_below cells (names - passed) cell level (omega arith)) }
 
-  pub search_ends : (w : ℕ) → left ≤ level + 1 → w ≡ get_or cells cell 0 → w % 65536 ≡ get_or (chain cells names env) level 65535
-  unfolding name_of
-  search_ends w h e =
-      let n : left ≡ suc level = omega (arith, t.more) in
-      rw (t.same, n, chain_last cells cell level, e)
+pub search_ends : (cells : List ℕ) (names env level passed cell w : ℕ) → Sought cells names env level passed cell
+    → level < names → passed ≡ names - level - 1 → w ≡ get_or cells cell 0 → w % 65536 ≡ get_or (chain cells names env) level 65535
+unfolding name_of
+search_ends cells names env level passed cell w t h k e =
+    let n : names - passed ≡ suc level = omega arith in
+    rw (t.same, n, chain_last cells cell level, e)
 
 pub ruleset search_steps = (rules, no_level, search_begins, search_goes_on, search_ends)

@@ -1,6 +1,5 @@
 -- Laws of a run's memory, and the lemmas of its functions' proofs.
 pub mod ThreadLaws
 pub mod ChainLaws
-pub mod MemorySteps
 pub mod SpliceSteps
 pub mod ChainSteps

@@ -3,29 +3,25 @@
 ghost use Rattle.std.specs.Prelude.{◌≡◌, get_or};
 ghost use Rattle.memory.specs.Chains.{bound, parent_of, name_of, chain};
 
-use crate::wide;
+use crate::put;
 
-// Writes the cell of a binder with its run name; `env` is the cell of the binder before.
+/// Writes the cell of a binder with its run name; `env` is the cell of the binder before.
+#[tactic(auto, unfolding(crate::specs::Chains::bound))]
 pub fn bind(cells: &mut [u32], cell: usize, env: usize, name: usize)
     ensures { cells.new ≡ bound cells.old cell env name }
 {
-    if cell < cells.len() {
-        cells[cell] = (env % 65536 * 65536 + name % 65536) as u32;
-    }
+    put(cells, cell, (env % 65536 * 65536 + name % 65536) as u32);
 }
 
 // What stands in a cell, 0 past the table's end.
 fn cell_at(cells: &[u32], cell: usize) -> usize
     ensures { result ≡ get_or cells.now cell 0 }
 {
-    if cell < cells.len() {
-        wide(cells[cell])
-    } else {
-        0
-    }
+    cells.get(cell).copied().unwrap_or(0) as usize
 }
 
 // The cell of the binder before; never a later cell.
+#[tactic(auto, unfolding(crate::specs::Chains::parent_of))]
 fn parent_of(cells: &[u32], cell: usize) -> usize
     ensures { result ≡ parent_of cells.now cell }
 {
@@ -33,18 +29,17 @@ fn parent_of(cells: &[u32], cell: usize) -> usize
     if parent < cell { parent } else { 0 }
 }
 
-// The run name at a level, of `names` names of which the innermost stands in cell `env`; 65,535 where there is none.
+/// The run name at a level, of `names` names of which the innermost stands in cell `env`; 65,535 where there is none.
+#[tactic(auto, unfolding(crate::specs::Chains::name_of), using(crate::proofs::ChainSteps::search_steps))]
 pub fn name_at(cells: &[u32], names: usize, env: usize, level: usize) -> usize
     ensures { result ≡ get_or (chain cells.now names env) level 65535 }
 {
     if names <= level {
         return 65535;
     }
-    let mut left = names;
     let mut cell = env;
-    while level + 1 < left {
+    for _passed in 0..names - level - 1 {
         cell = parent_of(cells, cell);
-        left -= 1;
     }
     cell_at(cells, cell) % 65536
 }

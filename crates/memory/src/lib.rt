@@ -6,11 +6,11 @@ pub mod chains;
 pub mod names;
 pub mod threads;
 
-ghost use Rattle.std.specs.Prelude.{◌≡◌};
+ghost use Rattle.std.specs.Prelude.{◌≡◌, set};
 
-// A thread: its component, the cell of its innermost run name, the number of names in scope, the permitted nesting that is left,
-// and the place of its remaining process.
-#[derive(Clone, Copy)]
+/// A thread: its component, the cell of its innermost run name, the number of names in scope, the permitted nesting that is
+/// left, and the place of its remaining process.
+#[derive(Clone, Copy, PartialEq, Eq, Debug)]
 pub struct Thread {
     pub component: usize,
     pub env: usize,
@@ -19,9 +19,11 @@ pub struct Thread {
     pub at: usize,
 }
 
-// A number as a table of 32 binary digits each holds it, at full width.
-pub fn wide(w: u32) -> usize
-    ensures { result ≡ w }
+/// Stores a value in a table, where there is such a place; past the table's end nothing is written.
+pub fn put<T: Copy>(table: &mut [T], at: usize, value: T)
+    ensures { table.new ≡ set table.old at value }
 {
-    w as usize
+    if at < table.len() {
+        table[at] = value;
+    }
 }

@@ -1,6 +1,6 @@
 -- The promises of Q-7 on the way there and back: what an accepted call writes is the sheet's other form; going back restores the bytes,
 -- and so does returning; 4,096 bytes of output always suffice; and which numbers a call is refused with.
-use Prim.Native.Nat.{ℕ, ◌+◌, ◌≤◌}
+use Prim.Native.Nat.{ℕ, ◌≤◌}
 use mathlib.Core.Bool.{Bool, true, false}
 use mathlib.Core.List.{List, [], ◌++◌}
 use mathlib.Core.Path.{◌≡◌, refl, sym, ap, ◌∙◌}

@@ -1,30 +1,31 @@
-// The services `upgrade` and `downgrade` (document 02, Q-7): an old sheet, whose components state no purpose, into the new form, and back.
+// The services `upgrade` and `downgrade`: an old sheet, whose components state no purpose, into the new form, and back.
 #![tactic(auto)]
 
 ghost use Rattle.encoding.specs.Copying.{copy_of};
 ghost use Rattle.moving.specs.Told.{Upgraded, Downgraded, Movable, Moved};
 
-use encoding::copying::copy_sheet;
-use encoding::walking::all_zero;
+use encoding::walking::StoredSheet;
 use reading::bytes::refusal;
 use reading::system::read_in;
 use reading::{Dialect, NumberRead};
 use service::Answer;
 
 // Question 19, and a sheet's stored form in another dialect, which has `len` bytes.
-fn deliver(from: Dialect, to: Dialect, sheet: &[u8], len: usize, output: &mut [u8]) -> Answer
-    requires { Movable from to sheet.now len }
-    ensures { Moved (copy_of from to sheet.now) output.old output.new result }
+#[tactic(auto, using(crate::proofs::MoveSteps::delivering))]
+fn deliver(sheet: &StoredSheet, to: Dialect, len: usize, output: &mut [u8]) -> Answer
+    requires { Movable sheet.now.dialect to sheet.now.bytes.now len }
+    ensures { Moved (copy_of sheet.now.dialect to sheet.now.bytes.now) output.old output.new result }
 {
     if output.len() < len {
         return Answer::Refused(19);
     }
-    copy_sheet(from, to, sheet, output);
+    sheet.copy_to(to, output);
     Answer::Accepted(len)
 }
 
-// Turns an old sheet into the new form, purpose 0 at each component. The answer and the output's final bytes are those of the
-// definition `upgraded`, for any bytes in both slices.
+/// Turns an old sheet into the new form, purpose 0 at each component. The answer and the output's final bytes are those of the
+/// definition `upgraded`, for any bytes in both slices.
+#[tactic(auto, using(crate::proofs::MoveSteps::upgrading))]
 pub fn upgrade(sheet: &[u8], output: &mut [u8]) -> Answer
     ensures { Upgraded sheet.now output.old output.new result }
 {
@@ -36,11 +37,16 @@ pub fn upgrade(sheet: &[u8], output: &mut [u8]) -> Answer
     if 4096 < len {
         return Answer::Refused(1);
     }
-    deliver(Dialect::Old, Dialect::Current, sheet, len, output)
+    let old = StoredSheet {
+        dialect: Dialect::Old,
+        bytes: sheet,
+    };
+    deliver(&old, Dialect::Current, len, output)
 }
 
-// Turns a sheet back into the old form, where each component has purpose 0. The answer and the output's final bytes are those of the
-// definition `downgraded`, for any bytes in both slices.
+/// Turns a sheet back into the old form, where each component has purpose 0. The answer and the output's final bytes are those of the
+/// definition `downgraded`, for any bytes in both slices.
+#[tactic(auto, using(crate::proofs::MoveSteps::downgrading))]
 pub fn downgrade(sheet: &[u8], output: &mut [u8]) -> Answer
     ensures { Downgraded sheet.now output.old output.new result }
 {
@@ -48,9 +54,13 @@ pub fn downgrade(sheet: &[u8], output: &mut [u8]) -> Answer
     let NumberRead::Found(components) = read else {
         return Answer::Refused(refusal(read).question);
     };
-    if !all_zero(Dialect::Current, sheet) {
+    let current = StoredSheet {
+        dialect: Dialect::Current,
+        bytes: sheet,
+    };
+    if !current.all_zero() {
         return Answer::Refused(41);
     }
     let len = sheet.len() - components.value;
-    deliver(Dialect::Current, Dialect::Old, sheet, len, output)
+    deliver(&current, Dialect::Old, len, output)
 }

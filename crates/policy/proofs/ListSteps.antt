@@ -10,58 +10,58 @@ use lib.Dec.{ltb, leb}
 use lib.ListN.{length, get_or}
 use mir.Syntax.{w8, w64}
 use mir.Val.{Fits}
+use Rattle.std.specs.Prelude.{Result, Ok, Err}
 use Rattle.reading.proofs.Parts.{never}
 use Rattle.reading.proofs.Steps.{steps}
 use Rattle.reading.specs.Read.{Read, got, refused, and_then, byte_at, below}
-use Rattle.reading.specs.Told.{number}
+use Rattle.reading.specs.Told.{number, number_of}
 use Rattle.reading.specs.declared.Number.{Number}
+use Rattle.reading.specs.declared.Question.TheVariants as question
 use Rattle.reading.specs.declared.Refusal.{Refusal}
-use Rattle.reading.specs.declared.NumberRead.{NumberRead}
-use Rattle.reading.specs.declared.NumberRead.TheVariants as number_read
 use Rattle.policy.proofs.ListLaws.{byte_is, item_is, list_is}
 use Rattle.policy.specs.Syntax.{Granted}
 use Rattle.policy.specs.Reading.{must, two_bytes, is_count, item_at, read_list, counted_list}
 use Rattle.policy.specs.Loads.{group_only, count_only}
 
 -- A byte is small, so that two of them fit.
-pub byte_small : (s : List ℕ) (at : ℕ) (r : NumberRead) (n : Number) → ((i : ℕ) → Fits w8 (get_or s i 0)) → r ≡ number_read.Found n → number r ≡ byte_at s at → n.value < 256
+pub byte_small : (s : List ℕ) (at : ℕ) (r : Result Number Refusal) (n : Number) → ((i : ℕ) → Fits w8 (get_or s i 0)) → r ≡ Ok n → number r ≡ byte_at s at → n.value < 256
 byte_small s at r n g f e = omega (arith, (byte_is s at {b = n.value} {k = n.next} (rw f at (sym e))).value, g at)
 
-module _ (s : List ℕ) (given : (i : ℕ) → Fits w8 (get_or s i 0)) (at : ℕ) (r : NumberRead) (n : Number) (f : r ≡ number_read.Found n) (e : number r ≡ byte_at s at) where
+module _ (s : List ℕ) (given : (i : ℕ) → Fits w8 (get_or s i 0)) (at : ℕ) (r : Result Number Refusal) (n : Number) (f : r ≡ Ok n) (e : number r ≡ byte_at s at) where
   pub high_fits : Fits w64 (256 * n.value)
   high_fits = record { fits = omega (arith, byte_small s at r n given f e) }
 
-  pub word_fits : (m : ℕ) (q : NumberRead) (l : Number) → q ≡ number_read.Found l → number q ≡ byte_at s m → Fits w64 (l.value + 256 * n.value)
+  pub word_fits : (m : ℕ) (q : Result Number Refusal) (l : Number) → q ≡ Ok l → number q ≡ byte_at s m → Fits w64 (l.value + 256 * n.value)
   word_fits m q l g h = record { fits = omega (arith, byte_small s at r n given f e, byte_small s m q l given g h) }
 
 pub ruleset word_steps = (steps, high_fits, word_fits)
 
 -- An item.
-module _ (s : List ℕ) (lowest at : ℕ) (r : NumberRead) (e : number r ≡ below 64 s at) where
-  pub group_refused : (q : Refusal) → r ≡ number_read.Refused q → number r ≡ group_only (item_at s lowest at)
+module _ (s : List ℕ) (lowest at : ℕ) (r : Result Number Refusal) (e : number r ≡ below 64 s at) where
+  pub group_refused : (q : Refusal) → r ≡ Err q → number r ≡ group_only (item_at s lowest at)
   unfolding item_at group_only and_then
   group_refused q f = let z = sym (rw f at e) in rw (z, f)
 
-  module _ (g : Number) (f : r ≡ number_read.Found g) where
+  module _ (g : Number) (f : r ≡ Ok g) where
     group_read : item_at s lowest at ≡ must (leb lowest g.value) at
         (and_then (two_bytes s g.next) (λ c k. must (is_count c) g.next (got (record { group = g.value; count = c }) k)))
     unfolding item_at and_then
     group_read = let z = sym (rw f at e) in rw z
 
-    pub group_low : (w : NumberRead) → g.value < lowest → w ≡ number_read.Refused (record { question = 11; at = at }) → number w ≡ group_only (item_at s lowest at)
+    pub group_low : (w : Refusal) → g.value < lowest → w ≡ record { question = question.Charter; at = at } → refused (number_of w.question) w.at ≡ group_only (item_at s lowest at)
     unfolding must group_only
     group_low w h k = rw (group_read, lt-leb lowest g.value h, k)
 
-    module _ (h : lowest ≤ g.value) (v : NumberRead) (i : number v ≡ two_bytes s g.next) where
+    module _ (h : lowest ≤ g.value) (v : Result Number Refusal) (i : number v ≡ two_bytes s g.next) where
       group_good : item_at s lowest at ≡ and_then (two_bytes s g.next) (λ c k. must (is_count c) g.next (got (record { group = g.value; count = c }) k))
       unfolding must
       group_good = rw (group_read, le-leb lowest g.value h)
 
-      pub count_refused : (q : Refusal) → v ≡ number_read.Refused q → number v ≡ group_only (item_at s lowest at)
+      pub count_refused : (q : Refusal) → v ≡ Err q → number v ≡ group_only (item_at s lowest at)
       unfolding group_only and_then
       count_refused q k = let z = sym (rw k at i) in rw (group_good, z, k)
 
-      module _ (n : Number) (k : v ≡ number_read.Found n) (b : Bool) (j : b ≡ is_count n.value) where
+      module _ (n : Number) (k : v ≡ Ok n) (b : Bool) (j : b ≡ is_count n.value) where
         count_read : item_at s lowest at ≡ must b g.next (got (record { group = g.value; count = n.value }) n.next)
         unfolding and_then
         count_read = let z = sym (rw k at i) in rw (group_good, z, ← j)
@@ -70,7 +70,7 @@ module _ (s : List ℕ) (lowest at : ℕ) (r : NumberRead) (e : number r ≡ bel
         unfolding must group_only
         count_good l = rw (count_read, l)
 
-        pub count_bad : (w : NumberRead) → b ≡ false → w ≡ number_read.Refused (record { question = 11; at = g.next }) → number w ≡ group_only (item_at s lowest at)
+        pub count_bad : (w : Refusal) → b ≡ false → w ≡ record { question = question.Charter; at = g.next } → refused (number_of w.question) w.at ≡ group_only (item_at s lowest at)
         unfolding must group_only
         count_bad w l m = rw (count_read, l, m)
 
@@ -129,13 +129,13 @@ module _ (s : List ℕ) (at count next lowest done : ℕ) (t : ItemsAhead s at c
   unfolding read_list counting and_then
   none_ahead h = let z : count - done ≡ 0 = omega arith in rw (t.same, z)
 
-  pub item_refused : (r : NumberRead) (q : Refusal) → done < count → r ≡ number_read.Refused q → number r ≡ group_only (item_at s lowest next)
+  pub item_refused : (r : Result Number Refusal) (q : Refusal) → done < count → r ≡ Err q → number r ≡ group_only (item_at s lowest next)
       → number r ≡ count_only (read_list count s 0 at)
   unfolding counting and_then
   item_refused r q h f e =
-      rw (t.same, list_step (count - done) s lowest next (omega arith), group_not (item_at s lowest next) {q = q.question} {p = q.at} (rw f at e), f)
+      rw (t.same, list_step (count - done) s lowest next (omega arith), group_not (item_at s lowest next) {q = number_of q.question} {p = q.at} (rw f at e), f)
 
-  pub item_read : (r : NumberRead) (n : Number) → done < count → r ≡ number_read.Found n → number r ≡ group_only (item_at s lowest next)
+  pub item_read : (r : Result Number Refusal) (n : Number) → done < count → r ≡ Ok n → number r ≡ group_only (item_at s lowest next)
       → ItemsAhead s at count n.next (n.value + 1) (done + 1)
   unfolding and_then
   item_read r n h f e =
@@ -146,7 +146,7 @@ module _ (s : List ℕ) (at count next lowest done : ℕ) (t : ItemsAhead s at c
             (counting_more count g.item (read_list (count - done - 1) s (n.value + 1) n.next));
       }
 
-pub next_lowest : (s : List ℕ) (lowest at : ℕ) (r : NumberRead) (n : Number) → r ≡ number_read.Found n → number r ≡ group_only (item_at s lowest at) → Fits w64 (n.value + 1)
+pub next_lowest : (s : List ℕ) (lowest at : ℕ) (r : Result Number Refusal) (n : Number) → r ≡ Ok n → number r ≡ group_only (item_at s lowest at) → Fits w64 (n.value + 1)
 next_lowest s lowest at r n f e =
     let g = group_got (item_at s lowest at) {v = n.value} {k = n.next} (rw f at e) in
     record { fits = omega (arith, (item_is s lowest at g.is).small, g.group) }
@@ -154,17 +154,17 @@ next_lowest s lowest at r n f e =
 pub ruleset list_steps = (steps, all_ahead, none_ahead, item_refused, item_read, next_lowest)
 
 -- A counted list: how many, and then the items.
-module _ (s : List ℕ) (at : ℕ) (r : NumberRead) (e : number r ≡ below 65 s at) where
-  pub length_refused : (q : Refusal) → r ≡ number_read.Refused q → number r ≡ count_only (counted_list s at)
+module _ (s : List ℕ) (at : ℕ) (r : Result Number Refusal) (e : number r ≡ below 65 s at) where
+  pub length_refused : (q : Refusal) → r ≡ Err q → number r ≡ count_only (counted_list s at)
   unfolding counted_list count_only and_then
   length_refused q f = let z = sym (rw f at e) in rw (z, f)
 
-  module _ (n : Number) (f : r ≡ number_read.Found n) where
+  module _ (n : Number) (f : r ≡ Ok n) where
     length_read : counted_list s at ≡ must (ltb 0 n.value) at (read_list n.value s 0 n.next)
     unfolding counted_list and_then
     length_read = let z = sym (rw f at e) in rw z
 
-    pub length_zero : (w : NumberRead) → n.value ≡ 0 → w ≡ number_read.Refused (record { question = 11; at = at }) → number w ≡ count_only (counted_list s at)
+    pub length_zero : (w : Refusal) → n.value ≡ 0 → w ≡ record { question = question.Charter; at = at } → refused (number_of w.question) w.at ≡ count_only (counted_list s at)
     unfolding must count_only
     length_zero w h k = rw (length_read, h, k)
 

@@ -13,11 +13,10 @@ use lib.ListN.{length, length-append}
 use Rattle.std.specs.Prelude.{Result, Ok, Err}
 use Rattle.reading.proofs.Parts.{never}
 use Rattle.reading.specs.Read.{Read, got, refused, and_then, byte_at, below}
-use Rattle.reading.specs.Told.{number}
+use Rattle.reading.specs.Told.{number, number_of}
 use Rattle.reading.specs.declared.Number.{Number}
+use Rattle.reading.specs.declared.Question.TheVariants as question
 use Rattle.reading.specs.declared.Refusal.{Refusal}
-use Rattle.reading.specs.declared.NumberRead.{NumberRead}
-use Rattle.reading.specs.declared.NumberRead.TheVariants as number_read
 use Rattle.policy.proofs.StoreLaws.{stored_rows}
 use Rattle.policy.specs.Syntax.{Permissions, Node, Nodes, none, more, alone, heads, heads_of}
 use Rattle.policy.specs.Reading.{must, children, read_permissions, read_node_in, read_node}
@@ -55,7 +54,7 @@ root_not used (got n m) h = never h
 root_not used (refused a b) {q} {p} h = let v : a ≡ q = cc in let w : b ≡ p = cc in rw (v, w)
 
 -- Nothing is in the table of what was refused.
-not_loaded : {c : List ℕ} {read : Read Nodes} (d used : ℕ) {nodes nodes' : List ℕ} (r : NumberRead) (q p : ℕ)
+not_loaded : {c : List ℕ} {read : Read Nodes} (d used : ℕ) {nodes nodes' : List ℕ} (r : Result Number Refusal) (q p : ℕ)
     → read ≡ refused q p → number r ≡ refused q p → Loaded c read d used nodes nodes' r
 unfolding rows_only
 not_loaded d used r q p e h = record { answer = rw (e, h); rows = λ ns next k. never (sym e ∙ k) }
@@ -79,14 +78,14 @@ first_child : (level : ℕ) (c : List ℕ) (count used at : ℕ) → (count ≡ 
 unfolding and_then heads
 first_child level c count used at h root v k e a = children_step level c count used at h ∙ rw (e, a)
 
-pub first_rows : (level : ℕ) (c : List ℕ) (used at d : ℕ) (nodes nodes₁ : List ℕ) (r : NumberRead) → Loaded c (node_read (read_node level c used at)) d used nodes nodes₁ r
+pub first_rows : (level : ℕ) (c : List ℕ) (used at d : ℕ) (nodes nodes₁ : List ℕ) (r : Result Number Refusal) → Loaded c (node_read (read_node level c used at)) d used nodes nodes₁ r
     → (root : Node) (v k : ℕ) → read_node level c used at ≡ got root k → v ≡ used + length (heads_of (alone root))
     → flats c nodes₁ 0 v ≡ flats c nodes 0 used ++ flatten d (alone root)
 unfolding node_read
 first_rows level c used at d nodes nodes₁ r l root v k e a = rw a (l.rows (alone root) k (rw e))
 
 -- The first's rows, and then those of the rest.
-module _ (c : List ℕ) (d used v : ℕ) (nodes nodes₁ nodes₂ : List ℕ) (root : Node) (r : NumberRead) (a : v ≡ used + length (heads_of (alone root)))
+module _ (c : List ℕ) (d used v : ℕ) (nodes nodes₁ nodes₂ : List ℕ) (root : Node) (r : Result Number Refusal) (a : v ≡ used + length (heads_of (alone root)))
     (b : flats c nodes₁ 0 v ≡ flats c nodes 0 used ++ flatten d (alone root)) where
   all_heads : (rest : Nodes) → used + length (heads_of (more root.group root.permissions root.below rest)) ≡ v + length (heads_of rest)
   unfolding alone
@@ -115,7 +114,7 @@ module _ (c : List ℕ) (d used v : ℕ) (nodes nodes₁ nodes₂ : List ℕ) (r
 
 module _ (level : ℕ) (c : List ℕ) (count used at d : ℕ) where
   no_child : (nodes : List ℕ) → count ≡ 0
-      → Loaded c (children_read level c count used at) d used nodes nodes (number_read.Found (record { value = used; next = at }))
+      → Loaded c (children_read level c count used at) d used nodes nodes (Ok (record { value = used; next = at }))
   unfolding children_read children rows_only heads_of flatten
   no_child nodes e = record {
     answer = rw (e, add-zero used);
@@ -125,15 +124,15 @@ module _ (level : ℕ) (c : List ℕ) (count used at d : ℕ) where
       nodes_of : {ns : Nodes} {next : ℕ} → got none at ≡ got ns next → none ≡ ns
       nodes_of k = cc
 
-  module _ (h : count ≡ 0 → ⊥) (nodes nodes₁ : List ℕ) (r : NumberRead) (l : Loaded c (node_read (read_node level c used at)) d used nodes nodes₁ r) where
-    child_refused : (q : Refusal) → r ≡ number_read.Refused q → Loaded c (children_read level c count used at) d used nodes nodes₁ r
+  module _ (h : count ≡ 0 → ⊥) (nodes nodes₁ : List ℕ) (r : Result Number Refusal) (l : Loaded c (node_read (read_node level c used at)) d used nodes nodes₁ r) where
+    child_refused : (q : Refusal) → r ≡ Err q → Loaded c (children_read level c count used at) d used nodes nodes₁ r
     unfolding and_then
     child_refused q f =
-        not_loaded d used r q.question q.at
-        (children_step level c count used at h ∙ rw (root_not used (read_node level c used at) {q = q.question} {p = q.at} (rw f at l.answer)))
+        not_loaded d used r (number_of q.question) q.at
+        (children_step level c count used at h ∙ rw (root_not used (read_node level c used at) {q = number_of q.question} {p = q.at} (rw f at l.answer)))
         (rw f)
 
-    then_rest : (n : Number) (nodes₂ : List ℕ) (r₂ : NumberRead) → r ≡ number_read.Found n
+    then_rest : (n : Number) (nodes₂ : List ℕ) (r₂ : Result Number Refusal) → r ≡ Ok n
         → Loaded c (children_read level c (count - 1) n.value n.next) d n.value nodes₁ nodes₂ r₂
         → Loaded c (children_read level c count used at) d used nodes nodes₂ r₂
     then_rest n nodes₂ r₂ f m =
@@ -145,7 +144,7 @@ module _ (level : ℕ) (c : List ℕ) (count used at d : ℕ) where
 
 -- Where the loop over children stands, of which `done` are loaded: once the others are loaded too, all are.
 pub record Loading (level : ℕ) (c : List ℕ) (count used at d : ℕ) (nodes₀ : List ℕ) (done rows next : ℕ) (nodes : List ℕ) : Type 0 where
-  pub whole : (nodes₂ : List ℕ) (r : NumberRead) → Loaded c (children_read level c (count - done) rows next) d rows nodes nodes₂ r
+  pub whole : (nodes₂ : List ℕ) (r : Result Number Refusal) → Loaded c (children_read level c (count - done) rows next) d rows nodes nodes₂ r
       → Loaded c (children_read level c count used at) d used nodes₀ nodes₂ r
   pub same : length nodes ≡ 384
 
@@ -155,17 +154,17 @@ all_left level c count used at d nodes l = let z : count - 0 ≡ count = omega a
 
 module _ (level : ℕ) (c : List ℕ) (count used at d : ℕ) (nodes₀ : List ℕ) (done rows next : ℕ) (nodes : List ℕ)
     (s : Loading level c count used at d nodes₀ done rows next nodes) where
-  pub none_left : count ≤ done → Loaded c (children_read level c count used at) d used nodes₀ nodes (number_read.Found (record { value = rows; next = next }))
+  pub none_left : count ≤ done → Loaded c (children_read level c count used at) d used nodes₀ nodes (Ok (record { value = rows; next = next }))
   none_left h = s.whole nodes _ (no_child level c (count - done) rows next d nodes (omega arith))
 
-  module _ (h : done < count) (nodes₁ : List ℕ) (r : NumberRead) (l : Loaded c (node_read (read_node level c rows next)) d rows nodes nodes₁ r) where
+  module _ (h : done < count) (nodes₁ : List ℕ) (r : Result Number Refusal) (l : Loaded c (node_read (read_node level c rows next)) d rows nodes nodes₁ r) where
     some_left : count - done ≡ 0 → ⊥
     some_left e = omega arith
 
-    pub one_refused : (q : Refusal) → r ≡ number_read.Refused q → Loaded c (children_read level c count used at) d used nodes₀ nodes₁ r
+    pub one_refused : (q : Refusal) → r ≡ Err q → Loaded c (children_read level c count used at) d used nodes₀ nodes₁ r
     one_refused q f = s.whole nodes₁ r (child_refused level c (count - done) rows next d some_left nodes nodes₁ r l q f)
 
-    pub one_loaded : (n : Number) → r ≡ number_read.Found n → length nodes₁ ≡ length nodes
+    pub one_loaded : (n : Number) → r ≡ Ok n → length nodes₁ ≡ length nodes
         → Loading level c count used at d nodes₀ (done + 1) n.value n.next nodes₁
     one_loaded n f k =
         let z : count - (done + 1) ≡ count - done - 1 = omega arith in
@@ -217,7 +216,7 @@ node_step zero c used at h = absurd (h refl)
 node_step (suc level) c used at h = rw (sub-one (suc level)) (node_suc level c used at)
 
 -- The node's row, and then those of the nodes below it.
-module _ (c : List ℕ) (d used : ℕ) (nodes nodes₁ nodes₂ : List ℕ) (r : NumberRead) (o : Opening) (long : length nodes ≡ 384) (low : used < 64) (fits : OpeningFits d o)
+module _ (c : List ℕ) (d used : ℕ) (nodes nodes₁ nodes₂ : List ℕ) (r : Result Number Refusal) (o : Opening) (long : length nodes ≡ 384) (low : used < 64) (fits : OpeningFits d o)
     (stored : nodes₁ ≡ with_node nodes used o.node) where
   abbrev node : Nodes → Node
   node ns = record { group = (flat_of c o.node).head.group; permissions = (flat_of c o.node).head.permissions; below = ns }
@@ -255,26 +254,26 @@ module _ (c : List ℕ) (d used : ℕ) (nodes nodes₁ nodes₂ : List ℕ) (r :
   nested (refused q p) l = record { answer = l.answer; rows = λ ns next e. never e }
 
 module _ (level : ℕ) (c : List ℕ) (used at : ℕ) (nodes : List ℕ) where
-  pub too_deep : (d : ℕ) (w : NumberRead) → level ≡ 0 → w ≡ number_read.Refused (record { question = 11; at = at })
-      → Loaded c (node_read (read_node level c used at)) d used nodes nodes w
+  pub too_deep : (d : ℕ) (w : Refusal) → level ≡ 0 → w ≡ record { question = question.Charter; at = at }
+      → Loaded c (node_read (read_node level c used at)) d used nodes nodes (Err w)
   unfolding read_node_in node_read
-  too_deep d w e h = not_loaded d used w 11 at (rw e) (rw h)
+  too_deep d w e k = not_loaded d used (Err w) 11 at (rw e) (rw k)
 
   module _ (h : level ≡ 0 → ⊥) where
-    pub too_many : (d : ℕ) (w : NumberRead) → 64 ≤ used → w ≡ number_read.Refused (record { question = 11; at = at })
-        → Loaded c (node_read (read_node level c used at)) d used nodes nodes w
+    pub too_many : (d : ℕ) (w : Refusal) → 64 ≤ used → w ≡ record { question = question.Charter; at = at }
+        → Loaded c (node_read (read_node level c used at)) d used nodes nodes (Err w)
     unfolding must node_read
-    too_many d w l e = not_loaded d used w 11 at (rw (node_step level c used at h, le-ltb used 64 l)) (rw e)
+    too_many d w l k = not_loaded d used (Err w) 11 at (rw (node_step level c used at h, le-ltb used 64 l)) (rw k)
 
     module _ (low : used < 64) (b : Result Opening Refusal) (e : opening_read c b ≡ read_opening c at) where
       pub opening_refused : (d : ℕ) (w : Refusal) → b ≡ Err w
-          → Loaded c (node_read (read_node level c used at)) d used nodes nodes (number_read.Refused w)
+          → Loaded c (node_read (read_node level c used at)) d used nodes nodes (Err w)
       unfolding must node_read and_then
       opening_refused d w f =
           let z = sym (rw f at e) in
-          not_loaded d used (number_read.Refused w) w.question w.at (rw (node_step level c used at h, lt-ltb used 64 low, z)) refl
+          not_loaded d used (Err w) (number_of w.question) w.at (rw (node_step level c used at h, lt-ltb used 64 low, z)) refl
 
-      pub node_loaded : (o : Opening) (nodes₁ nodes₂ : List ℕ) (r : NumberRead) → level ≤ 8 → length nodes ≡ 384 → b ≡ Ok o → OpeningReadFits (8 - level) b
+      pub node_loaded : (o : Opening) (nodes₁ nodes₂ : List ℕ) (r : Result Number Refusal) → level ≤ 8 → length nodes ≡ 384 → b ≡ Ok o → OpeningReadFits (8 - level) b
           → nodes₁ ≡ with_node nodes used o.node
           → Loaded c (children_read (level - 1) c o.children (used + 1) o.next) (8 - (level - 1)) (used + 1) nodes₁ nodes₂ r
           → Loaded c (node_read (read_node level c used at)) (8 - level) used nodes nodes₂ r

@@ -10,33 +10,31 @@ use Rattle.std.specs.Prelude.{Result, Ok, Err}
 use Rattle.reading.proofs.Parts.{below_found}
 use Rattle.reading.proofs.Steps.{steps}
 use Rattle.reading.specs.Read.{got, refused, and_then, byte_at, below}
-use Rattle.reading.specs.Told.{number, refusal_of}
+use Rattle.reading.specs.Told.{number, number_of}
 use Rattle.reading.specs.declared.Number.{Number}
 use Rattle.reading.specs.declared.Refusal.{Refusal}
-use Rattle.reading.specs.declared.NumberRead.{NumberRead}
-use Rattle.reading.specs.declared.NumberRead.TheVariants as number_read
 use Rattle.policy.proofs.ListSteps.{byte_small}
 use Rattle.policy.specs.Reading.{read_permissions}
 use Rattle.policy.specs.Rows.{flat_of}
 use Rattle.policy.specs.Loads.{permissions_read, PermissionsReadFit, PermissionsFit, read_opening, OpeningFits}
 use Rattle.policy.specs.declared.PermissionsAt.{PermissionsAt}
 
-module _ (s : List ℕ) (at : ℕ) (a : NumberRead) (e : number a ≡ below 64 s at) where
-  pub group_refused : (q w : Refusal) → a ≡ number_read.Refused q → w ≡ refusal_of a → refused w.question w.at ≡ read_opening s at
+module _ (s : List ℕ) (at : ℕ) (a : Result Number Refusal) (e : number a ≡ below 64 s at) where
+  pub group_refused : (w : Refusal) → a ≡ Err w → refused (number_of w.question) w.at ≡ read_opening s at
   unfolding read_opening and_then
-  group_refused q w f k = let z = sym (rw f at e) in rw (z, k, f)
+  group_refused w f = let z = sym (rw f at e) in rw z
 
-  module _ (g : Number) (f : a ≡ number_read.Found g) (b : Result PermissionsAt Refusal) (h : permissions_read s b ≡ read_permissions s g.next) where
-    pub permissions_refused : (w : Refusal) → b ≡ Err w → refused w.question w.at ≡ read_opening s at
+  module _ (g : Number) (f : a ≡ Ok g) (b : Result PermissionsAt Refusal) (h : permissions_read s b ≡ read_permissions s g.next) where
+    pub permissions_refused : (w : Refusal) → b ≡ Err w → refused (number_of w.question) w.at ≡ read_opening s at
     unfolding read_opening and_then
     permissions_refused w k = let z = sym (rw f at e) in let y = sym (rw k at h) in rw (z, y)
 
-    module _ (p : PermissionsAt) (k : b ≡ Ok p) (c : NumberRead) (i : number c ≡ byte_at s p.next) where
-      pub children_refused : (q w : Refusal) → c ≡ number_read.Refused q → w ≡ refusal_of c → refused w.question w.at ≡ read_opening s at
+    module _ (p : PermissionsAt) (k : b ≡ Ok p) (c : Result Number Refusal) (i : number c ≡ byte_at s p.next) where
+      pub children_refused : (w : Refusal) → c ≡ Err w → refused (number_of w.question) w.at ≡ read_opening s at
       unfolding read_opening and_then
-      children_refused q w l m = let z = sym (rw f at e) in let y = sym (rw k at h) in let x = sym (rw l at i) in rw (z, y, x, m, l)
+      children_refused w l = let z = sym (rw f at e) in let y = sym (rw k at h) in let x = sym (rw l at i) in rw (z, y, x)
 
-      module _ (n : Number) (l : c ≡ number_read.Found n) (depth : ℕ) where
+      module _ (n : Number) (l : c ≡ Ok n) (depth : ℕ) where
         pub opening_is : got (record { head = (flat_of s (record { group = g.value; permissions = p.permissions; depth = depth })).head; children = n.value }) n.next
             ≡ read_opening s at
         unfolding read_opening and_then flat_of

@@ -8,14 +8,13 @@ use lib.Dec.{ltb}
 use lib.ListN.{length, get_or}
 use mir.Syntax.{w8, w64}
 use mir.Val.{Fits}
+use Rattle.std.specs.Prelude.{Result, Ok, Err}
 use Rattle.reading.proofs.Parts.{never, parts, below_found}
 use Rattle.reading.proofs.Steps.{steps}
 use Rattle.reading.specs.Read.{Read, got, refused, and_then, below}
-use Rattle.reading.specs.Told.{number, refusal_of}
+use Rattle.reading.specs.Told.{number, number_of}
 use Rattle.reading.specs.declared.Number.{Number}
 use Rattle.reading.specs.declared.Refusal.{Refusal}
-use Rattle.reading.specs.declared.NumberRead.{NumberRead}
-use Rattle.reading.specs.declared.NumberRead.TheVariants as number_read
 use Rattle.policy.proofs.ListLaws.{ByteIs, below_is, word_is, list_is, held}
 use Rattle.policy.specs.Syntax.{Granted, has_bit}
 use Rattle.policy.specs.Reading.{must, two_bytes, read_list, counted_list, read_purposes, maps_in, read_permissions_in, read_permissions}
@@ -97,12 +96,12 @@ purposes_low map s at {v} {k} g e = by_bit (has_bit 32 map) e
     by_bit false h = let z : 65535 ≡ v = cc in omega arith
 
 -- Permissions: the map, the list and the purposes.
-module _ (s : List ℕ) (at : ℕ) (r : NumberRead) (e : number r ≡ below 64 s at) where
-  pub map_refused : (q w : Refusal) → r ≡ number_read.Refused q → w ≡ refusal_of r → refused w.question w.at ≡ read_permissions s at
+module _ (s : List ℕ) (at : ℕ) (r : Result Number Refusal) (e : number r ≡ below 64 s at) where
+  pub map_refused : (w : Refusal) → r ≡ Err w → refused (number_of w.question) w.at ≡ read_permissions s at
   unfolding maps_in read_permissions_in and_then
-  map_refused q w f k = let z = sym (rw f at e) in rw (z, k, f)
+  map_refused w f = let z = sym (rw f at e) in rw z
 
-  module _ (m : Number) (f : r ≡ number_read.Found m) where
+  module _ (m : Number) (f : r ≡ Ok m) where
     map_place : ByteIs s at m.value m.next
     map_place = below_is 64 s at {b = m.value} {k = m.next} (rw f at (sym e))
 
@@ -117,12 +116,12 @@ module _ (s : List ℕ) (at : ℕ) (r : NumberRead) (e : number r ≡ below 64 s
     pub list_place_lem : length s ≤ 4096 → Fits w64 (m.next + 1)
     list_place_lem q = record { fits = omega (arith, map_place.next, map_place.inside) }
 
-    module _ (c : NumberRead) (i : number c ≡ count_only (cond (has_bit 16 m.value) (counted_list s m.next) (got [] m.next))) where
-      pub list_refused : (q w : Refusal) → c ≡ number_read.Refused q → w ≡ refusal_of c → refused w.question w.at ≡ read_permissions s at
+    module _ (c : Result Number Refusal) (i : number c ≡ count_only (cond (has_bit 16 m.value) (counted_list s m.next) (got [] m.next))) where
+      pub list_refused : (w : Refusal) → c ≡ Err w → refused (number_of w.question) w.at ≡ read_permissions s at
       unfolding and_then
-      list_refused q w j k = rw (map_read, list_not (list_for m.value s m.next) {q = q.question} {p = q.at} (rw j at i), k, j)
+      list_refused w j = rw (map_read, list_not (list_for m.value s m.next) {q = number_of w.question} {p = w.at} (rw j at i))
 
-      module _ (n : Number) (j : c ≡ number_read.Found n) where
+      module _ (n : Number) (j : c ≡ Ok n) where
         list_of : ListOf m.value s m.next n.value n.next
         list_of = list_got m.value s m.next {v = n.value} {k = n.next} (rw j at i)
 
@@ -131,12 +130,12 @@ module _ (s : List ℕ) (at : ℕ) (r : NumberRead) (e : number r ≡ below 64 s
         unfolding and_then
         list_read = rw (map_read, list_of.is)
 
-        module _ (p : NumberRead) (l : number p ≡ read_purposes m.value s n.next) where
-          pub purposes_refused : (q w : Refusal) → p ≡ number_read.Refused q → w ≡ refusal_of p → refused w.question w.at ≡ read_permissions s at
+        module _ (p : Result Number Refusal) (l : number p ≡ read_purposes m.value s n.next) where
+          pub purposes_refused : (w : Refusal) → p ≡ Err w → refused (number_of w.question) w.at ≡ read_permissions s at
           unfolding and_then
-          purposes_refused q w o k = let z = sym (rw o at l) in rw (list_read, z, k, o)
+          purposes_refused w o = let z = sym (rw o at l) in rw (list_read, z)
 
-          module _ (v : Number) (o : p ≡ number_read.Found v) (w : Stored) (a : w.map ≡ m.value) (b : w.list ≡ m.next + 1) (d : w.count ≡ n.value) (g : w.purposes ≡ v.value) where
+          module _ (v : Number) (o : p ≡ Ok v) (w : Stored) (a : w.map ≡ m.value) (b : w.list ≡ m.next + 1) (d : w.count ≡ n.value) (g : w.purposes ≡ v.value) where
             pub permissions_are : got (permissions_of s w) v.next ≡ read_permissions s at
             unfolding and_then permissions_of
             permissions_are = let z = sym (rw o at l) in rw (list_read, z, a, b, d, g)

@@ -10,22 +10,21 @@ use borrow.Author.Tests.{eq-eqb, ne_eqb}
 use lib.ListN.{length, take, get_or, set, replicate, length-set, length-append, length-replicate}
 use lib.Seq.{take-suc-set}
 use Rattle.inference.specs.Lists.{rising}
+use Rattle.std.specs.Prelude.{Result, Ok, Err}
 use Rattle.reading.proofs.Parts.{below_found}
 use Rattle.reading.specs.Read.{Read, got, refused, and_then, below}
 use Rattle.reading.specs.System.{to_its_end}
-use Rattle.reading.specs.Told.{number, refusal_of}
-use Rattle.reading.specs.declared.End.TheVariants as end_case
+use Rattle.reading.specs.Told.{number, number_of}
 use Rattle.reading.specs.declared.Number.{Number}
+use Rattle.reading.specs.declared.Question.TheVariants as question
 use Rattle.reading.specs.declared.Refusal.{Refusal}
-use Rattle.reading.specs.declared.NumberRead.{NumberRead}
-use Rattle.reading.specs.declared.NumberRead.TheVariants as number_read
 use Rattle.policy.proofs.NodeSteps.{root_got, root_not, first_rows}
 use Rattle.policy.proofs.TreeLaws.{node_room, size, rows_of, kinds_of, ends_of, all_rows, rows_of_end, kinds_of_end, ends_of_end, all_rows_end, all_held, still_high}
 use Rattle.policy.specs.Syntax.{Tree, alone, heads, heads_of}
 use Rattle.policy.specs.Reading.{as_eleven, read_node, read_trees_in, read_trees, read_policy_in, read_policy}
 use Rattle.policy.specs.Rows.{flats, flatten}
 use Rattle.policy.specs.Loads.{node_read, Loaded, no_trees, with_tree, trees_to_end, start_of, LoadedPolicy, unread, loaded}
-use Rattle.policy.specs.declared.PolicyRead.{PolicyRead}
+use Rattle.policy.specs.declared.PolicyAt.{PolicyAt}
 use Rattle.policy.specs.declared.Trees.{Trees}
 
 -- One tree, then the rest.
@@ -90,23 +89,15 @@ none_read c at count nodes trees e =
       high = all_zero_lem 16;
     })
 
--- The place of a refusal that was taken out of an answer.
-same_place : (r : NumberRead) (q : Refusal) → r ≡ number_read.Refused q → (refusal_of r).at ≡ q.at
-same_place r q f = ap (λ x. (refusal_of x).at) f
-
-pub place_kept : (r : NumberRead) (u : Refusal) (w : PolicyRead) → u ≡ refusal_of r → w.end ≡ end_case.Refused (record { question = 11; at = u.at })
-    → w.end ≡ end_case.Refused (record { question = 11; at = (refusal_of r).at })
-place_kept r u w i g = rw i at g
-
 -- A refusal anywhere is question 11.
 module _ (c : List ℕ) (at count : ℕ) where
   whole_refused : (q p : ℕ) → read_trees count c 0 at ≡ refused q p → trees_to_end count c at ≡ refused 11 p
   unfolding trees_to_end as_eleven and_then
   whole_refused q p e = rw e
 
-  not_read : (nodes : List ℕ) (w : PolicyRead) (q p : ℕ) → read_trees count c 0 at ≡ refused q p → w.end ≡ end_case.Refused (record { question = 11; at = p })
-      → LoadedPolicy c (trees_to_end count c at) nodes w
-  not_read nodes w q p e f = unread {why = record { question = 11; at = p }} (whole_refused q p e) f
+  not_read : (nodes : List ℕ) (u : Refusal) (q p : ℕ) → read_trees count c 0 at ≡ refused q p → u ≡ record { question = question.Charter; at = p }
+      → LoadedPolicy c (trees_to_end count c at) nodes (Err u)
+  not_read nodes u q p e k = unread {why = record { question = question.Charter; at = p }} (whole_refused q p e) (rw k)
 
   read_to : (policy : List Tree) (next : ℕ) → read_trees count c 0 at ≡ got policy next → next ≡ length c → trees_to_end count c at ≡ got policy next
   unfolding trees_to_end as_eleven and_then to_its_end
@@ -123,16 +114,16 @@ module _ (c : List ℕ) (at count : ℕ) (nodes : List ℕ) (trees : Trees) (nex
     unfolding read_trees_in after and_then
     policy_is = let z : count - trees.len ≡ 0 = omega (arith, s.all_done) in s.whole ∙ rw (z, append-nil s.policy)
 
-    pub all_read : count ≤ 16 → next ≡ length c → LoadedPolicy c (trees_to_end count c at) nodes (record { end = end_case.At next; trees = trees })
+    pub all_read : count ≤ 16 → next ≡ length c → LoadedPolicy c (trees_to_end count c at) nodes (Ok (record { trees = trees; next = next }))
     unfolding start_of
     all_read l e =
         let small : trees.len ≤ 16 = omega (arith, s.few) in
-        loaded {policy = s.policy} {next = next} (read_to c at count s.policy next policy_is e) refl (record { few = small; rows = s.high })
+        loaded {policy = s.policy} {next = next} {p = record { trees = trees; next = next }} (read_to c at count s.policy next policy_is e) refl refl (record { few = small; rows = s.high })
         (all_held c nodes trees s.long_kinds s.long_ends small s.high s.policy 0 0 refl (omega (arith, s.many)) s.kinds_are s.ends_are (rw s.used_is at s.rows_are))
 
-    pub left_over_lem : (w : PolicyRead) → (next ≡ length c → ⊥) → w.end ≡ end_case.Refused (record { question = 11; at = next })
-        → LoadedPolicy c (trees_to_end count c at) nodes w
-    left_over_lem w e f = unread {why = record { question = 11; at = next }} (read_short c at count s.policy next policy_is e) f
+    pub left_over_lem : (u : Refusal) → (next ≡ length c → ⊥) → u ≡ record { question = question.Charter; at = next }
+        → LoadedPolicy c (trees_to_end count c at) nodes (Err u)
+    left_over_lem u e k = unread {why = record { question = question.Charter; at = next }} (read_short c at count s.policy next policy_is e) (rw k)
 
   -- One tree more is read.
   module _ (h : done < count) (small : count ≤ 16) (t : Tree) (m v j : ℕ) (z : below 16 c next ≡ got t.kind m) (y : read_node 8 c used m ≡ got t.root j)
@@ -186,25 +177,23 @@ module _ (c : List ℕ) (at count : ℕ) (nodes : List ℕ) (trees : Trees) (nex
     })
 
   -- One tree more is to be read.
-  module _ (h : done < count) (r : NumberRead) (e : number r ≡ below 16 c next) where
-    pub kind_refused : (q : Refusal) (w : PolicyRead) → r ≡ number_read.Refused q
-        → w.end ≡ end_case.Refused (record { question = 11; at = (refusal_of r).at }) → LoadedPolicy c (trees_to_end count c at) nodes w
+  module _ (h : done < count) (r : Result Number Refusal) (e : number r ≡ below 16 c next) where
+    pub kind_refused : (w u : Refusal) → r ≡ Err w → u ≡ record { question = question.Charter; at = w.at } → LoadedPolicy c (trees_to_end count c at) nodes (Err u)
     unfolding after and_then
-    kind_refused q w f g =
+    kind_refused w u f k =
         let z = sym (rw f at e) in
-        not_read c at count nodes w q.question q.at (s.whole ∙ rw (trees_step (count - trees.len) c used next (omega (arith, s.all_done)), z)) (rw (same_place r q f) at g)
+        not_read c at count nodes u (number_of w.question) w.at (s.whole ∙ rw (trees_step (count - trees.len) c used next (omega (arith, s.all_done)), z)) k
 
-    module _ (k : Number) (f : r ≡ number_read.Found k) (nodes₁ : List ℕ) (b : NumberRead)
+    module _ (k : Number) (f : r ≡ Ok k) (nodes₁ : List ℕ) (b : Result Number Refusal)
         (l : Loaded c (node_read (read_node 8 c used k.next)) 0 used nodes nodes₁ b) where
-      pub tree_refused : (q : Refusal) (w : PolicyRead) → b ≡ number_read.Refused q
-          → w.end ≡ end_case.Refused (record { question = 11; at = (refusal_of b).at }) → LoadedPolicy c (trees_to_end count c at) nodes₁ w
+      pub tree_refused : (w u : Refusal) → b ≡ Err w → u ≡ record { question = question.Charter; at = w.at } → LoadedPolicy c (trees_to_end count c at) nodes₁ (Err u)
       unfolding after and_then
-      tree_refused q w g i =
+      tree_refused w u g i =
           let z = sym (rw f at e) in
-          let y = root_not used (read_node 8 c used k.next) {q = q.question} {p = q.at} (rw g at l.answer) in
-          not_read c at count nodes₁ w q.question q.at (s.whole ∙ rw (trees_step (count - trees.len) c used next (omega (arith, s.all_done)), z, y)) (rw (same_place b q g) at i)
+          let y = root_not used (read_node 8 c used k.next) {q = number_of w.question} {p = w.at} (rw g at l.answer) in
+          not_read c at count nodes₁ u (number_of w.question) w.at (s.whole ∙ rw (trees_step (count - trees.len) c used next (omega (arith, s.all_done)), z, y)) i
 
-      pub tree_read : (n : Number) (w : Trees) → b ≡ number_read.Found n → w ≡ with_tree trees k.value n.value → count ≤ 16
+      pub tree_read : (n : Number) (w : Trees) → b ≡ Ok n → w ≡ with_tree trees k.value n.value → count ≤ 16
           → TreesRead c at count nodes₁ w n.next n.value (done + 1)
       tree_read n w g i few =
           let x = root_got used (read_node 8 c used k.next) {v = n.value} {k = n.next} (rw g at l.answer) in
@@ -219,17 +208,16 @@ room_for_one c at count nodes trees next used done s h few = omega (arith, s.all
 pub ruleset tree_steps = (rules, room_for_one, none_read, all_read, left_over_lem, kind_refused, tree_refused, tree_read)
 
 -- The count of trees, and then the trees.
-module _ (c : List ℕ) (r : NumberRead) (e : number r ≡ below 17 c 0) where
-  pub policy_refused : (nodes : List ℕ) (q : Refusal) (w : PolicyRead) → r ≡ number_read.Refused q
-      → w.end ≡ end_case.Refused (record { question = 11; at = (refusal_of r).at }) → LoadedPolicy c (read_policy c) nodes w
+module _ (c : List ℕ) (r : Result Number Refusal) (e : number r ≡ below 17 c 0) where
+  pub policy_refused : (nodes : List ℕ) (w u : Refusal) → r ≡ Err w → u ≡ record { question = question.Charter; at = w.at } → LoadedPolicy c (read_policy c) nodes (Err u)
   unfolding read_policy_in as_eleven and_then
-  policy_refused nodes q w f g = unread {why = record { question = 11; at = q.at }} refused_first (rw (same_place r q f) at g)
+  policy_refused nodes w u f k = unread {why = record { question = question.Charter; at = w.at }} refused_first (rw k)
     where
-      refused_first : read_policy c ≡ refused 11 q.at
+      refused_first : read_policy c ≡ refused 11 w.at
       refused_first = let z = sym (rw f at e) in rw z
 
-  module _ (n : Number) (f : r ≡ number_read.Found n) where
-    pub policy_read : (nodes : List ℕ) (w : PolicyRead) → LoadedPolicy c (trees_to_end n.value c n.next) nodes w → LoadedPolicy c (read_policy c) nodes w
+  module _ (n : Number) (f : r ≡ Ok n) where
+    pub policy_read : (nodes : List ℕ) (w : Result PolicyAt Refusal) → LoadedPolicy c (trees_to_end n.value c n.next) nodes w → LoadedPolicy c (read_policy c) nodes w
     unfolding read_policy_in trees_to_end and_then
     policy_read nodes w l = rw trees_follow l
       where

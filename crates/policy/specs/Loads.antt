@@ -2,15 +2,14 @@
 use Rattle.std.specs.Prelude.{ℕ, zero, suc, ◌+◌, ◌-◌, ◌%◌, ◌<◌, ◌≤◌, ◌≡◌, List, [], ◌∷◌, ◌++◌, length, get_or, set, replicate, Result, Ok, Err}
 use Rattle.reading.specs.Read.{Read, got, refused, and_then, byte_at, below}
 use Rattle.reading.specs.System.{to_its_end}
-use Rattle.reading.specs.Told.{number}
-use Rattle.reading.specs.declared.NumberRead.{NumberRead}
+use Rattle.reading.specs.Told.{number_of, number, told}
+use Rattle.reading.specs.declared.Number.{Number}
 use Rattle.reading.specs.declared.Refusal.{Refusal}
 use Rattle.policy.specs.declared.PermissionsAt.{PermissionsAt}
 use Rattle.policy.specs.declared.Permissions.{Permissions as Stored}
 use Rattle.policy.specs.declared.Node.{Node as Row}
 use Rattle.policy.specs.declared.Opening.{Opening}
-use Rattle.reading.specs.declared.End.TheVariants as end_case
-use Rattle.policy.specs.declared.PolicyRead.{PolicyRead}
+use Rattle.policy.specs.declared.PolicyAt.{PolicyAt}
 use Rattle.policy.specs.declared.Trees.{Trees}
 use Rattle.policy.specs.Syntax.{Granted, Permissions, Node, Nodes, Head, alone, heads_of, Tree}
 use Rattle.policy.specs.Reading.{as_eleven, children, read_permissions, read_node, read_trees}
@@ -18,8 +17,7 @@ use Rattle.policy.specs.Rows.{permissions_of, flat_of, flats, flatten}
 
 -- permissions that were read, by where they stand
 abbrev pub permissions_read : List ℕ → Result PermissionsAt Refusal → Read Permissions
-permissions_read c (Ok p) = got (permissions_of c p.permissions) p.next
-permissions_read c (Err r) = refused r.question r.at
+permissions_read c = told (λ p. got (permissions_of c p.permissions) p.next)
 
 -- What is stored of permissions fits its cells, and so does what is stored of a node.
 pub record PermissionsFit (p : Stored) : Type 0 where
@@ -49,8 +47,7 @@ read_opening c at =
     and_then (byte_at c k) (λ n e. got (record { head = record { group = g; permissions = p }; children = n }) e)))
 
 abbrev pub opening_read : List ℕ → Result Opening Refusal → Read Opened
-opening_read c (Ok o) = got (record { head = (flat_of c o.node).head; children = o.children }) o.next
-opening_read c (Err r) = refused r.question r.at
+opening_read c = told (λ o. got (record { head = (flat_of c o.node).head; children = o.children }) o.next)
 
 pub record OpeningFits (depth : ℕ) (o : Opening) : Type 0 where
   pub fits : NodeFits o.node
@@ -87,7 +84,7 @@ rows_only used (refused question at) = refused question at
 
 -- Nodes that were read into the table from row `used` on, the first at a depth: where they read, the table's rows are those
 -- before and then theirs.
-pub record Loaded (c : List ℕ) (read : Read Nodes) (depth used : ℕ) (nodes nodes' : List ℕ) (r : NumberRead) : Type 0 where
+pub record Loaded (c : List ℕ) (read : Read Nodes) (depth used : ℕ) (nodes nodes' : List ℕ) (r : Result Number Refusal) : Type 0 where
   pub answer : number r ≡ rows_only used read
   pub rows : (ns : Nodes) (next : ℕ) → read ≡ got ns next
       → flats c nodes' 0 (used + length (heads_of ns)) ≡ flats c nodes 0 used ++ flatten depth ns
@@ -130,9 +127,9 @@ pub record Bounded (trees : Trees) : Type 0 where
   pub few : trees.len ≤ 16
   pub rows : (t : ℕ) → get_or trees.ends t 0 ≤ 64
 
--- What the reading of a whole policy answers: the refusal of the definition, question and place; or the place after it, and then the
--- table holds its trees.
-pub data LoadedPolicy (c : List ℕ) (read : Read (List Tree)) (nodes : List ℕ) (r : PolicyRead) : Type 0 where
-  unread : {why : Refusal} → read ≡ refused why.question why.at → r.end ≡ end_case.Refused why → LoadedPolicy c read nodes r
-  loaded : {policy : List Tree} {next : ℕ} → read ≡ got policy next → r.end ≡ end_case.At next → Bounded r.trees
-      → AllHeld c nodes r.trees 0 policy → LoadedPolicy c read nodes r
+-- What the reading of a whole policy answers: the refusal of the definition, question and place; or its trees and the place after it, and
+-- then the table holds its trees.
+pub data LoadedPolicy (c : List ℕ) (read : Read (List Tree)) (nodes : List ℕ) (r : Result PolicyAt Refusal) : Type 0 where
+  unread : {why : Refusal} → read ≡ refused (number_of why.question) why.at → r ≡ Err why → LoadedPolicy c read nodes r
+  loaded : {policy : List Tree} {next : ℕ} {p : PolicyAt} → read ≡ got policy next → r ≡ Ok p → p.next ≡ next → Bounded p.trees
+      → AllHeld c nodes p.trees 0 policy → LoadedPolicy c read nodes r

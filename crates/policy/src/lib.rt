@@ -8,8 +8,6 @@ ghost use Rattle.policy.specs.Loads.{Bounded};
 pub mod nodes;
 pub mod read;
 
-use reading::End;
-
 // A node's permission map, where its disclose list stands (the place of its first item, and how many there are: 0 where it has no
 // list), and the purposes for which it grants, bit p for purpose p.
 #[derive(Clone, Copy, Debug, PartialEq, Eq)]
@@ -51,12 +49,11 @@ pub struct Trees {
     pub ends: [u8; 16],
 }
 
-// What the reading of a policy answers: the place after it, or its refusal; and its trees, which are nothing where it is refused. (An
-// enum can hold no array, so they stand beside it.)
-#[derive(Clone, Copy)]
-pub struct PolicyRead {
-    pub end: End,
+/// The trees of a policy, and the place after it.
+#[derive(Clone, Copy, Debug, PartialEq, Eq)]
+pub struct PolicyAt {
     pub trees: Trees,
+    pub next: usize,
 }
 
 // The rows of one tree: from its root's row up to `to`.

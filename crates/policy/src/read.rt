@@ -1,7 +1,8 @@
 // Reads a policy into the table of nodes: question 11.
 ghost use Rattle.std.specs.Prelude.{◌≡◌, cond, List, [], ℕ, ◌≤◌, ◌<◌, ◌-◌, length, take};
 ghost use Rattle.reading.specs.Read.{got};
-ghost use Rattle.reading.specs.Told.{number, refusal_of};
+ghost use Rattle.reading.specs.Told.{number};
+ghost use Rattle.reading.specs.declared.Question.TheVariants as question;
 ghost use Rattle.policy.specs.Syntax.{has_bit};
 ghost use Rattle.policy.specs.Reading.{two_bytes, is_count, item_at, read_list, counted_list, read_purposes, read_permissions, read_node, read_policy};
 ghost use Rattle.policy.specs.Loads.{
@@ -22,30 +23,34 @@ ghost use Rattle.policy.specs.Loads.{
 };
 
 use crate::nodes::{has_bit, store_node};
-use crate::{Node, Opening, Permissions, PermissionsAt, PolicyRead, Trees};
-use reading::bytes::{byte_at, byte_below, refusal};
-use reading::{End, Number, NumberRead, Refusal};
+use crate::{Node, Opening, Permissions, PermissionsAt, PolicyAt, Trees};
+use reading::bytes::{byte_at, byte_below};
+use reading::{Number, Question, Refusal};
 
-fn fault(at: usize) -> NumberRead
-    ensures { result ≡ NumberRead.Refused (record { question = 11; at = at }) }
+// A refusal at a place of a policy.
+fn fault(at: usize) -> Refusal
+    ensures { result ≡ record { question = question.Charter; at = at } }
 {
-    NumberRead::Refused(Refusal { question: 11, at })
+    Refusal {
+        question: Question::Charter,
+        at,
+    }
 }
 
 // A two-byte number, the low byte first.
 #[tactic(auto, using(crate::proofs::ListSteps::word_steps), unfolding(crate::specs::Reading::two_bytes))]
-pub fn two_bytes(c: &[u8], at: usize) -> NumberRead
+pub fn two_bytes(c: &[u8], at: usize) -> Result<Number, Refusal>
     ensures { number result ≡ two_bytes c.now at }
 {
     let first = byte_at(c, at);
-    let NumberRead::Found(low) = first else {
+    let Ok(low) = first else {
         return first;
     };
     let second = byte_at(c, low.next);
-    let NumberRead::Found(high) = second else {
+    let Ok(high) = second else {
         return second;
     };
-    NumberRead::Found(Number {
+    Ok(Number {
         value: low.value + 256 * high.value,
         next: high.next,
     })
@@ -61,84 +66,84 @@ fn is_count(n: usize) -> bool
 
 // An item of a disclose list, whose group is at least `lowest`; the number found is its group.
 #[tactic(auto, using(crate::proofs::ListSteps::item_steps))]
-fn item_at(c: &[u8], at: usize, lowest: usize) -> NumberRead
+fn item_at(c: &[u8], at: usize, lowest: usize) -> Result<Number, Refusal>
     ensures { number result ≡ group_only (item_at c.now lowest at) }
 {
     let first = byte_below(c, at, 64);
-    let NumberRead::Found(group) = first else {
+    let Ok(group) = first else {
         return first;
     };
     if group.value < lowest {
-        return fault(at);
+        return Err(fault(at));
     }
     let second = two_bytes(c, group.next);
-    let NumberRead::Found(count) = second else {
+    let Ok(count) = second else {
         return second;
     };
     if is_count(count.value) {
-        NumberRead::Found(Number {
+        Ok(Number {
             value: group.value,
             next: count.next,
         })
     } else {
-        fault(group.next)
+        Err(fault(group.next))
     }
 }
 
 // Reads past `count` items, groups strictly rising; the number found is `count`.
 #[tactic(auto, using(crate::proofs::ListSteps::list_steps))]
-fn read_list(c: &[u8], at: usize, count: usize) -> NumberRead
+fn read_list(c: &[u8], at: usize, count: usize) -> Result<Number, Refusal>
     ensures { number result ≡ count_only (read_list count c.now 0 at) }
 {
     let mut next = at;
     let mut lowest: usize = 0;
     for _ in 0..count {
         let read = item_at(c, next, lowest);
-        let NumberRead::Found(item) = read else {
+        let Ok(item) = read else {
             return read;
         };
         next = item.next;
         lowest = item.value + 1;
     }
-    NumberRead::Found(Number { value: count, next })
+    Ok(Number { value: count, next })
 }
 
 // A counted list: 1 to 64 items.
 #[tactic(auto, using(crate::proofs::ListSteps::counted_steps))]
-fn counted_list(c: &[u8], at: usize) -> NumberRead
+fn counted_list(c: &[u8], at: usize) -> Result<Number, Refusal>
     ensures { number result ≡ count_only (counted_list c.now at) }
 {
     let read = byte_below(c, at, 65);
-    let NumberRead::Found(count) = read else {
+    let Ok(count) = read else {
         return read;
     };
     if count.value == 0 {
-        return fault(at);
+        return Err(fault(at));
     }
     read_list(c, count.next, count.value)
 }
 
 // The list of a permission map, where bit 4 announces one; the number found is how many items it has.
 #[tactic(auto, using(crate::proofs::PermissionSteps::announced_steps))]
-fn list_at(c: &[u8], at: usize, map: usize) -> NumberRead
+fn list_at(c: &[u8], at: usize, map: usize) -> Result<Number, Refusal>
     ensures { number result ≡ count_only (cond (has_bit 16 map) (counted_list c.now at) (got [] at)) }
 {
     if has_bit(map, 16) {
         counted_list(c, at)
     } else {
-        NumberRead::Found(Number { value: 0, next: at })
+        Ok(Number { value: 0, next: at })
     }
 }
 
 // The purposes of a permission map: two bytes where bit 5 announces them, and otherwise all sixteen.
 #[tactic(auto, using(crate::proofs::PermissionSteps::announced_steps))]
-fn purposes_at(c: &[u8], at: usize, map: usize) -> NumberRead
+fn purposes_at(c: &[u8], at: usize, map: usize) -> Result<Number, Refusal>
     ensures { number result ≡ read_purposes map c.now at }
 {
     if has_bit(map, 32) {
         two_bytes(c, at)
     } else {
-        NumberRead::Found(Number {
+        Ok(Number {
             value: 65535,
             next: at,
         })
@@ -153,16 +158,16 @@ fn permissions_at(c: &[u8], at: usize) -> Result<PermissionsAt, Refusal>
     ensures permissions_fit { PermissionsReadFit result }
 {
     let first = byte_below(c, at, 64);
-    let NumberRead::Found(map) = first else {
-        return Err(refusal(first));
+    let Ok(map) = first else {
+        return Err(first.unwrap_err());
     };
     let second = list_at(c, map.next, map.value);
-    let NumberRead::Found(list) = second else {
-        return Err(refusal(second));
+    let Ok(list) = second else {
+        return Err(second.unwrap_err());
     };
     let third = purposes_at(c, list.next, map.value);
-    let NumberRead::Found(purposes) = third else {
-        return Err(refusal(third));
+    let Ok(purposes) = third else {
+        return Err(third.unwrap_err());
     };
     let permissions = Permissions {
         map: map.value,
@@ -184,16 +189,16 @@ fn read_opening(c: &[u8], at: usize, depth: usize) -> Result<Opening, Refusal>
     ensures opening_fits { OpeningReadFits depth result }
 {
     let first = byte_below(c, at, 64);
-    let NumberRead::Found(group) = first else {
-        return Err(refusal(first));
+    let Ok(group) = first else {
+        return Err(first.unwrap_err());
     };
     let second = permissions_at(c, group.next);
     let Ok(found) = second else {
         return Err(second.unwrap_err());
     };
     let third = byte_at(c, found.next);
-    let NumberRead::Found(count) = third else {
-        return Err(refusal(third));
+    let Ok(count) = third else {
+        return Err(third.unwrap_err());
     };
     let permissions = found.permissions;
     let node = Node {
@@ -212,20 +217,26 @@ fn read_opening(c: &[u8], at: usize, depth: usize) -> Result<Opening, Refusal>
 // `level` more nodes may be nested.
 #[cycle(read_children_read_node)]
 #[tactic(auto, using(crate::proofs::NodeSteps::child_steps, crate::proofs::NodeSteps::root_steps))]
-fn read_node(c: &[u8], at: usize, level: usize, used: usize, nodes: &mut [u16]) -> NumberRead
+fn read_node(
+    c: &[u8],
+    at: usize,
+    level: usize,
+    used: usize,
+    nodes: &mut [u16],
+) -> Result<Number, Refusal>
     requires { (level ≤ 8) × (length nodes.old ≡ 384) × (length c.now ≤ 4096) }
     ensures { Loaded c.now (node_read (read_node level c.now used at)) (8 - level) used nodes.old
         nodes.new result }
 {
     if level == 0 {
-        return fault(at);
+        return Err(fault(at));
     }
     if 64 <= used {
-        return fault(at);
+        return Err(fault(at));
     }
     let read = read_opening(c, at, 8 - level);
     let Ok(opening) = read else {
-        return NumberRead::Refused(read.unwrap_err());
+        return Err(read.unwrap_err());
     };
     let node = opening.node;
     store_node(nodes, used, node);
@@ -249,7 +260,7 @@ fn read_children(
     level: usize,
     used: usize,
     nodes: &mut [u16],
-) -> NumberRead
+) -> Result<Number, Refusal>
     requires { (level < 8) × (count < 256) × (length nodes.old ≡ 384) × (length c.now ≤ 4096) }
     ensures { Loaded c.now (children_read level c.now count used at) (8 - level) used nodes.old
         nodes.new result }
@@ -258,31 +269,13 @@ fn read_children(
     let mut rows = used;
     for _ in 0..count {
         let read = read_node(c, next, level, rows, nodes);
-        let NumberRead::Found(child) = read else {
+        let Ok(child) = read else {
             return read;
         };
         next = child.next;
         rows = child.value;
     }
-    NumberRead::Found(Number { value: rows, next })
-}
-
-// A policy that does not read, by a fault at a place.
-fn unread(at: usize) -> PolicyRead
-    ensures { result.end ≡ End.Refused (record { question = 11; at = at }) }
-{
-    PolicyRead {
-        end: End::Refused(Refusal { question: 11, at }),
-        trees: no_trees(),
-    }
-}
-
-#[tactic(auto, using(crate::proofs::TreeSteps::place_kept))]
-fn not_policy(read: NumberRead) -> PolicyRead
-    ensures { result.end ≡ End.Refused (record { question = 11; at = (refusal_of read).at }) }
-{
-    let why = refusal(read);
-    unread(why.at)
+    Ok(Number { value: rows, next })
 }
 
 // One tree more: its kind, and the row after its last node.
@@ -316,7 +309,7 @@ pub fn no_trees() -> Trees
 
 // Reads `count` trees, one after another, to the end of the policy.
 #[tactic(auto, using(crate::proofs::TreeSteps::tree_steps))]
-fn read_trees(c: &[u8], at: usize, count: usize, nodes: &mut [u16]) -> PolicyRead
+fn read_trees(c: &[u8], at: usize, count: usize, nodes: &mut [u16]) -> Result<PolicyAt, Refusal>
     requires { (count ≤ 16) × (length nodes.old ≡ 384) × (length c.now ≤ 4096) }
     ensures { LoadedPolicy c.now (trees_to_end count c.now at) nodes.new result }
 {
@@ -325,36 +318,33 @@ fn read_trees(c: &[u8], at: usize, count: usize, nodes: &mut [u16]) -> PolicyRea
     let mut used: usize = 0;
     for _ in 0..count {
         let first = byte_below(c, next, 16);
-        let NumberRead::Found(kind) = first else {
-            return not_policy(first);
+        let Ok(kind) = first else {
+            return Err(fault(first.unwrap_err().at));
         };
         let second = read_node(c, kind.next, 8, used, nodes);
-        let NumberRead::Found(tree) = second else {
-            return not_policy(second);
+        let Ok(tree) = second else {
+            return Err(fault(second.unwrap_err().at));
         };
         trees = with_tree(trees, kind.value, tree.value);
         next = tree.next;
         used = tree.value;
     }
     if next == c.len() {
-        PolicyRead {
-            end: End::At(next),
-            trees,
-        }
+        Ok(PolicyAt { trees, next })
     } else {
-        unread(next)
+        Err(fault(next))
     }
 }
 
 // Reads a policy to its end.
 #[tactic(auto, using(crate::proofs::TreeSteps::policy_steps))]
-pub fn read_policy(c: &[u8], nodes: &mut [u16]) -> PolicyRead
+pub fn read_policy(c: &[u8], nodes: &mut [u16]) -> Result<PolicyAt, Refusal>
     requires { (length nodes.old ≡ 384) × (length c.now ≤ 4096) }
     ensures { LoadedPolicy c.now (read_policy c.now) nodes.new result }
 {
     let read = byte_below(c, 0, 17);
-    let NumberRead::Found(count) = read else {
-        return not_policy(read);
+    let Ok(count) = read else {
+        return Err(fault(read.unwrap_err().at));
     };
     read_trees(c, count.next, count.value, nodes)
 }
