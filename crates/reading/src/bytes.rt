@@ -24,10 +24,7 @@ pub fn byte_at(s: &[u8], at: usize) -> Result<Number, Refusal>
             next: at + 1,
         })
     } else {
-        Err(Refusal {
-            question: Question::Byte,
-            at,
-        })
+        Err(Question::Byte.at(at))
     }
 }
 
@@ -43,9 +40,6 @@ pub fn byte_below(s: &[u8], at: usize, bound: usize) -> Result<Number, Refusal>
     if byte.value < bound {
         Ok(byte)
     } else {
-        Err(Refusal {
-            question: Question::Range,
-            at,
-        })
+        Err(Question::Range.at(at))
     }
 }

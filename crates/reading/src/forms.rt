@@ -19,24 +19,11 @@ use crate::bytes::{byte_at, byte_below};
 use crate::types::type_at;
 use crate::{Act, Form, Number, OwnFields, Path, Place, Question, Refusal, Source, Spot};
 
-// Question 5 fails at the code byte of the form that is too many.
-fn too_many(at: usize) -> Result<Place, Refusal>
-    ensures { told result ≡ refused 5 at }
-{
-    Err(Refusal {
-        question: Question::Limits,
-        at,
-    })
-}
-
 // Question 4 fails at a code byte that no form has.
 fn no_form(at: usize) -> Result<Place, Refusal>
     ensures { told result ≡ refused 4 at }
 {
-    Err(Refusal {
-        question: Question::Range,
-        at,
-    })
+    Err(Question::Range.at(at))
 }
 
 // A form without fields.
@@ -47,7 +34,7 @@ fn bare(form: Form, at: usize, next: usize, room: bool) -> Result<Place, Refusal
     if room {
         Ok(Place { form, next })
     } else {
-        too_many(at)
+        Err(Question::Limits.at(at))
     }
 }
 
@@ -81,7 +68,7 @@ impl Source<'_> {
         ensures { told result ≡ limited room at (new_form_in self.entry.dialect self.entry.bytes.now next) }
     {
         if !room {
-            return too_many(at);
+            return Err(Question::Limits.at(at));
         }
         let read = type_at(self.dialect, self.bytes, next);
         let Ok(bound) = read else {
@@ -99,7 +86,7 @@ impl Source<'_> {
         ensures { told result ≡ limited room at (input_form_in self.entry.dialect self.entry.bytes.now next) }
     {
         if !room {
-            return too_many(at);
+            return Err(Question::Limits.at(at));
         }
         let first = byte_at(self.bytes, next);
         let Ok(channel) = first else {
@@ -124,7 +111,7 @@ impl Source<'_> {
         ensures { told result ≡ limited room at (output_form self.entry.bytes.now next) }
     {
         if !room {
-            return too_many(at);
+            return Err(Question::Limits.at(at));
         }
         let first = byte_at(self.bytes, next);
         let Ok(channel) = first else {
@@ -153,10 +140,7 @@ impl Source<'_> {
             return read;
         };
         if path.has(group.value) {
-            Err(Refusal {
-                question: Question::NewGroup,
-                at,
-            })
+            Err(Question::NewGroup.at(at))
         } else {
             Ok(group)
         }
@@ -168,7 +152,7 @@ impl Source<'_> {
         ensures { told result ≡ limited room at (group_form_in self.entry.dialect self.entry.bytes.now next (path_of path)) }
     {
         if !room {
-            return too_many(at);
+            return Err(Question::Limits.at(at));
         }
         let read = self.fresh_group(next, path);
         let Ok(group) = read else {
@@ -205,7 +189,7 @@ impl Source<'_> {
         ensures { told result ≡ limited room at (component_form_in self.entry.dialect self.entry.bytes.now next (path_of path)) }
     {
         if !room {
-            return too_many(at);
+            return Err(Question::Limits.at(at));
         }
         let first = self.fresh_group(next, path);
         let Ok(group) = first else {
