@@ -1,6 +1,6 @@
 -- How many bytes a move has, told from its code and the bytes left, without its fields.
 use Prim.Native.Nat.{ℕ, zero, suc, ◌+◌, ◌-◌, ◌<◌, ◌≤◌}
-use Rattle.std.specs.Prelude.{Option, Some, None, IfSome}
+use Rattle.std.specs.Prelude.{Option, Some, None, IfSome, Result, Ok, Err}
 use mathlib.Core.Bool.{Bool, true, false, cond}
 use mathlib.Core.List.{List}
 use mathlib.Core.Path.{◌≡◌, refl, sym, ap, ◌∙◌}
@@ -19,8 +19,6 @@ use Rattle.reading.specs.Told.{number}
 use Rattle.reading.specs.declared.Dialect.{Dialect}
 use Rattle.reading.specs.declared.Dialect.TheVariants.{Current as current}
 use Rattle.reading.specs.declared.Number.{Number}
-use Rattle.reading.specs.declared.NumberRead.{NumberRead}
-use Rattle.reading.specs.declared.NumberRead.TheVariants as number_read
 use Rattle.reading.specs.declared.Refusal.{Refusal}
 use Rattle.policy.proofs.ListLaws.{below_is}
 use Rattle.policy.specs.Reading.{two_bytes}
@@ -51,12 +49,12 @@ type_end s at e =
     (omega (arith, b.next, r.0), r.1)
 
 -- A move whose field is a type.
-module _ (s : List ℕ) (at : ℕ) (r : NumberRead) (e : number r ≡ type_at s (at + 1)) where
-  pub type_none : (q : Refusal) → r ≡ number_read.Refused q → Spans at (environment_name_at s (at + 1)) None
+module _ (s : List ℕ) (at : ℕ) (r : Result Number Refusal) (e : number r ≡ type_at s (at + 1)) where
+  pub type_none : (q : Refusal) → r ≡ Err q → Spans at (environment_name_at s (at + 1)) None
   unfolding Spans environment_name_at and_then
   type_none q f = rw (← e, f) tt
 
-  module _ (n : Number) (f : r ≡ number_read.Found n) where
+  module _ (n : Number) (f : r ≡ Ok n) where
     reads : type_at s (at + 1) ≡ got n.value n.next
     reads = sym e ∙ ap number f
 

@@ -5,8 +5,6 @@
 pub mod moves;
 pub mod records;
 
-use reading::Refusal;
-
 /// A name that a thread is to receive from the environment.
 #[derive(Clone, Copy, PartialEq, Eq, Debug)]
 pub struct Receipt {
@@ -37,12 +35,6 @@ pub enum Move {
 pub struct MovePlace {
     pub step: Move,
     pub next: usize,
-}
-
-#[derive(Clone, Copy, PartialEq, Eq, Debug)]
-pub enum MoveRead {
-    Found(MovePlace),
-    Refused(Refusal),
 }
 
 /// A record of the log. A refused move has its number and zeros in all other fields.
