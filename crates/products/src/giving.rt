@@ -3,8 +3,8 @@ ghost use Rattle.std.specs.Prelude.{◌≡◌, ◌-◌, ◌<◌};
 ghost use Rattle.products.specs.Makers.{GivesIn, PushesIn};
 
 use crate::{MAX_CELLS, MAX_NAMES, MAX_THREADS, Maker, Sizes};
-use memory::{Thread, put};
 use memory::chains::bind;
+use memory::{Thread, put};
 
 impl<'a> Maker<'a> {
     /// Gives a name of type `t` the next number; its cell comes after `env`. Where no number or no cell is left, the names count as

@@ -120,7 +120,10 @@ pub fn move_at(s: &[u8], at: usize) -> Result<MovePlace, Refusal>
         3 => receipt_at(s, next),
         4 => communication_at(s, next),
         5 => environment_name_at(s, next),
-        _ => Err(Refusal { question: Question::Range, at: next }),
+        _ => Err(Refusal {
+            question: Question::Range,
+            at: next,
+        }),
     }
 }
 
