@@ -1,4 +1,6 @@
 // Threads as numbers, each field in digits of its own, and a list of threads of which a part is replaced.
+// Kept as numbers: the definitions `packed` and `unpacked` and the law `unpack_pack` speak of the digits, and what a run holds
+// (`Holds` of the crate products) is told by them.
 ghost use Rattle.std.specs.Prelude.{◌≡◌, ◌+◌, ◌-◌, ◌<◌, ◌≤◌, length, take, drop};
 ghost use Rattle.memory.specs.Threads.{packed, unpacked, replaced};
 
