@@ -8,6 +8,7 @@ use inference::rows::{path_len, path_of};
 use interface::{disclosed_groups, is_used, map_at};
 
 // The length of an entry up to its map, the same for every kind.
+#[tactic(auto, using(crate::proofs::LengthSteps::length_steps))]
 fn head_len(table: &[u16], component: usize) -> usize
     requires { component < 32 }
     ensures value { result ≡ 4 + length (path_at table.now component) }
@@ -17,6 +18,7 @@ fn head_len(table: &[u16], component: usize) -> usize
 }
 
 // The length of an entry with its slack, five bytes for each group that it discloses to; 0 where there is no entry.
+#[tactic(auto, using(crate::proofs::LengthSteps::length_steps))]
 fn entry_len(table: &[u16], component: usize, kind: usize, head: usize) -> usize
     requires { (component < 32) × (kind < 16) × (head ≡ 4 + length (path_at table.now component)) × (head ≤ 12) }
     ensures { (c nodes : List ℕ) (trees : Trees) (sums : List ℕ)
@@ -36,6 +38,7 @@ fn entry_len(table: &[u16], component: usize, kind: usize, head: usize) -> usize
 }
 
 // The length of the entries of a component.
+#[tactic(auto, using(crate::proofs::LengthSteps::length_steps))]
 fn row_len(table: &[u16], component: usize) -> usize
     requires { component < 32 }
     ensures { (c nodes : List ℕ) (trees : Trees) (sums : List ℕ)
@@ -52,6 +55,7 @@ fn row_len(table: &[u16], component: usize) -> usize
 }
 
 // The length of the slack: whatever the policy and the sums, it is the same.
+#[tactic(auto, using(crate::proofs::LengthSteps::length_steps))]
 pub fn slack_len(table: &[u16], components: usize) -> usize
     requires { components ≤ 32 }
     ensures { (c nodes : List ℕ) (trees : Trees) (sums : List ℕ)

@@ -32,6 +32,7 @@ use service::{Answer, Judged};
 use sharing::{any_shared, sum_classes};
 
 // A sum as it is stored: 65,535 is unlimited.
+#[tactic(auto, using(crate::proofs::SlackSteps::slack_steps))]
 fn number_of(sum: usize) -> usize
     ensures { result ≡ count_number (sum_count sum) }
 {
@@ -39,6 +40,7 @@ fn number_of(sum: usize) -> usize
 }
 
 // Writes a sum in two bytes, the low byte first.
+#[tactic(auto, using(crate::proofs::SlackSteps::slack_steps))]
 fn put_count(sum: usize, out: &mut [u8], at: usize) -> usize
     requires { at < 4200000000 }
     ensures stored { Stored out.old out.new at (count_bytes (sum_count sum)) result }
@@ -50,6 +52,7 @@ fn put_count(sum: usize, out: &mut [u8], at: usize) -> usize
 }
 
 // Writes a group, what is needed, and what is granted.
+#[tactic(auto, using(crate::proofs::SlackSteps::slack_steps))]
 fn put_sum(sum: Sum, out: &mut [u8], at: usize) -> usize
     requires { at < 4100000000 }
     ensures { Stored out.old out.new at (verdict_bytes (sum_verdict sum)) result }
@@ -60,6 +63,7 @@ fn put_sum(sum: Sum, out: &mut [u8], at: usize) -> usize
 }
 
 // Writes the sums of an entry.
+#[tactic(auto, using(crate::proofs::SlackSteps::slack_steps))]
 fn put_each(sums: Sums, out: &mut [u8], at: usize) -> usize
     requires { (sums.len ≤ 8) × (at < 4050000000) }
     ensures { Stored out.old out.new at (gather verdict_bytes (sum_verdicts sums)) result }
@@ -76,6 +80,7 @@ fn put_each(sums: Sums, out: &mut [u8], at: usize) -> usize
 }
 
 // Writes how many sums an entry has, and the sums, where there are any.
+#[tactic(auto, using(crate::proofs::SlackSteps::slack_steps))]
 fn put_sums(sums: Sums, out: &mut [u8], at: usize) -> usize
     requires { (sums.len ≤ 8) × (at < 4000000000) }
     ensures { Stored out.old out.new at (sums_bytes (sum_verdicts sums)) result }
@@ -89,6 +94,7 @@ fn put_sums(sums: Sums, out: &mut [u8], at: usize) -> usize
 }
 
 // Writes an entry with its slack.
+#[tactic(auto, using(crate::proofs::SlackSteps::slack_steps))]
 fn put_entry(
     table: &[u16],
     component: usize,
@@ -108,6 +114,7 @@ fn put_entry(
 }
 
 // Writes the entry of a component and a kind, where there is one.
+#[tactic(auto, using(crate::proofs::SlackSteps::slack_steps))]
 fn put_kind(
     c: &[u8],
     nodes: &[u16],
@@ -131,6 +138,7 @@ fn put_kind(
 }
 
 // Writes the entries of a component.
+#[tactic(auto, using(crate::proofs::SlackSteps::slack_steps))]
 fn put_row(
     c: &[u8],
     nodes: &[u16],
@@ -155,6 +163,7 @@ fn put_row(
 }
 
 // Writes the slack from the output's first byte on; the number of bytes written.
+#[tactic(auto, using(crate::proofs::SlackSteps::slack_steps))]
 fn write_slack(
     c: &[u8],
     nodes: &[u16],
@@ -178,6 +187,7 @@ fn write_slack(
 }
 
 // Question 19, and the slack, by the sums of the classes.
+#[tactic(auto, using(crate::proofs::LengthSteps::length_steps))]
 fn deliver(
     c: &[u8],
     nodes: &[u16],
@@ -200,6 +210,7 @@ fn deliver(
 }
 
 // The same with the sums made first, in clear memory.
+#[tactic(auto, using(crate::proofs::TellSteps::telling))]
 fn deliver_shared(
     c: &[u8],
     nodes: &[u16],
@@ -223,6 +234,7 @@ fn deliver_shared(
 }
 
 // The same for any components. Where none of them share a count, no sums are made.
+#[tactic(auto, using(crate::proofs::TellSteps::telling))]
 fn deliver_slack(
     c: &[u8],
     nodes: &[u16],
@@ -243,6 +255,7 @@ fn deliver_slack(
 }
 
 // What `slack` answers, from what questions 1 to 18 came to and the tables that they left.
+#[tactic(auto, using(crate::proofs::TellSteps::telling))]
 pub fn slack_judged(
     charter: &[u8],
     nodes: &[u16],
@@ -268,6 +281,7 @@ pub fn slack_judged(
 }
 
 // The slack of a sheet that reads, with a clear table for its components.
+#[tactic(auto, using(crate::proofs::TellSteps::telling))]
 fn slack_read(sheet: &[u8], charter: &[u8], table: &mut [u16], output: &mut [u8]) -> Answer
     requires { Ready sheet.now charter.now table.old }
     ensures { Tells sheet.now charter.now output.old output.new result }
@@ -279,6 +293,7 @@ fn slack_read(sheet: &[u8], charter: &[u8], table: &mut [u16], output: &mut [u8]
 
 // Tells the slack of a sheet under a charter. The answer and the output's final bytes are those of the definition `slack_told`, for any
 // bytes in all three slices. A sheet of at most four components has a small table to clear.
+#[tactic(auto, using(crate::proofs::TellSteps::telling))]
 pub fn slack(sheet: &[u8], charter: &[u8], output: &mut [u8]) -> Answer
     ensures { Tells sheet.now charter.now output.old output.new result }
 {
