@@ -5,8 +5,8 @@ use Rattle.slack.proofs.slack.Goals as goal
 pub returns-in_default : goal.returns-in_default
 returns-in_default c = search telling
 
-pub slack_read-requires : goal.slack_read-requires
-slack_read-requires c = search telling
+pub slack_by-requires : goal.slack_by-requires
+slack_by-requires c = search telling
 
-pub slack_read-requires-2 : goal.slack_read-requires-2
-slack_read-requires-2 c = search telling
+pub slack_by-requires-2 : goal.slack_by-requires-2
+slack_by-requires-2 c = search telling
