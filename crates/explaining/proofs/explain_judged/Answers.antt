@@ -1,5 +1,4 @@
 -- Passed, refused by another question, or by 18: the three cases of the definition.
-use Rattle.std.proofs.Common.{arith}
 use Rattle.explaining.proofs.ExplainSteps.{explaining}
 use Rattle.explaining.proofs.explain_judged.Goals as goal
 
