@@ -1,5 +1,6 @@
 -- Counting a script's moves: those counted so far, with those from the place reached on, are all of them.
 use Prim.Native.Nat.{ℕ, suc, ◌+◌, ◌-◌, ◌<◌, ◌≤◌}
+use Rattle.std.specs.Prelude.{Option, Some, None, IfSome}
 use mathlib.Core.List.{List, ◌∷◌}
 use mathlib.Core.Path.{◌≡◌, refl, sym, ap, ◌∙◌}
 use native.Mathlib.Nat.{zero-add, add-zero}
@@ -27,16 +28,16 @@ unfolding counted_from and_then
 counted_more n m (got ms e) = omega arith
 counted_more n m (refused q p) = refl
 
--- A move of no bytes was not read, and one of some bytes was.
-not_read : (at : ℕ) (r : Read Move) → Spans at r 0 → (q : ℕ) × (p : ℕ) × (r ≡ refused q p)
+-- A move without a count of bytes was not read, and one with such was.
+not_read : (at : ℕ) (r : Read Move) → Spans at r None → (q : ℕ) × (p : ℕ) × (r ≡ refused q p)
 unfolding Spans
-not_read at (got m k) h = absurd (omega (arith, h.1))
+not_read at (got m k) h = absurd h
 not_read at (refused q p) h = (q, p, refl)
 
-was_read : (at n : ℕ) (r : Read Move) → Spans at r n → (n ≡ 0 → ⊥) → (m : Move) × (r ≡ got m (at + n))
+was_read : (at n : ℕ) (r : Read Move) → Spans at r (Some n) → (m : Move) × (r ≡ got m (at + n)) × (0 < n)
 unfolding Spans
-was_read at n (got m k) h f = (m, ap (λ (i : ℕ). got m i) h.0)
-was_read at n (refused q p) h f = absurd (f h)
+was_read at n (got m k) h = (m, ap (λ (i : ℕ). got m i) h.0, h.1)
+was_read at n (refused q p) h = absurd h
 
 -- The loop: `n` moves were counted, and `at` is the place after them.
 pub record Turn (s : List ℕ) (at n : ℕ) : Type 0 where
@@ -63,22 +64,24 @@ module _ (s : List ℕ) (at n : ℕ) (t : Turn s at n) where
     unfolding counted_from
     too_many k = let z : 1024 - n ≡ 0 = omega arith in rw (t.same, z, moves_full s at h)
 
-    module _ (k : n < 1024) (len : ℕ) (e : Spans at (move_at s at) len) where
+    module _ (k : n < 1024) where
       counted_step : moves_in (read_script s) ≡ counted_from n (and_then (move_at s at) (λ m j. and_then (moves_from (1024 - (n + 1)) s j) (λ ms e. got (m ∷ ms) e)))
       counted_step = let z : 1024 - n ≡ suc (1024 - (n + 1)) = omega arith in rw (t.same, z, moves_step (1024 - (n + 1)) s at h)
 
-      pub move_refused : len ≡ 0 → 65535 ≡ moves_in (read_script s)
+      pub move_refused : (r : Option ℕ) → Spans at (move_at s at) r → r ≡ None → 65535 ≡ moves_in (read_script s)
       unfolding counted_from and_then
-      move_refused f = let r = not_read at (move_at s at) (rw f at e) in rw (counted_step, r.2)
+      move_refused r e f = let q = not_read at (move_at s at) (rw f at e) in rw (counted_step, q.2)
 
-      pub next_turn : (len ≡ 0 → ⊥) → len ≤ length s - at → Turn s (at + len) (n + 1)
+      pub next_turn : (o : Option ℕ) (len : ℕ) → Spans at (move_at s at) o → o ≡ Some len → IfSome o (λ m. m ≤ length s - at)
+          → Turn s (at + len) (n + 1)
       unfolding and_then
-      next_turn f b =
-          let r = was_read at len (move_at s at) e f in
+      next_turn o len e f b =
+          let r = was_read at len (move_at s at) (rw f at e) in
+          let within : len ≤ length s - at = rw f at b in
           record {
             within = omega (arith, t.within);
             most = omega arith;
-            passed = omega (arith, f, t.passed);
+            passed = omega (arith, r.2, t.passed);
             same = rw (counted_step, r.1) (counted_more n r.0 (moves_from (1024 - (n + 1)) s (at + len)));
           }
 

@@ -1,5 +1,5 @@
 -- Which move and which answer of document 01 each value of the code is, and which bytes a record is.
-use Rattle.std.specs.Prelude.{ℕ, ◌+◌, ◌%◌, ◌<◌, ◌≡◌, List, [], ◌∷◌, ◌++◌, length, set}
+use Rattle.std.specs.Prelude.{ℕ, ◌+◌, ◌%◌, ◌<◌, ◌≡◌, List, [], ◌∷◌, ◌++◌, length, Option, Some, None}
 use Rattle.reading.specs.Read.{Read, got, refused}
 use Rattle.running.specs.Moves.{Move as Transition, unfold_repl, send_out, receive_in, communicate, environment_name, word}
 use Rattle.script.specs.declared.Move.{Move}
@@ -19,10 +19,12 @@ abbrev pub move_read : MoveRead → Read Transition
 move_read (move_read_variants.Found p) = got (move_of p.step) p.next
 move_read (move_read_variants.Refused r) = refused r.question r.at
 
--- n is how many bytes a move has that was read from a place on; 0 where none was read
-unfoldable pub Spans : ℕ → Read Transition → ℕ → Type 0
-Spans at (got m next) n = (next ≡ at + n) × (0 < n)
-Spans at (refused question place) n = n ≡ 0
+-- how many bytes a move has that was read from a place on; none where none was read
+unfoldable pub Spans : ℕ → Read Transition → Option ℕ → Type 0
+Spans at (got m next) (Some n) = (next ≡ at + n) × (0 < n)
+Spans at (got m next) None = ⊥
+Spans at (refused question place) (Some n) = ⊥
+Spans at (refused question place) None = Unit {0}
 
 -- how many moves a script has that was read; 65,535, which none has, where question 21 fails
 unfoldable pub moves_in : Read (List Transition) → ℕ
@@ -33,7 +35,3 @@ moves_in (refused question at) = 65535
 unfoldable pub bytes_of : Record → List ℕ
 bytes_of r =
     r.number % 256 ∷ r.label % 256 ∷ (word r.channel ++ (word r.name ++ (r.actor % 256 ∷ r.receiver % 256 ∷ [])))
-
--- two bytes stored one after another
-unfoldable pub two_stored : List ℕ → ℕ → ℕ → ℕ → List ℕ
-two_stored log at first second = set (set log at (first % 256)) (at + 1) (second % 256)

@@ -1,5 +1,5 @@
 // Reads a script (question 21 of document 01): the move that stands at a place, and how many moves there are to the end.
-ghost use Rattle.std.specs.Prelude.{◌≡◌, cond, ◌+◌, ◌-◌, ◌<◌, ◌≤◌, leb, length};
+ghost use Rattle.std.specs.Prelude.{◌≡◌, cond, ◌+◌, ◌-◌, ◌<◌, ◌≤◌, leb, length, IfSome};
 ghost use Rattle.reading.specs.Read.{refused};
 ghost use Rattle.reading.specs.Told.{refusal_of};
 ghost use Rattle.running.specs.Script.{move_at, read_script};
@@ -11,6 +11,9 @@ use policy::read::two_bytes;
 use reading::bytes::{byte_at, refusal};
 use reading::types::type_at;
 use reading::{Dialect, NumberRead, Refusal};
+
+/// The most moves that a script may have.
+pub const MAX_MOVES: usize = 1024;
 
 fn not_read(read: NumberRead) -> MoveRead
     ensures { result ≡ MoveRead.Refused (refusal_of read) }
@@ -137,48 +140,48 @@ pub fn move_at(s: &[u8], at: usize) -> MoveRead
     }
 }
 
-// The bytes of a move that has `len` of them; 0 where fewer are left.
-fn span(left: usize, len: usize) -> usize
-    ensures { result ≡ cond (leb len left) len 0 }
+// The bytes of a move that has `len` of them, where so many are left.
+fn span(left: usize, len: usize) -> Option<usize>
+    ensures { result ≡ cond (leb len left) (Some len) None }
 {
-    if len <= left { len } else { 0 }
+    if len <= left { Some(len) } else { None }
 }
 
-// The bytes of a move whose field is a type: its code and the type; 0 where no type can be read.
+// The bytes of a move whose field is a type, its code and the type, where a type can be read.
 #[tactic(auto, using(crate::proofs::SpanSteps::type_steps))]
-fn environment_name_span(s: &[u8], at: usize) -> usize
+fn environment_name_span(s: &[u8], at: usize) -> Option<usize>
     requires { at < length s.now }
     ensures spans { Spans at (environment_name_at s.now (at + 1)) result }
-    ensures upper_bound { result ≤ length s.now - at }
+    ensures upper_bound { IfSome result (λ n. n ≤ length s.now - at) }
 {
     let read = type_at(Dialect::Current, s, at + 1);
     let NumberRead::Found(t) = read else {
-        return 0;
+        return None;
     };
-    t.next - at
+    Some(t.next - at)
 }
 
-// How many bytes the move at a place has; 0 where none can be read.
-fn move_span(s: &[u8], at: usize) -> usize
+// How many bytes the move at a place has, where one can be read.
+#[tactic(auto, using(crate::proofs::SpanSteps::span_steps))]
+fn move_span(s: &[u8], at: usize) -> Option<usize>
     ensures spans { Spans at (move_at s.now at) result }
-    ensures upper_bound { result ≤ length s.now - at }
+    ensures upper_bound { IfSome result (λ n. n ≤ length s.now - at) }
 {
     if s.len() <= at {
-        return 0;
+        return None;
     }
     let left = s.len() - at;
     match s[at] {
-        1 => span(left, 2),
-        2 => span(left, 2),
+        1 | 2 => span(left, 2),
         3 => span(left, 4),
         4 => span(left, 3),
         5 => environment_name_span(s, at),
-        _ => 0,
+        _ => None,
     }
 }
 
-// Question 21: how many moves the script is made of, at most 1,024; 65,535 where it fails. The bytes of each move are counted, its
-// fields are not read.
+/// Question 21: how many moves the script is made of, at most 1,024; 65,535 where it fails. The bytes of each move are counted, its
+/// fields are not read.
 #[tactic(auto, using(crate::proofs::CountSteps::count_steps))]
 pub fn count_moves(s: &[u8]) -> usize
     ensures value { result ≡ moves_in (read_script s.now) }
@@ -187,13 +190,12 @@ pub fn count_moves(s: &[u8]) -> usize
     let mut at: usize = 0;
     let mut n: usize = 0;
     while at != s.len() {
-        if 1024 <= n {
+        if MAX_MOVES <= n {
             return 65535;
         }
-        let len = move_span(s, at);
-        if len == 0 {
+        let Some(len) = move_span(s, at) else {
             return 65535;
-        }
+        };
         at += len;
         n += 1;
     }
