@@ -33,6 +33,7 @@ use policy::{Span, Trees};
 use sharing::needed_at;
 
 // What is granted of a flag that an entry may need.
+#[tactic(auto, using(crate::proofs::CoverSteps::cover_steps))]
 fn flag_of(needed: usize, nodes: &[u16], givers: Givers, value: usize) -> Flag
     requires { 0 < value }
     ensures { (c : List ℕ) (p : Permission) → flag_verdicts p result ≡ flag_at p value c nodes.now (given_rows givers) needed }
@@ -47,6 +48,7 @@ fn flag_of(needed: usize, nodes: &[u16], givers: Givers, value: usize) -> Flag
 }
 
 // What is granted of the flags of the entry of a component and a kind.
+#[tactic(auto, using(crate::proofs::CoverSteps::cover_steps))]
 fn flags_of(table: &[u16], component: usize, kind: usize, nodes: &[u16], givers: Givers) -> Flags
     requires { (component < 32) × (kind < 16) }
     ensures { (c : List ℕ) (rest : List Verdict) → flags_then result rest
@@ -63,6 +65,7 @@ fn flags_of(table: &[u16], component: usize, kind: usize, nodes: &[u16], givers:
 }
 
 // The sums for a group; no matter which, where the component's own count is 0.
+#[tactic(auto, using(crate::proofs::CoverSteps::cover_steps))]
 fn sum_of(own: usize, needed: usize, c: &[u8], nodes: &[u16], givers: Givers, group: usize) -> Sum
     ensures { (own ≡ 0 → ⊥) → sum_verdict result ≡ counts group (sum_count needed) (joined_at group c.now nodes.now (given_rows givers)) }
 {
@@ -81,6 +84,7 @@ fn sum_of(own: usize, needed: usize, c: &[u8], nodes: &[u16], givers: Givers, gr
 }
 
 // The sums for the groups that the entry of a component and a kind discloses to.
+#[tactic(auto, using(crate::proofs::CoverSteps::cover_steps))]
 fn sums_of(
     c: &[u8],
     table: &[u16],
@@ -136,6 +140,7 @@ fn nothing() -> Covering {
 
 // What the entry of a component and a kind comes to in the kind's tree: its path reaches nodes whatever they are for, and of these those
 // for its purpose grant.
+#[tactic(auto, using(crate::proofs::CoverSteps::cover_steps))]
 pub fn cover(
     c: &[u8],
     nodes: &[u16],
@@ -165,6 +170,7 @@ pub fn cover(
 }
 
 // The rows of a kind's tree; none where there is no such tree.
+#[tactic(auto, using(crate::proofs::CoverSteps::cover_steps))]
 fn rows_of(trees: Trees, kind: usize) -> Span
     requires { Bounded trees }
     ensures value { result ≡ span_for trees kind }
@@ -178,6 +184,7 @@ fn rows_of(trees: Trees, kind: usize) -> Span
 }
 
 // What the entry of a component and a kind comes to in the policy. (`verdicts_for_lem` of proofs/EntryLaws.antt: it is the covering.)
+#[tactic(auto, using(crate::proofs::CoverSteps::cover_steps))]
 pub fn entry_covering(
     c: &[u8],
     nodes: &[u16],
@@ -194,6 +201,7 @@ pub fn entry_covering(
     cover(c, nodes, rows_of(trees, kind), table, sums, component, kind)
 }
 
+#[tactic(auto, using(crate::proofs::CoverSteps::cover_steps))]
 fn is_lacking(flag: Flag) -> bool
     ensures { result ≡ is_lacking flag }
 {
@@ -205,6 +213,7 @@ fn is_lacking(flag: Flag) -> bool
 }
 
 // Is a needed sum, unlimited from 4,000,000 on, at most a granted one?
+#[tactic(auto, using(crate::proofs::CoverSteps::cover_steps))]
 fn within(needed: usize, granted: usize) -> bool
     ensures { result ≡ at_most (sum_count needed) (sum_count granted) }
 {
@@ -215,6 +224,7 @@ fn within(needed: usize, granted: usize) -> bool
 }
 
 // The first group of which more is needed than is granted, or 67.
+#[tactic(auto, using(crate::proofs::CoverSteps::cover_steps))]
 fn first_short(sums: Sums) -> usize
     ensures { result ≡ lacking_in (sum_verdicts sums) }
 {
@@ -235,6 +245,7 @@ fn first_short(sums: Sums) -> usize
 }
 
 // The number of the first permission that is not covered, in the order read (64), write (65), access (66), then groups; or 67.
+#[tactic(auto, using(crate::proofs::CoverSteps::cover_steps))]
 pub fn first_lacking(found: Covering) -> usize
     ensures { result ≡ lacking_in (verdicts_of found) }
 {

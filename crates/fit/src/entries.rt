@@ -26,6 +26,7 @@ use policy::{Span, Trees};
 use sharing::{any_shared, sum_classes};
 
 // The first of questions 17 and 18 that the entry of a component and a kind fails in the kind's tree, or 19.
+#[tactic(auto, using(crate::proofs::EntrySteps::entry_steps))]
 fn tree_fault(
     c: &[u8],
     nodes: &[u16],
@@ -51,6 +52,7 @@ fn tree_fault(
 }
 
 // Does a component have an entry of a kind? Of a kind that is not marked it has none.
+#[tactic(auto, using(crate::proofs::EntryLaws::fault_steps))]
 pub fn has_entry(table: &[u16], component: usize, kind: usize) -> bool
     requires { (component < 32) × (kind < 16) }
     ensures { result ≡ (is_set (cell table.now component kind 11) && holds_any (entry_at table.now component kind)) }
@@ -63,6 +65,7 @@ pub fn has_entry(table: &[u16], component: usize, kind: usize) -> bool
 }
 
 // The first of questions 16 to 18 that the entry of a component and a kind fails, or 19.
+#[tactic(auto, using(crate::proofs::EntryLaws::fault_steps))]
 fn entry_fault(
     c: &[u8],
     nodes: &[u16],
@@ -94,6 +97,7 @@ fn least(a: usize, b: usize) -> usize
 }
 
 // The first that an entry of a component fails, or 19.
+#[tactic(auto, using(crate::proofs::EntryLaws::fault_steps))]
 fn row_fault(
     c: &[u8],
     nodes: &[u16],
@@ -120,6 +124,7 @@ fn row_fault(
 }
 
 // The first that an entry of any component fails, or 19, with the sums of their classes.
+#[tactic(auto, using(crate::proofs::EntryLaws::fault_steps))]
 fn rows_fault(
     c: &[u8],
     nodes: &[u16],
@@ -144,6 +149,7 @@ fn rows_fault(
 }
 
 // The same with the sums made first, in clear memory.
+#[tactic(auto, using(crate::proofs::EntryLaws::fault_steps))]
 fn shared_fault(c: &[u8], nodes: &[u16], trees: Trees, table: &[u16], components: usize) -> usize
     requires { (components ≤ 32) × Bounded trees × (length nodes.now ≡ 384) }
     ensures { (policy : List Tree) → AllHeld c.now nodes.now trees 0 policy
@@ -161,6 +167,7 @@ fn shared_fault(c: &[u8], nodes: &[u16], trees: Trees, table: &[u16], components
 }
 
 // The first of questions 16 to 18 that any entry fails, or 19. Where no components share a count, no sums are made.
+#[tactic(auto, using(crate::proofs::EntryLaws::fault_steps))]
 pub fn fit(c: &[u8], nodes: &[u16], trees: Trees, table: &[u16], components: usize) -> usize
     requires { (components ≤ 32) × Bounded trees × (length nodes.now ≡ 384) }
     ensures { (policy : List Tree) → AllHeld c.now nodes.now trees 0 policy

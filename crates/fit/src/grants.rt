@@ -16,6 +16,7 @@ use reading::bytes::byte_in;
 use sharing::add;
 
 // The tree of a kind: its number, or the number of trees where there is none.
+#[tactic(auto, using(crate::proofs::GrantSteps::tree_steps))]
 pub fn tree_for(trees: Trees, kind: usize) -> usize
     requires { trees.len ≤ 16 }
     ensures { result ≡ index_of kind (take trees.len trees.kinds) }
@@ -34,6 +35,7 @@ pub fn tree_for(trees: Trees, kind: usize) -> usize
 // A table by group tells of each group: 65, it is not in the path; 64, no node of it is reached so far; else, the row of its first that is.
 
 // Marks a group as one of the path, where the table has it.
+#[tactic(auto, using(policy::proofs::NodeLaws::node_steps))]
 fn mark(first: &mut [u8], group: usize)
     ensures { first.new ≡ set first.old group 64 }
 {
@@ -43,6 +45,7 @@ fn mark(first: &mut [u8], group: usize)
 }
 
 // The table before any node: 64 for the groups of a path, 65 for all others.
+#[tactic(auto, using(crate::proofs::ScanSteps::mark_steps))]
 fn marks(path: Path) -> [u8; 64]
     ensures { Marked (path_of path) result }
 {
@@ -62,6 +65,7 @@ fn marks(path: Path) -> [u8; 64]
 
 // How deep a node may stand to be reached, after a node: below one that is reached, one deeper than that. `known` is what the table
 // tells of the node's group.
+#[tactic(auto, using(reading::proofs::Tests::tests))]
 fn limit_after(known: u8, depth: usize, limit: usize) -> usize
     requires { depth < 8 }
     ensures { result ≡ cond (ltb limit depth) limit (cond (ltb 64 known) depth (depth + 1)) }
@@ -73,6 +77,7 @@ fn limit_after(known: u8, depth: usize, limit: usize) -> usize
 }
 
 // What the table tells of a node's group, after the node: its row, if it is the first that is reached.
+#[tactic(auto, using(reading::proofs::Tests::tests))]
 fn known_after(known: u8, depth: usize, limit: usize, row: usize) -> u8
     requires { row < 64 }
     ensures { result ≡ cond (ltb limit depth) known (cond (eqb known 64) row known) }
@@ -84,6 +89,7 @@ fn known_after(known: u8, depth: usize, limit: usize, row: usize) -> u8
 }
 
 // The table after the nodes of a tree, in one scan.
+#[tactic(auto, using(crate::proofs::ScanSteps::scan_steps))]
 fn first_rows(nodes: &[u16], tree: Span, path: Path) -> [u8; 64]
     requires { tree.to ≤ 64 }
     ensures { (c : List ℕ) (g : ℕ) → row_in result g ≡ giver_in (path_of path) g 0 tree.from
@@ -104,6 +110,7 @@ fn first_rows(nodes: &[u16], tree: Span, path: Path) -> [u8; 64]
 }
 
 // The row that the table tells of a group, or 64.
+#[tactic(auto, using(crate::proofs::ScanSteps::row_steps))]
 fn row_in(first: &[u8], group: usize) -> usize
     ensures { result ≡ row_in first.now group }
 {
@@ -118,6 +125,7 @@ fn row_in(first: &[u8], group: usize) -> usize
 }
 
 // The rows that the table tells of the groups of a path.
+#[tactic(auto, using(crate::proofs::ScanSteps::givers_steps))]
 fn rows_in(first: &[u8], path: Path) -> Givers
     ensures { given_rows result ≡ map (row_in first.now) (path_of path) }
 {
@@ -147,6 +155,7 @@ pub fn givers(nodes: &[u16], tree: Span, path: Path) -> Givers
 }
 
 // Is each group of the path at a reached node?
+#[tactic(auto, using(crate::proofs::GrantSteps::all_steps))]
 pub fn all_given(givers: Givers) -> bool
     ensures { result ≡ every (λ row. ltb row 64) (given_rows givers) }
 {
@@ -166,6 +175,7 @@ pub fn all_given(givers: Givers) -> bool
 }
 
 // A row, if it grants for a purpose, else 64.
+#[tactic(auto, using(crate::proofs::GrantSteps::purpose_steps))]
 fn granting_row(nodes: &[u16], row: usize, purpose: usize) -> usize
     ensures { result ≡ granting_row purpose nodes.now row }
 {
@@ -180,6 +190,7 @@ fn granting_row(nodes: &[u16], row: usize, purpose: usize) -> usize
 }
 
 // Of what gives to a path, what grants for a purpose.
+#[tactic(auto, using(crate::proofs::ScanSteps::givers_steps))]
 pub fn granting(nodes: &[u16], givers: Givers, purpose: usize) -> Givers
     ensures { given_rows result ≡ granting_rows purpose nodes.now (given_rows givers) }
 {
@@ -198,6 +209,7 @@ pub fn granting(nodes: &[u16], givers: Givers, purpose: usize) -> Givers
 }
 
 // What a row gives; nothing at 64.
+#[tactic(auto, using(crate::proofs::GrantSteps::given_steps))]
 fn given_at(nodes: &[u16], row: usize) -> Permissions
     ensures by_index { (c : List ℕ) → permissions_of c result ≡ given_at c nodes.now row }
     ensures list_bound { (result.list < 8192) × (result.count < 128) }
@@ -215,6 +227,7 @@ fn given_at(nodes: &[u16], row: usize) -> Permissions
 }
 
 // Does a row give a flag?
+#[tactic(auto, using(crate::proofs::GrantSteps::given_steps))]
 fn flag_at(nodes: &[u16], row: usize, value: usize) -> bool
     requires { 0 < value }
     ensures { (c : List ℕ) → result ≡ has_bit value (given_at c nodes.now row).map }
@@ -223,6 +236,7 @@ fn flag_at(nodes: &[u16], row: usize, value: usize) -> bool
 }
 
 // Is a flag granted?
+#[tactic(auto, using(crate::proofs::GrantSteps::flag_steps))]
 pub fn flag_granted(nodes: &[u16], givers: Givers, value: usize) -> bool
     requires { 0 < value }
     ensures { (c : List ℕ) → result ≡ any (λ row. has_bit value (given_at c nodes.now row).map) (given_rows givers) }
@@ -243,6 +257,7 @@ pub fn flag_granted(nodes: &[u16], givers: Givers, value: usize) -> bool
 }
 
 // The stored count for a group in a list, 0 where it is absent.
+#[tactic(auto, using(crate::proofs::GrantSteps::item_steps))]
 fn listed(c: &[u8], p: Permissions, group: usize) -> usize
     requires { (p.list < 8192) × (p.count < 128) }
     ensures result_value { stored_count result ≡ listed_in group (items_at p.count c.now p.list) }
@@ -259,6 +274,7 @@ fn listed(c: &[u8], p: Permissions, group: usize) -> usize
 }
 
 // The stored count for a group that a row gives.
+#[tactic(auto, using(crate::proofs::GrantSteps::given_steps))]
 fn count_at(c: &[u8], nodes: &[u16], row: usize, group: usize) -> usize
     ensures result_value { stored_count result ≡ listed_in group (given_at c.now nodes.now row).list }
     ensures upper_bound { result < 65536 }
@@ -267,6 +283,7 @@ fn count_at(c: &[u8], nodes: &[u16], row: usize, group: usize) -> usize
 }
 
 // The sum of what the path's groups grant for a group; 4,000,000 is unlimited.
+#[tactic(auto, using(crate::proofs::GrantSteps::sum_steps))]
 pub fn count_granted(c: &[u8], nodes: &[u16], givers: Givers, group: usize) -> usize
     ensures { sum_count result ≡ joined_at group c.now nodes.now (given_rows givers) }
 {

@@ -18,6 +18,7 @@ use policy::Trees;
 use sharing::sum_classes;
 
 // The number of the first permission of an entry that is not covered, or 67; a kind that is not marked has no entry.
+#[tactic(auto, using(crate::proofs::SearchLaws::search_steps))]
 fn entry_missing(
     c: &[u8],
     nodes: &[u16],
@@ -40,6 +41,7 @@ fn entry_missing(
 }
 
 // The first uncovered permission of a component.
+#[tactic(auto, using(crate::proofs::SearchLaws::search_steps))]
 fn row_missing(
     c: &[u8],
     nodes: &[u16],
@@ -74,6 +76,7 @@ fn row_missing(
 }
 
 // The first uncovered permission of all components, with the sums of their classes.
+#[tactic(auto, using(crate::proofs::SearchLaws::search_steps))]
 fn rows_missing(
     c: &[u8],
     nodes: &[u16],
@@ -105,6 +108,7 @@ fn rows_missing(
 }
 
 // The first uncovered permission of the interface that a table holds.
+#[tactic(auto, using(crate::proofs::SearchLaws::search_steps))]
 pub fn first_uncovered(
     c: &[u8],
     nodes: &[u16],
