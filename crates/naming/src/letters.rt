@@ -5,6 +5,7 @@ ghost use Rattle.naming.specs.Names.{is_letter, letters_at, same};
 use reading::bytes::byte_in;
 
 // Is a byte a letter, A-Z or a-z?
+#[tactic(auto, using(crate::proofs::LetterSteps::letter_steps))]
 pub fn is_letter(b: usize) -> bool
     ensures { result ≡ is_letter b }
 {
@@ -21,6 +22,7 @@ pub fn is_letter(b: usize) -> bool
 }
 
 // How many letters stand from a place on, at most 20.
+#[tactic(auto, using(crate::proofs::LetterSteps::letter_steps))]
 pub fn letters_at(s: &[u8], at: usize) -> usize
     requires { at < 100000 }
     ensures value { result ≡ length (letters_at 20 s.now at) }
@@ -37,6 +39,7 @@ pub fn letters_at(s: &[u8], at: usize) -> usize
 }
 
 // Do the same letters stand from two places on?
+#[tactic(auto, using(crate::proofs::LetterSteps::letter_steps))]
 pub fn same_at(s: &[u8], a: usize, b: usize) -> bool
     requires { (a < 100000) × (b < 100000) }
     ensures { result ≡ same (letters_at 20 s.now a) (letters_at 20 s.now b) }

@@ -16,6 +16,7 @@ fn broken(at: usize) -> End
 }
 
 // Reads past the name at a place and the byte 0A that ends it.
+#[tactic(auto, using(crate::proofs::NameSteps::name_steps))]
 fn name_at(s: &[u8], at: usize) -> End
     requires { at < 100000 }
     ensures at_value { ends result (letters_at 20 s.now at) ≡ name_at s.now at }
@@ -33,6 +34,7 @@ fn name_at(s: &[u8], at: usize) -> End
 }
 
 // Reads names, as many as there are places, and keeps where each begins.
+#[tactic(auto, using(crate::proofs::NameSteps::name_steps))]
 fn names_at(s: &[u8], at: usize, places: &mut [u16]) -> End
     requires { (at < 30000) × (length places.old ≤ 64) }
     ensures places_after { ends result (words_at s.now places.new) ≡ names_at (length places.old) s.now at }
@@ -60,6 +62,7 @@ pub fn wide(place: u16) -> usize
 }
 
 // Is the name at a place one of those that begin at the places from a number on?
+#[tactic(auto, using(crate::proofs::NameSteps::name_steps))]
 fn among(s: &[u8], at: usize, places: &[u16], from: usize) -> bool
     requires { at < 100000 }
     ensures { result ≡ any (same (letters_at 20 s.now at)) (words_at s.now (drop from places.now)) }
@@ -75,6 +78,7 @@ fn among(s: &[u8], at: usize, places: &[u16], from: usize) -> bool
 }
 
 // Are the names that begin at some places distinct?
+#[tactic(auto, using(crate::proofs::NameSteps::name_steps))]
 fn all_distinct(s: &[u8], places: &[u16]) -> bool
     ensures { result ≡ distinct (words_at s.now places.now) }
 {
@@ -89,6 +93,7 @@ fn all_distinct(s: &[u8], places: &[u16]) -> bool
 }
 
 // Reads a list of distinct names, as many as there are places.
+#[tactic(auto, using(crate::proofs::NameSteps::name_steps))]
 fn list_at(s: &[u8], at: usize, places: &mut [u16]) -> End
     requires { (at < 30000) × (length places.old ≤ 64) }
     ensures places_after { ends result (words_at s.now places.new) ≡ list_at (length places.old) s.now at }
@@ -106,6 +111,7 @@ fn list_at(s: &[u8], at: usize, places: &mut [u16]) -> End
 }
 
 // Question 40 of any bytes, and the places at which the names of the 64 groups and of the 16 kinds begin.
+#[tactic(auto, using(crate::proofs::NameSteps::name_steps))]
 pub fn read_names(s: &[u8], groups: &mut [u16], kinds: &mut [u16]) -> End
     requires { (length groups.old ≡ 64) × (length kinds.old ≡ 16) }
     ensures { ends result (names_at_places s.now groups.new kinds.new) ≡ read_names s.now }

@@ -16,6 +16,7 @@ use reading::Path;
 use reading::bytes::byte_in;
 
 // Stores bytes and answers the next place.
+#[tactic(auto, using(crate::proofs::SentenceSteps::sentence_steps))]
 fn put_text(text: &[u8], out: &mut [u8], at: usize) -> usize
     requires { (at < 1000) × (length text.now ≤ 20) }
     ensures { Stored out.old out.new at text.now result }
@@ -30,6 +31,7 @@ fn put_text(text: &[u8], out: &mut [u8], at: usize) -> usize
 }
 
 // Stores the name that begins at a place.
+#[tactic(auto, using(crate::proofs::LetterSteps::letter_steps))]
 fn put_letters(s: &[u8], place: usize, out: &mut [u8], at: usize) -> usize
     requires { (place < 100000) × (at < 1000) }
     ensures { Stored out.old out.new at (letters_at 20 s.now place) result }
@@ -48,6 +50,7 @@ fn put_letters(s: &[u8], place: usize, out: &mut [u8], at: usize) -> usize
 }
 
 // Stores the name of a number.
+#[tactic(auto, using(crate::proofs::SentenceSteps::sentence_steps))]
 fn put_name(s: &[u8], places: &[u16], n: usize, out: &mut [u8], at: usize) -> usize
     requires { at < 1000 }
     ensures { Stored out.old out.new at (name_of (words_at s.now places.now) n) result }
@@ -59,6 +62,7 @@ fn put_name(s: &[u8], places: &[u16], n: usize, out: &mut [u8], at: usize) -> us
 }
 
 // Stores the name of a group of a path, with a slash before it but for the first.
+#[tactic(auto, using(crate::proofs::SentenceSteps::sentence_steps))]
 fn put_step(s: &[u8], places: &[u16], group: usize, i: usize, out: &mut [u8], at: usize) -> usize
     requires { at < 900 }
     ensures { Stored out.old out.new at (step_text (words_at s.now places.now) i group) result }
@@ -71,6 +75,7 @@ fn put_step(s: &[u8], places: &[u16], group: usize, i: usize, out: &mut [u8], at
 }
 
 // Stores the names of a path's groups, joined by slashes.
+#[tactic(auto, using(crate::proofs::SentenceSteps::sentence_steps))]
 fn put_path(s: &[u8], places: &[u16], path: Path, out: &mut [u8]) -> usize
     ensures stored { Stored out.old out.new 0 (path_names (words_at s.now places.now) (path_of path)) result }
     ensures near { result ≤ 168 }
@@ -87,6 +92,7 @@ fn put_path(s: &[u8], places: &[u16], path: Path, out: &mut [u8]) -> usize
 }
 
 // Stores the verb of a permission, which is given by its column.
+#[tactic(auto, using(crate::proofs::SentenceSteps::sentence_steps))]
 fn put_verb(s: &[u8], groups: &[u16], column: usize, out: &mut [u8], at: usize) -> usize
     requires { at < 800 }
     ensures stored { Stored out.old out.new at (verb (words_at s.now groups.now) (permission_at column)) result }
@@ -104,6 +110,7 @@ fn put_verb(s: &[u8], groups: &[u16], column: usize, out: &mut [u8], at: usize) 
 }
 
 // Stores the kind's part of a sentence.
+#[tactic(auto, using(crate::proofs::SentenceSteps::sentence_steps))]
 fn put_kind(s: &[u8], kinds: &[u16], kind: usize, out: &mut [u8], at: usize) -> usize
     requires { at < 900 }
     ensures { Stored out.old out.new at (of_kind (words_at s.now kinds.now) kind) result }

@@ -1,0 +1,6 @@
+-- The letters compared so far agree, so that those left decide (`Compared`).
+use Rattle.naming.proofs.LetterSteps.{letter_steps}
+use Rattle.naming.proofs.letters.same_at.Goals as goal
+
+pub returns-then-not-is_letter : goal.returns-then-not-is_letter
+returns-then-not-is_letter c = search letter_steps
