@@ -6,8 +6,8 @@ ghost use Rattle.reading.specs.Forms.{system_at};
 ghost use Rattle.decoding.specs.Notes.{ProcessNoted, SystemNoted, SystemFormNoted};
 
 use crate::Item;
-use crate::words::{number, pack};
-use memory::names::store;
+use crate::words::number;
+use memory::put;
 use reading::bytes::byte_in;
 use reading::types::type_at;
 use reading::{Dialect, Form, Path, Place, Source, Spot};
@@ -28,13 +28,13 @@ pub fn note_process(s: &[u8], from: usize, levels: usize, forms: &mut [usize]) -
         nest -= 1;
         match s[at] {
             0 => {
-                store(forms, at, 0);
+                put(forms, at, 0);
                 return at + 1;
             }
             1 => {
                 let first = at + 1;
                 let second = note_process(s, first, nest, forms);
-                store(forms, at, number(1, 0, second, first));
+                put(forms, at, number(1, 0, second, first));
                 at = second;
             }
             3 => {
@@ -42,7 +42,7 @@ pub fn note_process(s: &[u8], from: usize, levels: usize, forms: &mut [usize]) -
                 let Ok(t) = read else {
                     return at;
                 };
-                store(forms, at, number(3, 0, t.value, t.next));
+                put(forms, at, number(3, 0, t.value, t.next));
                 at = t.next;
             }
             5 => {
@@ -50,11 +50,11 @@ pub fn note_process(s: &[u8], from: usize, levels: usize, forms: &mut [usize]) -
                 let Ok(t) = read else {
                     return at;
                 };
-                store(forms, at, number(5, byte_in(s, at + 1), t.value, t.next));
+                put(forms, at, number(5, byte_in(s, at + 1), t.value, t.next));
                 at = t.next;
             }
             6 => {
-                store(
+                put(
                     forms,
                     at,
                     number(6, byte_in(s, at + 1), byte_in(s, at + 2), at + 3),
@@ -62,7 +62,7 @@ pub fn note_process(s: &[u8], from: usize, levels: usize, forms: &mut [usize]) -
                 at += 3;
             }
             7 => {
-                store(forms, at, number(7, 0, 0, at + 1));
+                put(forms, at, number(7, 0, 0, at + 1));
                 at += 1;
             }
             _ => {
@@ -116,20 +116,20 @@ fn note_form(s: &[u8], at: usize, nest: usize, place: Place, forms: &mut [usize]
     };
     match place.form {
         Form::Nil => {
-            store(forms, at, 0);
+            put(forms, at, 0);
             next
         }
         Form::Par => {
             let second = note_system(s, next, nest, forms);
-            store(forms, at, pack(Item { second, ..item }));
+            put(forms, at, Item { second, ..item }.pack());
             note_system(s, second, nest, forms)
         }
         Form::Group(_) | Form::New(_) => {
-            store(forms, at, pack(item));
+            put(forms, at, item.pack());
             note_system(s, next, nest, forms)
         }
         Form::Component(_) => {
-            store(forms, at, pack(item));
+            put(forms, at, item.pack());
             note_process(s, next, nest, forms)
         }
         Form::Input(_) | Form::Output(_) | Form::Replicate => at,

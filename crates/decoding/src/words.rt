@@ -15,25 +15,6 @@ pub fn number(code: usize, channel: usize, object: usize, next: usize) -> usize
     (fields * 8192 + next % 8192) * 8 + code % 8
 }
 
-/// A form as a number.
-#[tactic(auto, using(crate::proofs::WordSteps::word_steps))]
-pub fn pack(item: Item) -> usize
-    ensures { result ≡ packed item }
-{
-    let form = item.form;
-    let next = item.next;
-    match form {
-        Form::Nil => number(0, 0, 0, next),
-        Form::Par => number(1, 0, item.second, next),
-        Form::Group(g) => number(2, 0, g, next),
-        Form::New(t) => number(3, 0, t, next),
-        Form::Component(own) => number(4, own.purpose, own.group, next),
-        Form::Input(act) => number(5, act.channel, act.object, next),
-        Form::Output(act) => number(6, act.channel, act.object, next),
-        Form::Replicate => number(7, 0, 0, next),
-    }
-}
-
 // The form of a code and its fields.
 #[tactic(auto, using(crate::proofs::WordSteps::word_steps))]
 fn form_of(code: usize, channel: usize, object: usize) -> Form
@@ -54,18 +35,38 @@ fn form_of(code: usize, channel: usize, object: usize) -> Form
     }
 }
 
-// The form that a number stands for.
-#[tactic(auto, using(crate::proofs::WordSteps::word_steps))]
-fn unpack(w: usize) -> Item
-    ensures { result ≡ unpacked w }
-{
-    let placed = w / 8;
-    let fields = placed / 8192;
-    let object = fields / 256;
-    Item {
-        form: form_of(w % 8, fields % 256, object % 536870912),
-        next: placed % 8192,
-        second: object % 8192,
+impl Item {
+    /// The form, with the places of its parts, as a number.
+    #[tactic(auto, using(crate::proofs::WordSteps::word_steps))]
+    pub fn pack(self) -> usize
+        ensures { result ≡ packed self }
+    {
+        let next = self.next;
+        match self.form {
+            Form::Nil => number(0, 0, 0, next),
+            Form::Par => number(1, 0, self.second, next),
+            Form::Group(g) => number(2, 0, g, next),
+            Form::New(t) => number(3, 0, t, next),
+            Form::Component(own) => number(4, own.purpose, own.group, next),
+            Form::Input(act) => number(5, act.channel, act.object, next),
+            Form::Output(act) => number(6, act.channel, act.object, next),
+            Form::Replicate => number(7, 0, 0, next),
+        }
+    }
+
+    // The form that a number stands for.
+    #[tactic(auto, using(crate::proofs::WordSteps::word_steps))]
+    fn unpack(word: usize) -> Item
+        ensures { result ≡ unpacked word }
+    {
+        let placed = word / 8;
+        let fields = placed / 8192;
+        let object = fields / 256;
+        Item {
+            form: form_of(word % 8, fields % 256, object % 536870912),
+            next: placed % 8192,
+            second: object % 8192,
+        }
     }
 }
 
@@ -74,5 +75,5 @@ fn unpack(w: usize) -> Item
 pub fn item_at(forms: &[usize], at: usize) -> Item
     ensures { result ≡ item_at forms.now at }
 {
-    unpack(forms.get(at).copied().unwrap_or(0))
+    Item::unpack(forms.get(at).copied().unwrap_or(0))
 }

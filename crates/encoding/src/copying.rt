@@ -6,7 +6,6 @@ ghost use Rattle.encoding.specs.Copying.{if_component, form_copy, copy_from, sys
 
 use crate::walking::StoredSheet;
 use reading::Dialect;
-use reading::dialects::purposes;
 
 // Puts purpose 0 at a component, where the dialect states purposes; the place after it.
 #[tactic(auto, using(crate::proofs::CopySteps::purpose_puts))]
@@ -14,7 +13,7 @@ fn put_purpose(to: Dialect, code: usize, out: &mut [u8], at: usize) -> usize
     requires { at + length (if_component code (purpose_bytes to 0)) ≤ length out.old }
     ensures { Put out.old out.new at (if_component code (purpose_bytes to 0)) result }
 {
-    if code != 4 || purposes(to) == 0 {
+    if code != 4 || to.purposes() == 0 {
         return at;
     }
     out[at] = 0;

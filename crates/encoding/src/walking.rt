@@ -4,7 +4,6 @@ ghost use Rattle.encoding.specs.Encoding.{purpose_bytes, all_zero};
 ghost use Rattle.encoding.specs.Copying.{form_len, head_len, next_form, stated_at, system_start, stated_in};
 
 use reading::Dialect;
-use reading::dialects::purposes;
 
 /// The bytes of a stored sheet, at most 4,096, and the dialect that they are in.
 #[derive(Clone, Copy)]
@@ -108,5 +107,5 @@ pub fn purpose_len(dialect: Dialect) -> usize
     ensures value { result ≡ length (purpose_bytes dialect 0) }
     ensures few { result ≤ 1 }
 {
-    if 0 < purposes(dialect) { 1 } else { 0 }
+    if 0 < dialect.purposes() { 1 } else { 0 }
 }

@@ -1,7 +1,7 @@
 // The service `explain`: the sentence for a sheet that question 18 refuses (document 02, Q-1).
 #![tactic(auto)]
 
-ghost use Rattle.std.specs.Prelude.{◌≡◌, List, ℕ, ◌<◌, ◌≤◌, length};
+ghost use Rattle.std.specs.Prelude.{◌≡◌, List, ℕ, ◌<◌, ◌≤◌, ◌^◌, length, replicate};
 ghost use Rattle.reading.specs.Told.{path_of};
 ghost use Rattle.inference.specs.Rows.{Orderly, table_entries, table_required};
 ghost use Rattle.policy.specs.Syntax.{Tree};
@@ -15,10 +15,10 @@ ghost use Rattle.explaining.specs.Told.{Says, Explained, ExaminedAs};
 
 use fit::Missing;
 use fit::uncovered::first_uncovered;
-use inference::rows::path_of;
+use inference::table::{CELLS, FEW_CELLS, Row};
 use naming::names::read_names;
 use naming::sentence::put_sentence;
-use policy::Trees;
+use policy::Policy;
 use reading::bytes::refusal;
 use reading::system::{read, why_none};
 use reading::{End, NumberRead, Path};
@@ -26,7 +26,7 @@ use service::judging::judge_read;
 use service::{Answer, Judged};
 use slack::slack_judged;
 
-// What `slack` answers, and what `explain` answers.
+/// What `slack` answers, and what `explain` answers.
 #[derive(Clone, Copy)]
 pub struct Examined {
     pub told: Answer,
@@ -56,19 +56,18 @@ fn say(
 }
 
 // Question 40, and the sentence for the first uncovered permission.
+#[tactic(auto, using(crate::proofs::ExplainSteps::explaining))]
 fn explain_missing(
     names: &[u8],
-    charter: &[u8],
-    nodes: &[u16],
-    trees: Trees,
+    policy: Policy,
     table: &[u16],
     components: usize,
     line: &mut [u8],
 ) -> Answer
-    requires { (components ≤ 32) × Bounded trees × (length nodes.now ≡ 384) }
-    ensures { (policy : List Tree) → AllHeld charter.now nodes.now trees 0 policy
+    requires { components ≤ 32 }
+    ensures { (trees : List Tree) → AllHeld policy.entry.charter.now policy.entry.nodes.now policy.entry.trees 0 trees
         → ((n : ℕ) → n < components → Orderly table.now n)
-        → Says names.now (first_uncovered policy (table_required table.now components) (table_entries table.now components))
+        → Says names.now (first_uncovered trees (table_required table.now components) (table_entries table.now components))
         line.old line.new result }
 {
     let mut groups = [0u16; 64];
@@ -77,22 +76,26 @@ fn explain_missing(
     let End::At(_) = read else {
         return Answer::Refused(why_none(read).question);
     };
-    let missing = first_uncovered(charter, nodes, trees, table, components);
+    let missing = first_uncovered(
+        policy.charter,
+        policy.nodes,
+        policy.trees,
+        table,
+        components,
+    );
     // Never so where question 18 failed (`refused_uncovered`).
     if 67 <= missing.column {
         return Answer::Accepted(0);
     }
-    say(
-        names,
-        &groups,
-        &kinds,
-        path_of(table, missing.component),
-        missing,
-        line,
-    )
+    let row = Row {
+        table,
+        component: missing.component,
+    };
+    say(names, &groups, &kinds, row.path(), missing, line)
 }
 
 // What `explain` answers, from what questions 1 to 18 came to and the tables that they left.
+#[tactic(auto, using(crate::proofs::ExplainSteps::explaining))]
 fn explain_judged(
     names: &[u8],
     charter: &[u8],
@@ -112,40 +115,40 @@ fn explain_judged(
     if judged.fault != 18 {
         return Answer::Refused(judged.fault);
     }
-    explain_missing(
-        names,
+    let policy = Policy {
         charter,
         nodes,
-        judged.trees,
-        table,
-        judged.components,
-        line,
-    )
+        trees: judged.trees,
+    };
+    explain_missing(names, policy, table, judged.components, line)
 }
 
-// Both services of a sheet that reads, with a clear table for its components and a table for the charter's nodes.
-fn examine_read(
+// Both services of a sheet that reads, with a clear table of so many cells, which has a row for each of its components.
+#[tactic(auto, using(crate::proofs::ExplainSteps::explaining))]
+fn examine_by<const N: usize>(
     sheet: &[u8],
     charter: &[u8],
     names: &[u8],
-    table: &mut [u16],
-    nodes: &mut [u16],
     output: &mut [u8],
     line: &mut [u8],
 ) -> Examined
-    requires { Ready sheet.now charter.now table.old × (length nodes.old ≡ 384) }
+    requires ready { Ready sheet.now charter.now (replicate N 0) }
+    requires size { N < 2 ^ 32 }
     ensures { ExaminedAs sheet.now charter.now names.now output.old output.new
         line.old line.new result }
 {
-    let judged = judge_read(sheet, charter, table, nodes);
+    let mut table = [0u16; N];
+    let mut nodes = [0u16; 384];
+    let judged = judge_read(sheet, charter, &mut table, &mut nodes);
     Examined {
-        told: slack_judged(charter, nodes, table, judged, output),
-        explained: explain_judged(names, charter, nodes, table, judged, line),
+        told: slack_judged(charter, &nodes, &table, judged, output),
+        explained: explain_judged(names, charter, &nodes, &table, judged, line),
     }
 }
 
-// Tells the slack of a sheet under a charter and, where question 18 refuses it, writes the sentence into the line: both services in one
-// walk of the sheet.
+/// Tells the slack of a sheet under a charter and, where question 18 refuses it, writes the sentence into the line: both services in
+/// one walk of the sheet.
+#[tactic(auto, using(crate::proofs::ExplainSteps::explaining))]
 pub fn examine(
     sheet: &[u8],
     charter: &[u8],
@@ -164,33 +167,28 @@ pub fn examine(
             explained: Answer::Refused(question),
         };
     };
-    let mut nodes = [0u16; 384];
     if components.value <= 4 {
-        let mut few = [0u16; 844];
-        return examine_read(sheet, charter, names, &mut few, &mut nodes, output, line);
+        return examine_by::<FEW_CELLS>(sheet, charter, names, output, line);
     }
-    let mut table = [0u16; 6752];
-    examine_read(sheet, charter, names, &mut table, &mut nodes, output, line)
+    examine_by::<CELLS>(sheet, charter, names, output, line)
 }
 
-// Explains a sheet that reads, with a clear table for its components and a table for the charter's nodes.
-fn explain_read(
-    sheet: &[u8],
-    charter: &[u8],
-    names: &[u8],
-    table: &mut [u16],
-    nodes: &mut [u16],
-    line: &mut [u8],
-) -> Answer
-    requires { Ready sheet.now charter.now table.old × (length nodes.old ≡ 384) }
+// Explains a sheet that reads, with a clear table of so many cells, which has a row for each of its components.
+#[tactic(auto, using(crate::proofs::ExplainSteps::explaining))]
+fn explain_by<const N: usize>(sheet: &[u8], charter: &[u8], names: &[u8], line: &mut [u8]) -> Answer
+    requires ready { Ready sheet.now charter.now (replicate N 0) }
+    requires size { N < 2 ^ 32 }
     ensures { Explained sheet.now charter.now names.now line.old line.new result }
 {
-    let judged = judge_read(sheet, charter, table, nodes);
-    explain_judged(names, charter, nodes, table, judged, line)
+    let mut table = [0u16; N];
+    let mut nodes = [0u16; 384];
+    let judged = judge_read(sheet, charter, &mut table, &mut nodes);
+    explain_judged(names, charter, &nodes, &table, judged, line)
 }
 
-// Explains why question 18 refuses a sheet. The answer and the line's final bytes are those of the definition `explained`, for any
-// bytes in all four slices.
+/// Explains why question 18 refuses a sheet. The answer and the line's final bytes are those of the definition `explained`, for any
+/// bytes in all four slices.
+#[tactic(auto, using(crate::proofs::ExplainSteps::explaining))]
 pub fn explain(sheet: &[u8], charter: &[u8], names: &[u8], line: &mut [u8]) -> Answer
     ensures { Explained sheet.now charter.now names.now line.old line.new result }
 {
@@ -198,11 +196,8 @@ pub fn explain(sheet: &[u8], charter: &[u8], names: &[u8], line: &mut [u8]) -> A
     let NumberRead::Found(components) = read else {
         return Answer::Refused(refusal(read).question);
     };
-    let mut nodes = [0u16; 384];
     if components.value <= 4 {
-        let mut few = [0u16; 844];
-        return explain_read(sheet, charter, names, &mut few, &mut nodes, line);
+        return explain_by::<FEW_CELLS>(sheet, charter, names, line);
     }
-    let mut table = [0u16; 6752];
-    explain_read(sheet, charter, names, &mut table, &mut nodes, line)
+    explain_by::<CELLS>(sheet, charter, names, line)
 }

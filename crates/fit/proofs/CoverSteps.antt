@@ -5,14 +5,14 @@ use mathlib.Core.List.{List, [], ◌∷◌, ◌++◌, map, append-nil, map-appen
 use mathlib.Core.Bool.{Bool, true, false, cond, not}
 use native.Mathlib.Omega.{arith}
 use native.Mathlib.Numerals.{add-one}
-use lib.ListN.{length, take, drop, set, get_or, length-set, length-map}
-use lib.Seq.{take-set-le, take-suc-set, append_snoc}
+use lib.ListN.{length, take, drop, set, get_or, length-set, length-map, drop_of_length-le}
+use lib.Seq.{take-suc-set, append_snoc}
 use lib.Dec.{ltb, leb, eqb}
 use borrow.Author.Rules.{rules}
 use borrow.Author.Tests.{eq-eqb, ne_eqb, lt-ltb, le-ltb, ltb-false, lt-leb, not-true, not-false}
 use Rattle.inference.specs.Lists.{every, any, only, rising}
 use Rattle.inference.specs.Counts.{fin, unlimited, at_most}
-use Rattle.inference.specs.Interface.{Permission, reading, writing, accessing, bit}
+use Rattle.inference.specs.Interface.{Permission, reading, writing, accessing}
 use Rattle.inference.specs.Rows.{is_set, cell, group_count, group_at, path_at, purpose_at}
 use Rattle.sharing.specs.Sums.{needed_at, sum_count}
 use Rattle.interface.proofs.WriteLaws.{rising_next, rising_done}
@@ -27,10 +27,12 @@ use Rattle.fit.specs.declared.Sum.{Sum}
 use Rattle.fit.specs.declared.Sums.{Sums}
 use Rattle.fit.specs.declared.Covering.{Covering}
 use Rattle.fit.specs.Satisfies.{Verdict, flag, counts, holds}
+use Rattle.fit.proofs.GrantSteps.{one_left}
+use Rattle.std.specs.Prelude.{Option as Answer, Some, None, IfSome}
+use Rattle.std.specs.Option.{unwrap_or}
 use Rattle.fit.specs.Uncovered.{permission_of}
 use Rattle.fit.specs.Givers.{given_at, granting_rows, joined_at, givers_in, index_of}
-use Rattle.fit.proofs.GrantSteps.{past_end, none_left, one_left}
-use Rattle.fit.specs.Covers.{flag_verdicts, is_lacking, flags_then, sum_verdict, sum_verdicts, verdicts_of, all_given, flag_given, flag_at, flags_at, place_verdict, places_from, verdicts_at, number_of, lacking_in, span_for, verdicts_for, CoveringIs}
+use Rattle.fit.specs.Covers.{flag_verdicts, is_lacking, flags_then, sum_verdict, sum_verdicts, verdicts_of, all_given, flag_given, flag_at, flags_at, place_verdict, places_from, verdicts_at, number_of, lacking_in, tree_rows_of, span_for, verdicts_for, CoveringIs}
 
 unset : (n : ℕ) → n ≡ 0 → is_set n ≡ false
 unfolding is_set
@@ -63,28 +65,8 @@ pub three_flags : (nodes rows table : List ℕ) (n k x y z : ℕ) (a b d : Flag)
 unfolding flags_then flags_at
 three_flags nodes rows table n k x y z a b d e f e' f' e'' f'' c rest = rw (← e, ← e', ← e'', f c reading, f' c writing, f'' c accessing) refl
 
--- a group
-module _ (c nodes rows : List ℕ) (own needed group : ℕ) where
-  pub sum_spared : own ≡ 0 → (own ≡ 0 → ⊥) → sum_verdict (record { group = group; needed = needed; granted = 0 })
-      ≡ counts group (sum_count needed) (joined_at group c nodes rows)
-  sum_spared e f = absurd (f e)
-
-  pub sum_found : (granted : ℕ) → sum_count granted ≡ joined_at group c nodes rows → (own ≡ 0 → ⊥)
-      → sum_verdict (record { group = group; needed = needed; granted = granted }) ≡ counts group (sum_count needed) (joined_at group c nodes rows)
-  unfolding sum_verdict
-  sum_found granted e f = rw e refl
-
-set_not : (n : ℕ) → is_set n ≡ true → n ≡ 0 → ⊥
-unfolding is_set
-set_not n h e = let z : ◌≡◌ {A = ℕ} 0 1 = let q : eqb n 0 ≡ true = eq-eqb n 0 e in cc in absurd (omega arith)
-
 map_snoc : (items : List Sum) (len : ℕ) (r : Sum) → map sum_verdict (take len items ++ (r ∷ [])) ≡ map sum_verdict (take len items) ++ (sum_verdict r ∷ [])
 map_snoc items len r = map-append sum_verdict (take len items) (r ∷ [])
-
-bit_most : (b : Bool) (n : ℕ) → n ≡ bit b 1 → n ≤ 1
-unfolding bit
-bit_most true n e = omega arith
-bit_most false n e = omega arith
 
 -- The groups at the places passed so far, and those left, give the whole.
 pub record SumsSoFar (c nodes rows table sums : List ℕ) (n k m : ℕ) (items : List Sum) (len place : ℕ) : Type 0 where
@@ -98,41 +80,48 @@ pub sums_start : (c nodes rows table sums : List ℕ) (n k m : ℕ) (items : Lis
 sums_start c nodes rows table sums n k m items h l = record { within = omega arith; few = omega arith; eight = h; long = l; whole = let z : m - 0 ≡ m = omega arith in rw z refl }
 
 module _ (c nodes rows table sums : List ℕ) (n k m : ℕ) (items : List Sum) (len place : ℕ) (so : SumsSoFar c nodes rows table sums n k m items len place) where
-  pub sums_next : place < m → (own needed group : ℕ) (r : Sum) (one : ℕ) → own ≡ cell table n k place → needed ≡ needed_at sums table n k place
-      → group ≡ group_at table n place → ((own ≡ 0 → ⊥) → sum_verdict r ≡ counts group (sum_count needed) (joined_at group c nodes rows))
-      → one ≡ bit (is_set own) 1 → SumsSoFar c nodes rows table sums n k m (set items len r) (len + one) (place + 1)
-  sums_next here own needed group r one e f g told is = record {
-    within = omega arith;
-    few = omega (arith, so.few, bit_most (is_set own) one is);
-    eight = so.eight;
-    long = length-set items len r ∙ so.long;
-    whole = go (is_set own) refl;
-  }
+  turn : place < m → (own : ℕ) → own ≡ cell table n k place → places_from place (m - place) c nodes rows table sums n k
+      ≡ cond (is_set own) (place_verdict c nodes rows table sums n k place ∷ places_from (place + 1) (m - (place + 1)) c nodes rows table sums n k)
+      (places_from (place + 1) (m - (place + 1)) c nodes rows table sums n k)
+  unfolding places_from only
+  turn here own e = rw (rising_next place m here, ← e) (split (is_set own) (only (λ i. is_set (cell table n k i)) (rising (place + 1) (m - (place + 1)))))
     where
-      turn : places_from place (m - place) c nodes rows table sums n k
-          ≡ cond (is_set own) (place_verdict c nodes rows table sums n k place ∷ places_from (place + 1) (m - (place + 1)) c nodes rows table sums n k)
-          (places_from (place + 1) (m - (place + 1)) c nodes rows table sums n k)
-      turn = unfold places_from only in rw (rising_next place m here, ← e) (split (is_set own) (only (λ i. is_set (cell table n k i)) (rising (place + 1) (m - (place + 1)))))
-        where
-          split : (b : Bool) (later : List ℕ) → map (place_verdict c nodes rows table sums n k) (cond b (place ∷ later) later)
-              ≡ cond b (place_verdict c nodes rows table sums n k place ∷ map (place_verdict c nodes rows table sums n k) later) (map (place_verdict c nodes rows table sums n k) later)
-          split true later = refl
-          split false later = refl
+      split : (b : Bool) (later : List ℕ) → map (place_verdict c nodes rows table sums n k) (cond b (place ∷ later) later)
+          ≡ cond b (place_verdict c nodes rows table sums n k place ∷ map (place_verdict c nodes rows table sums n k) later) (map (place_verdict c nodes rows table sums n k) later)
+      split true later = refl
+      split false later = refl
 
-      go : (b : Bool) → is_set own ≡ b → map sum_verdict (take (len + one) (set items len r)) ++ places_from (place + 1) (m - (place + 1)) c nodes rows table sums n k
-          ≡ places_from 0 m c nodes rows table sums n k
-      go true p =
-          let z : one ≡ 1 = unfold bit in (rw p at is) in
-          let told' : sum_verdict r ≡ place_verdict c nodes rows table sums n k place = unfold place_verdict in (rw (f, g) at (told (set_not own p))) in
-          rw (z, add-one, take-suc-set items len r (omega (arith, so.long, so.few, so.eight)))
-          (ap (λ (l : List Verdict). l ++ places_from (place + 1) (m - (place + 1)) c nodes rows table sums n k) (map_snoc items len r)
-          ∙ append_snoc (map sum_verdict (take len items)) (sum_verdict r) _
-          ∙ ap (λ (v : Verdict). map sum_verdict (take len items) ++ (v ∷ places_from (place + 1) (m - (place + 1)) c nodes rows table sums n k)) told'
-          ∙ (rw (turn, p) at so.whole))
-      go false p =
-          let z : one ≡ 0 = unfold bit in (rw p at is) in
-          let w : len + 0 ≡ len = omega arith in
-          rw (z, w, take-set-le len items len r (omega arith)) (rw (turn, p) at so.whole)
+  pub sums_next : place < m → (own : ℕ) → own ≡ cell table n k place → (own ≡ 0 → ⊥) → (needed group granted : ℕ) → needed ≡ needed_at sums table n k place
+      → group ≡ group_at table n place → sum_count granted ≡ joined_at group c nodes rows
+      → SumsSoFar c nodes rows table sums n k m (set items len (record { group = group; needed = needed; granted = granted })) (len + 1) (place + 1)
+  unfolding sum_verdict
+  sums_next here own e set needed group granted f g h =
+      let r : Sum = record { group = group; needed = needed; granted = granted } in
+      let told : sum_verdict r ≡ place_verdict c nodes rows table sums n k place = unfold place_verdict in rw (h, f, g) refl in
+      record {
+        within = omega arith;
+        few = omega (arith, so.few);
+        eight = so.eight;
+        long = length-set items len r ∙ so.long;
+        whole =
+            rw (add-one, take-suc-set items len r (omega (arith, so.long, so.few, so.eight)))
+            (ap (λ (l : List Verdict). l ++ places_from (place + 1) (m - (place + 1)) c nodes rows table sums n k) (map_snoc items len r)
+            ∙ append_snoc (map sum_verdict (take len items)) (sum_verdict r) _
+            ∙ ap (λ (v : Verdict). map sum_verdict (take len items) ++ (v ∷ places_from (place + 1) (m - (place + 1)) c nodes rows table sums n k)) told
+            ∙ (rw (turn here own e, is_set_lem own set) at so.whole));
+      }
+
+  pub sums_spared : place < m → (own : ℕ) → own ≡ cell table n k place → own ≡ 0 → SumsSoFar c nodes rows table sums n k m items len (place + 1)
+  sums_spared here own e none = record {
+    within = omega arith;
+    few = omega (arith, so.few);
+    eight = so.eight;
+    long = so.long;
+    whole = rw (turn here own e, unset own none) at so.whole;
+  }
+
+  pub sums_room : place < m → len < length items
+  sums_room here = omega (arith, so.long, so.few, so.eight)
 
   pub sums_end : m ≡ group_count table n → m ≤ place → sum_verdicts (record { items = items; len = len }) ≡ places_from 0 (group_count table n) c nodes rows table sums n k
   unfolding sum_verdicts places_from only
@@ -145,30 +134,30 @@ pub unmapped : {B : Type 0} (f : Sum → B) (l : List Sum) (n : ℕ) → length 
 unmapped f l n e = sym (length-map l f) ∙ e
 
 -- the first group of which more is needed than is granted
-pub record ShortSoFar (len : ℕ) (items : List Sum) (i : ℕ) : Type 0 where
-  pub same : lacking_in (map sum_verdict (take len items)) ≡ lacking_in (map sum_verdict (drop i (take len items)))
+pub record ShortSoFar (items : List Sum) (i : ℕ) : Type 0 where
+  pub same : lacking_in (map sum_verdict items) ≡ lacking_in (map sum_verdict (drop i items))
 
-pub short_starts : (len : ℕ) (items : List Sum) → ShortSoFar len items 0
-short_starts len items = record { same = refl }
+pub short_starts : (items : List Sum) → ShortSoFar items 0
+short_starts items = record { same = refl }
 
-module _ (s : Sums) (i : ℕ) (so : ShortSoFar s.len s.items i) where
-  pub short_end : s.len ≤ i → 67 ≡ lacking_in (sum_verdicts s)
-  unfolding sum_verdicts lacking_in
-  short_end h = sym (rw (none_left s.items s.len i h) at so.same)
+module _ (s : Sums) (items : List Sum) (is : items ≡ take s.len s.items) (i : ℕ) (so : ShortSoFar items i) where
+  all_of : lacking_in (sum_verdicts s) ≡ lacking_in (map sum_verdict (drop i items))
+  unfolding sum_verdicts
+  all_of = ap (λ (l : List Sum). lacking_in (map sum_verdict l)) (sym is) ∙ so.same
 
-  pub short_eight : length s.items ≡ 8 → 8 ≤ i → 67 ≡ lacking_in (sum_verdicts s)
-  unfolding sum_verdicts lacking_in
-  short_eight l h = sym (rw (past_end s.items s.len i (omega arith)) at so.same)
+  pub short_end : length items ≤ i → 67 ≡ lacking_in (sum_verdicts s)
+  unfolding lacking_in
+  short_end h = sym (rw (drop_of_length-le items {i = i} h) at all_of)
 
-  module _ (l : length s.items ≡ 8) (low : i < 8) (here : i < s.len) (d : Sum) (b : Bool)
-      (e : b ≡ at_most (sum_count (get_or s.items i d).needed) (sum_count (get_or s.items i d).granted)) where
-    pub short_here : not b ≡ true → (get_or s.items i d).group ≡ lacking_in (sum_verdicts s)
-    unfolding sum_verdicts lacking_in sum_verdict holds permission_of number_of
-    short_here f = sym (rw (one_left s.items s.len i d here (omega arith), ← e, not-true b f) at so.same)
+  module _ (here : i < length items) (d : Sum) (b : Bool)
+      (e : b ≡ at_most (sum_count (get_or items i d).needed) (sum_count (get_or items i d).granted)) where
+    pub short_here : not b ≡ true → (get_or items i d).group ≡ lacking_in (sum_verdicts s)
+    unfolding lacking_in sum_verdict holds permission_of number_of
+    short_here f = sym (rw (one_left items i d here, ← e, not-true b f) at all_of)
 
-    pub short_next : not b ≡ false → ShortSoFar s.len s.items (i + 1)
+    pub short_next : not b ≡ false → ShortSoFar items (i + 1)
     unfolding lacking_in sum_verdict holds
-    short_next f = record { same = rw (one_left s.items s.len i d here (omega arith), ← e, not-false b f) at so.same }
+    short_next f = record { same = rw (one_left items i d here, ← e, not-false b f) at so.same }
 
 -- flags before groups
 not_lacking : (flag : Flag) → is_lacking flag ≡ false → (p : Permission) (rest : List Verdict) → lacking_in (flag_verdicts p flag ++ rest) ≡ lacking_in rest
@@ -242,17 +231,18 @@ pub no_sums : (nodes : List ℕ) (r : Covering) → length nodes ≡ 384 → (le
 no_sums nodes r e f = absurd (f e)
 
 -- in the rows of the kind's tree
-pub span_none : (trees : Trees) (kind t : ℕ) → t ≡ index_of kind (take trees.len trees.kinds) → trees.len ≤ t → record { from = 0; to = 0 } ≡ span_for trees kind
-unfolding span_for
-span_none trees kind t e h = rw (← e, le-ltb t trees.len h) refl
+module _ (trees : Trees) (kind : ℕ) where
+  pub span_is : (r : Answer Span) (s : Span) → r ≡ tree_rows_of trees kind → s ≡ unwrap_or r (record { from = 0; to = 0 }) → s ≡ span_for trees kind
+  unfolding tree_rows_of span_for
+  span_is r s e f = f ∙ rw e (go (ltb (index_of kind (take trees.len trees.kinds)) trees.len) _ _)
+    where
+      go : (b : Bool) (x y : Span) → unwrap_or (cond b (Some x) None) y ≡ cond b x y
+      go true x y = refl
+      go false x y = refl
 
-pub span_some : (trees : Trees) (kind t : ℕ) (r : Span) → t ≡ index_of kind (take trees.len trees.kinds) → t < trees.len
-    → r.from ≡ start_of trees t → r.to ≡ get_or trees.ends t 0 → r ≡ span_for trees kind
-unfolding span_for
-span_some trees kind t r e h p q = rw (← e, lt-ltb t trees.len h, ← p, ← q) refl
-
-pub span_few : (trees : Trees) (t : ℕ) (r : Span) → Bounded trees → r.to ≡ get_or trees.ends t 0 → r.to ≤ 64
-span_few trees t r bounded e = rw e (bounded.rows t)
+  pub span_low : (r : Answer Span) (s : Span) → IfSome r (λ t. t.to ≤ 64) → s ≡ unwrap_or r (record { from = 0; to = 0 }) → s.to ≤ 64
+  span_low (Some t) s h e = rw e h
+  span_low None s h e = rw e (omega arith)
 
 pub covers_for : (c nodes : List ℕ) (trees : Trees) (table sums : List ℕ) (n k : ℕ) (s : Span) (r : Covering) → s ≡ span_for trees k
     → CoveringIs c nodes (givers_in c nodes (path_at table n) s.from (s.to - s.from)) table sums n k r
@@ -279,4 +269,4 @@ module _ (needed granted : ℕ) where
       go true e = refl
       go false e = lt-leb needed granted (omega (arith, ltb-false needed 4000000 e))
 
-pub ruleset cover_steps = (rules, flag_spared, flag_granted_lem, flag_lacking, three_flags, sum_spared, sum_found, sums_start, sums_next, sums_end, unmapped, short_starts, short_end, short_eight, short_here, short_next, unneeded_not, granted_not, lacking_is, read_first, write_first, access_first, groups_then, covers, no_table, no_sums, span_none, span_some, span_few, covers_for, sum_unlimited, sum_compared)
+pub ruleset cover_steps = (rules, flag_spared, flag_granted_lem, flag_lacking, three_flags, sums_start, sums_next, sums_spared, sums_room, sums_end, unmapped, short_starts, short_end, short_here, short_next, unneeded_not, granted_not, lacking_is, read_first, write_first, access_first, groups_then, covers, no_table, no_sums, span_is, span_low, covers_for, sum_unlimited, sum_compared)

@@ -1,6 +1,8 @@
 -- The covering of an entry of a table, found by its flags and then by the groups of its component, place by place; the entry is covered
 -- where it lacks nothing. And the first question that any entry fails is the least of those of the entries.
-use Prim.Native.Nat.{ℕ, zero, suc, ◌+◌, ◌-◌, ◌*◌, ◌<◌, ◌≤◌, min}
+use Prim.Native.Nat.{ℕ, zero, suc, ◌+◌, ◌-◌, ◌*◌, ◌/◌, ◌%◌, ◌<◌, ◌≤◌, min}
+use Rattle.std.specs.Prelude.{Option as Answer, Some, None}
+use Rattle.policy.specs.declared.Span.{Span}
 use mathlib.Core.Path.{◌≡◌, refl, sym, ap, ap₂, ◌∙◌}
 use mathlib.Core.List.{List, [], ◌∷◌, ◌++◌, map}
 use mathlib.Core.Bool.{Bool, true, false, cond, not, ◌&&◌}
@@ -10,7 +12,7 @@ use lib.ListN.{length, take, get_or, replicate, length-replicate}
 use native.Mathlib.Decide.{ℕ_discrete}
 use lib.Dec.{ltb, eqb}
 use borrow.Author.Rules.{rules}
-use borrow.Author.Tests.{lt-ltb, le-ltb, eq-eqb, ne_eqb, not-true, not-false}
+use borrow.Author.Tests.{lt-ltb, le-ltb, ltb-true, ltb-false, eq-eqb, ne_eqb, not-true, not-false}
 use Rattle.reading.proofs.TotalLaws.{both_left, both_right}
 use Rattle.inference.specs.Lists.{every, only, gather, rising}
 use Rattle.inference.specs.Counts.{Count, is_zero}
@@ -43,7 +45,7 @@ use Rattle.policy.specs.declared.Trees.{Trees}
 use Rattle.policy.specs.Loads.{AllHeld, Bounded, start_of}
 use Rattle.fit.specs.Givers.{granting_rows, joined_at, givers_in, index_of}
 use Rattle.fit.specs.Uncovered.{first, permission_of, or_none, first_missing}
-use Rattle.fit.specs.Covers.{verdicts_for, all_given, flag_given, flag_at, flags_at, place_verdict, places_from, verdicts_at, number_of, lacking_in, missing_at, permission_at, missing_of, rows_fault}
+use Rattle.fit.specs.Covers.{verdicts_for, all_given, flag_given, flag_at, flags_at, place_verdict, places_from, verdicts_at, number_of, lacking_in, missing_at, permission_at, missing_of, rows_fault, tree_rows_of}
 use Rattle.fit.specs.Search.{Gives}
 use Rattle.fit.specs.Faults.{entry_fault, entries_fault}
 use Rattle.fit.proofs.GrantLaws.{every_map}
@@ -262,6 +264,32 @@ unfolding verdicts_for
 verdicts_for_lem c nodes trees policy held few kinds table sums n k up required sum =
     sym (covering_rows policy required table n k c nodes _ (span_gives c nodes trees policy held few kinds k (path_at table n) _ refl (purpose_at table n)) up sums sum)
 
+-- What the rows of a kind's tree say, and that there are none.
+record RowsOf (trees : Trees) (kind : ℕ) (s : Span) : Type 0 where
+  here : index_of kind (take trees.len trees.kinds) < trees.len
+  starts : s.from ≡ start_of trees (index_of kind (take trees.len trees.kinds))
+  ends : s.to ≡ get_or trees.ends (index_of kind (take trees.len trees.kinds)) 0
+
+rows_some : (trees : Trees) (kind : ℕ) (s : Span) → Some s ≡ tree_rows_of trees kind → RowsOf trees kind s
+unfolding tree_rows_of
+rows_some trees kind s e = go (ltb (index_of kind (take trees.len trees.kinds)) trees.len) refl e
+  where
+    go : (b : Bool) → ltb (index_of kind (take trees.len trees.kinds)) trees.len ≡ b
+        → Some s ≡ cond b (Some (record { from = start_of trees (index_of kind (take trees.len trees.kinds)); to = get_or trees.ends (index_of kind (take trees.len trees.kinds)) 0 })) None
+        → RowsOf trees kind s
+    go true h f = record { here = ltb-true _ _ h; starts = cc; ends = cc }
+    go false h f = cc
+
+rows_none : (trees : Trees) (kind : ℕ) → None ≡ tree_rows_of trees kind → trees.len ≤ index_of kind (take trees.len trees.kinds)
+unfolding tree_rows_of
+rows_none trees kind e = go (ltb (index_of kind (take trees.len trees.kinds)) trees.len) refl e
+  where
+    go : (b : Bool) → ltb (index_of kind (take trees.len trees.kinds)) trees.len ≡ b
+        → ◌≡◌ {A = Answer Span} None (cond b (Some (record { from = start_of trees (index_of kind (take trees.len trees.kinds)); to = get_or trees.ends (index_of kind (take trees.len trees.kinds)) 0 })) None)
+        → trees.len ≤ index_of kind (take trees.len trees.kinds)
+    go true h f = cc
+    go false h f = ltb-false _ _ h
+
 -- The first question that an entry fails; a kind that is not marked has no entry.
 abbrev pub kind_fault : List Tree → Required → List ℕ → ℕ → ℕ → ℕ
 kind_fault policy required table n k = cond (is_set (cell table n k 11)) (entry_fault policy required (entry_at table n k)) 19
@@ -306,24 +334,33 @@ module _ (c nodes : List ℕ) (trees : Trees) (table sums : List ℕ) (n k : ℕ
     permits = both_right (is_set (cell table n k 11)) (holds_any (entry_at table n k)) both
 
     -- by the tree of the kind
-    module _ (bounded : Bounded trees) (kinds : length trees.kinds ≡ 16) (t : ℕ) (at : t ≡ index_of k (take trees.len trees.kinds)) where
-      pub no_tree : trees.len ≤ t → (policy : List Tree) → AllHeld c nodes trees 0 policy → Orderly table n → (required : Required) → Summed table sums required n k
-          → 16 ≡ kind_fault policy required table n k
+    module _ (bounded : Bounded trees) (kinds : length trees.kinds ≡ 16) where
+      pub no_tree : None ≡ tree_rows_of trees k → (policy : List Tree) → AllHeld c nodes trees 0 policy → Orderly table n
+          → (required : Required) → Summed table sums required n k → 16 ≡ kind_fault policy required table n k
       unfolding entry_fault
-      no_tree absent policy held up required sum =
-          rw (marks, permits, entry_tree c nodes trees policy held bounded.few kinds k t at (entry_at table n k) (unfold entry_at in refl), le-ltb t trees.len absent) refl
+      no_tree e policy held up required sum =
+          rw (
+            marks,
+            permits,
+            entry_tree c nodes trees policy held bounded.few kinds k (index_of k (take trees.len trees.kinds)) refl (entry_at table n k) (unfold entry_at in refl),
+            le-ltb (index_of k (take trees.len trees.kinds)) trees.len (rows_none trees k e),
+          ) refl
 
-      pub in_tree : t < trees.len → (start end r : ℕ) → start ≡ start_of trees t → end ≡ get_or trees.ends t 0
-          → r ≡ rows_fault c nodes (givers_in c nodes (path_at table n) start (end - start)) table sums n k
+      pub in_tree : (s : Span) → Some s ≡ tree_rows_of trees k → (r : ℕ)
+          → r ≡ rows_fault c nodes (givers_in c nodes (path_at table n) s.from (s.to - s.from)) table sums n k
           → (policy : List Tree) → AllHeld c nodes trees 0 policy → Orderly table n → (required : Required) → Summed table sums required n k → r ≡ kind_fault policy required table n k
       unfolding entry_fault
-      in_tree here start end r p q e policy held up required sum =
-          rw (marks, permits, entry_tree c nodes trees policy held bounded.few kinds k t at (entry_at table n k) (unfold entry_at in refl), lt-ltb t trees.len here)
-          (e ∙ sym (fault_rows policy required table n k c nodes start end (tree_rows c nodes trees policy held bounded.few kinds k t at here start end p q)
-          (givers_in c nodes (path_at table n) start (end - start)) refl up sums sum))
-
-pub tree_bounded : (trees : Trees) (t end : ℕ) → Bounded trees → end ≡ get_or trees.ends t 0 → end ≤ 64
-tree_bounded trees t end bounded e = rw e (bounded.rows t)
+      in_tree s found r e policy held up required sum =
+          let is : RowsOf trees k s = rows_some trees k s found in
+          rw (
+            marks,
+            permits,
+            entry_tree c nodes trees policy held bounded.few kinds k (index_of k (take trees.len trees.kinds)) refl (entry_at table n k) (unfold entry_at in refl),
+            lt-ltb (index_of k (take trees.len trees.kinds)) trees.len is.here,
+          )
+          (e ∙ sym (fault_rows policy required table n k c nodes s.from s.to
+          (tree_rows c nodes trees policy held bounded.few kinds k (index_of k (take trees.len trees.kinds)) refl is.here s.from s.to is.starts is.ends)
+          (givers_in c nodes (path_at table n) s.from (s.to - s.from)) refl up sums sum))
 
 -- The least of what entries fail.
 faults_most : (policy : List Tree) (required : Required) (es : List Entry) → entries_fault policy required es ≤ 19
@@ -464,43 +501,38 @@ pub all_sums : (table sums : List ℕ) (components : ℕ) → components ≤ 32 
     → ((m : ℕ) → m < components → Orderly table m) → (m k : ℕ) → m < components → k < 16 → Summed table sums (table_required table components) m k
 all_sums table sums components h is up m k = made_sums table sums components 32 4128 refl h (omega arith) is up m k
 
-module _ (c nodes : List ℕ) (trees : Trees) (table sums : List ℕ) (components r : ℕ)
-    (told : (policy : List Tree) → AllHeld c nodes trees 0 policy → ((n : ℕ) → n < components → Orderly table n)
+-- With a row of sums for each component.
+pub fit_shared : (c nodes : List ℕ) (trees : Trees) (table sums : List ℕ) (components size r : ℕ)
+    → ((policy : List Tree) → AllHeld c nodes trees 0 policy → ((n : ℕ) → n < components → Orderly table n)
     → (required : Required) → ((n k : ℕ) → n < components → k < 16 → Summed table sums required n k)
-    → r ≡ entries_fault policy required (table_entries table components)) where
-  pub fit_few : components ≤ 4 → sums ≡ add_rows (replicate 516 0) table 0 components → (policy : List Tree) → AllHeld c nodes trees 0 policy
-      → ((n : ℕ) → n < components → Orderly table n) → r ≡ entries_fault policy (table_required table components) (table_entries table components)
-  fit_few h is policy held up = told policy held up (table_required table components) (few_sums table sums components h is up)
-
-  pub fit_all : components ≤ 32 → sums ≡ add_rows (replicate 4128 0) table 0 components → (policy : List Tree) → AllHeld c nodes trees 0 policy
-      → ((n : ℕ) → n < components → Orderly table n) → r ≡ entries_fault policy (table_required table components) (table_entries table components)
-  fit_all h is policy held up = told policy held up (table_required table components) (all_sums table sums components h is up)
+    → r ≡ entries_fault policy required (table_entries table components))
+    → components ≤ size / 129 → size / 129 ≤ 32 → size % 129 ≡ 0 → sums ≡ add_rows (replicate size 0) table 0 components
+    → (policy : List Tree) → AllHeld c nodes trees 0 policy → ((n : ℕ) → n < components → Orderly table n)
+    → r ≡ entries_fault policy (table_required table components) (table_entries table components)
+fit_shared c nodes trees table sums components size r told room few whole is policy held up =
+    told policy held up (table_required table components) (made_sums table sums components (size / 129) size (omega arith) room few is up)
 
 -- Without sums, where no components share.
-pub fit_lone : (c nodes : List ℕ) (trees : Trees) (table : List ℕ) (components r : ℕ) (u : Bool) → u ≡ any_shared table 0 components → u ≡ false → components ≤ 32
+pub fit_lone : (c nodes : List ℕ) (trees : Trees) (table : List ℕ) (components r : ℕ) (u : Bool) → u ≡ any_shared table 0 components → not u ≡ true → components ≤ 32
     → ((policy : List Tree) → AllHeld c nodes trees 0 policy → ((n : ℕ) → n < components → Orderly table n)
     → (required : Required) → ((n k : ℕ) → n < components → k < 16 → Summed table [] required n k)
     → r ≡ entries_fault policy required (table_entries table components))
     → (policy : List Tree) → AllHeld c nodes trees 0 policy → ((n : ℕ) → n < components → Orderly table n)
     → r ≡ entries_fault policy (table_required table components) (table_entries table components)
 fit_lone c nodes trees table components r u is off few told policy held up =
-    told policy held up (table_required table components) (lone_sums table components few (sym is ∙ off) up)
+    told policy held up (table_required table components) (lone_sums table components few (sym is ∙ not-true u off) up)
 
 pub ruleset fault_steps = (
   rules,
   unmarked,
   marked,
   no_entry,
-  no_tree,
-  in_tree,
-  tree_bounded,
   kinds_start,
   kinds_next,
   kinds_end,
   rows_start,
   rows_next,
   rows_end,
-  fit_few,
-  fit_all,
+  fit_shared,
   fit_lone,
 )

@@ -1,13 +1,13 @@
 -- The loops of src/grants.rt but those of the scan (`ScanSteps`), step by step: each keeps an equation between what is asked of the whole
 -- list and of what is left of it.
-use Prim.Native.Nat.{ℕ, ◌+◌, ◌-◌, ◌*◌, ◌≤◌, ◌<◌}
-use mathlib.Core.Path.{◌≡◌, refl, sym, ap₂, ◌∙◌}
-use mathlib.Core.Bool.{Bool, true, false}
+use Prim.Native.Nat.{ℕ, suc, ◌+◌, ◌-◌, ◌*◌, ◌≤◌, ◌<◌}
+use mathlib.Core.Path.{◌≡◌, refl, sym, ap, ap₂, ◌∙◌}
+use mathlib.Core.Bool.{Bool, true, false, cond, not, ◌&&◌, ◌||◌}
 use mathlib.Core.List.{List, [], ◌∷◌}
 use native.Mathlib.Numerals.{add-one}
 use native.Mathlib.Omega.{arith}
-use borrow.Author.Tests.{le-ltb, lt-ltb, eq-eqb, ne_eqb}
-use lib.Dec.{ltb}
+use borrow.Author.Tests.{le-ltb, lt-ltb, ltb-true, ltb-false, eq-eqb, ne_eqb}
+use lib.Dec.{ltb, eqb}
 use lib.ListN.{length, get_or, take, drop, length-take, drop_of_length-le}
 use lib.Seq.{drop-cons, get_or-take}
 use Rattle.inference.specs.Lists.{every, any}
@@ -20,68 +20,107 @@ use Rattle.policy.specs.Syntax.{has_bit, bit_at}
 use Rattle.fit.specs.Grants.{stored_count, listed}
 use Rattle.policy.specs.Rows.{node_at, word_in, items_at, permissions_of}
 use Rattle.fit.specs.Givers.{given_at, granting_row, joined_at, index_of}
+use Rattle.std.specs.List.{list_all, list_any, position, position_or_len}
+use Rattle.std.specs.Prelude.{Option, Some, None}
+use Rattle.std.specs.Option.{unwrap_or}
+use Rattle.policy.specs.declared.Trees.{Trees}
+use Rattle.policy.specs.declared.Span.{Span}
+use Rattle.policy.specs.Loads.{start_of}
+use Rattle.fit.specs.Covers.{tree_rows_of}
 use Rattle.policy.specs.declared.Node.{Node}
 use Rattle.policy.specs.declared.Permissions.{Permissions as Stored}
 use Rattle.policy.proofs.NodeLaws.{node_steps}
 use Rattle.policy.proofs.RowLaws.{items_more, items_none, items_all}
 
--- The first n of a list, from the i-th on: none past its end, before it the i-th and what follows.
-pub past_end : {A : Type 0} (l : List A) (n i : ℕ) → length l ≤ i → drop i (take n l) ≡ []
-past_end l n i h = drop_of_length-le (take n l) {i = i} (omega (arith, length-take n l))
+-- A list from place i on is the i-th and what follows.
+pub one_left : {A : Type 0} (xs : List A) (i : ℕ) (d : A) → i < length xs → drop i xs ≡ get_or xs i d ∷ drop (i + 1) xs
+one_left xs i d h = rw (drop-cons xs i d h, ← add-one)
 
-pub none_left : {A : Type 0} (l : List A) (n i : ℕ) → n ≤ i → drop i (take n l) ≡ []
-none_left l n i h = drop_of_length-le (take n l) {i = i} (omega (arith, length-take n l))
+-- Where a kind stands in a list is the place of the first that is it, or the list's length.
+pub index_place : (kind : ℕ) (xs : List ℕ) → index_of kind xs ≡ position_or_len (λ k. eqb k kind) xs
+unfolding index_of
+index_place kind [] = refl
+index_place kind (x ∷ xs) = go (eqb x kind) (index_place kind xs)
+  where
+    go : (b : Bool) → index_of kind xs ≡ position_or_len (λ k. eqb k kind) xs
+        → cond b 0 (suc (index_of kind xs)) ≡ cond (not b) (1 + position_or_len (λ k. eqb k kind) xs) 0
+    go true e = refl
+    go false e = omega (arith, e)
 
-pub one_left : {A : Type 0} (l : List A) (n i : ℕ) (d : A) → i < n → i < length l → drop i (take n l) ≡ get_or l i d ∷ drop (i + 1) (take n l)
-one_left l n i d h k = drop-cons (take n l) i d (omega (arith, length-take n l)) ∙ ap₂ (λ (x : _) (xs : List _). x ∷ xs) (get_or-take n l i d h) (rw add-one refl)
+index_most : (kind : ℕ) (xs : List ℕ) → index_of kind xs ≤ length xs
+unfolding index_of
+index_most kind [] = omega arith
+index_most kind (x ∷ xs) = go (eqb x kind) (index_most kind xs)
+  where
+    go : (b : Bool) → index_of kind xs ≤ length xs → cond b 0 (suc (index_of kind xs)) ≤ suc (length xs)
+    go true e = omega arith
+    go false e = omega arith
 
--- The search for a kind has come to place i.
-pub record TreeSoFar (kind n : ℕ) (l : List ℕ) (i : ℕ) : Type 0 where
-  pub same : index_of kind (take n l) ≡ i + index_of kind (drop i (take n l))
+-- What the search for a kind among the trees' kinds finds, and that it finds none.
+module _ (kind : ℕ) (kinds : List ℕ) where
+  abbrev pub Found : Option ℕ → Type 0
+  Found r = r ≡ position (λ k. eqb k kind) kinds
 
-pub tree_starts : (kind n : ℕ) (l : List ℕ) → TreeSoFar kind n l 0
-tree_starts kind n l = record { same = omega arith }
+  pub found_place : (t : ℕ) → Found (Some t) → t ≡ index_of kind kinds
+  found_place t e = rw index_place (go (position_or_len (λ k. eqb k kind) kinds) (length kinds) _ e)
+    where
+      go : (n m : ℕ) (b : Bool) → Some t ≡ cond b (Some n) None → t ≡ n
+      go n m true e = cc
+      go n m false e = cc
 
-module _ (kind n : ℕ) (l : List ℕ) (i : ℕ) (s : TreeSoFar kind n l i) where
-  pub tree_ends : n ≤ i → i ≡ index_of kind (take n l)
-  unfolding index_of
-  tree_ends h = omega (arith, rw (none_left l n i h) at s.same)
+  pub found_low : (t : ℕ) → Found (Some t) → t < length kinds
+  found_low t e = go (position_or_len (λ k. eqb k kind) kinds) (length kinds) _ refl e
+    where
+      go : (n m : ℕ) (b : Bool) → ltb n m ≡ b → Some t ≡ cond b (Some n) None → t < m
+      go n m true h e = let q : t ≡ n = cc in omega (arith, ltb-true n m h)
+      go n m false h e = cc
 
-  pub tree_here : (x : ℕ) → n ≤ 16 → length l ≡ 16 → i < n → x ≡ get_or l i 0 → x ≡ kind → i ≡ index_of kind (take n l)
-  unfolding index_of
-  tree_here x j k h e q = omega (arith, rw (one_left l n i 0 h (omega arith), ← e, eq-eqb x kind q) at s.same)
+  pub found_none : Found None → length kinds ≤ index_of kind kinds
+  found_none e = rw index_place (go (position_or_len (λ k. eqb k kind) kinds) (length kinds) _ refl e)
+    where
+      go : (n m : ℕ) (b : Bool) → ltb n m ≡ b → ◌≡◌ {A = Option ℕ} None (cond b (Some n) None) → m ≤ n
+      go n m true h e = cc
+      go n m false h e = omega (arith, ltb-false n m h)
 
-  pub tree_next : (x : ℕ) → n ≤ 16 → length l ≡ 16 → i < n → x ≡ get_or l i 0 → (x ≡ kind → ⊥) → TreeSoFar kind n l (i + 1)
-  unfolding index_of
-  tree_next x j k h e q = record { same = omega (arith, rw (one_left l n i 0 h (omega arith), ← e, ne_eqb x kind q) at s.same) }
+-- the same of the trees of a policy
+module _ (trees : Trees) (kind : ℕ) (few : trees.len ≤ 16) (all : length trees.kinds ≡ 16) where
+  pub tree_place : (t : ℕ) → Found kind (take trees.len trees.kinds) (Some t) → t ≡ index_of kind (take trees.len trees.kinds)
+  tree_place t e = found_place kind (take trees.len trees.kinds) t e
 
-pub ruleset tree_steps = (node_steps, tree_starts, tree_ends, tree_here, tree_next)
+  pub tree_low : (t : ℕ) → Found kind (take trees.len trees.kinds) (Some t) → t < trees.len
+  tree_low t e = omega (arith, few, all, found_low kind (take trees.len trees.kinds) t e, length-take trees.len trees.kinds)
 
--- Whether each row gives.
-pub record AllSoFar (n : ℕ) (l : List ℕ) (i : ℕ) : Type 0 where
-  pub same : every (λ row. ltb row 64) (take n l) ≡ every (λ row. ltb row 64) (drop i (take n l))
+  pub tree_none : Found kind (take trees.len trees.kinds) None → trees.len ≤ index_of kind (take trees.len trees.kinds)
+  tree_none e = omega (arith, few, all, found_none kind (take trees.len trees.kinds) e, length-take trees.len trees.kinds)
 
-pub all_starts : (n : ℕ) (l : List ℕ) → AllSoFar n l 0
-all_starts n l = record { same = refl }
+  pub tree_or_len : (r : Option ℕ) (t : ℕ) → Found kind (take trees.len trees.kinds) r → t ≡ unwrap_or r trees.len → t ≡ index_of kind (take trees.len trees.kinds)
+  tree_or_len (Some u) t e f = f ∙ tree_place u e
+  tree_or_len None t e f = omega (arith, f, tree_none e, index_most kind (take trees.len trees.kinds), length-take trees.len trees.kinds)
 
-module _ (n : ℕ) (l : List ℕ) (i : ℕ) (s : AllSoFar n l i) where
-  pub all_end : n ≤ i → true ≡ every (λ row. ltb row 64) (take n l)
-  unfolding every
-  all_end h = sym (rw (none_left l n i h) at s.same)
+-- its rows
+module _ (trees : Trees) (kind t : ℕ) (is : t ≡ index_of kind (take trees.len trees.kinds)) where
+  pub tree_found : t < trees.len → (s : Span) → s.from ≡ start_of trees t → s.to ≡ get_or trees.ends t 0 → Some s ≡ tree_rows_of trees kind
+  unfolding tree_rows_of
+  tree_found h s e f = rw (← is, lt-ltb t trees.len h, ← e, ← f) refl
 
-  pub all_eight : length l ≡ 8 → 8 ≤ i → true ≡ every (λ row. ltb row 64) (take n l)
-  unfolding every
-  all_eight k h = sym (rw (past_end l n i (omega arith)) at s.same)
+  pub tree_missing : trees.len ≤ t → None ≡ tree_rows_of trees kind
+  unfolding tree_rows_of
+  tree_missing h = rw (← is, le-ltb t trees.len h) refl
 
-  pub all_missing : length l ≡ 8 → i < 8 → i < n → 64 ≤ get_or l i 0 → false ≡ every (λ row. ltb row 64) (take n l)
-  unfolding every
-  all_missing k j h q = sym (rw (one_left l n i 0 h (omega arith), le-ltb (get_or l i 0) 64 q) at s.same)
+pub ruleset tree_steps = (node_steps, index_place, tree_found, tree_missing)
 
-  pub all_next : length l ≡ 8 → i < 8 → i < n → get_or l i 0 < 64 → AllSoFar n l (i + 1)
-  unfolding every
-  all_next k j h q = record { same = rw (one_left l n i 0 h (omega arith), lt-ltb (get_or l i 0) 64 q) at s.same }
+-- Tests of all rows, and of any.
+pub all_every : {A : Type 0} (p : A → Bool) (xs : List A) → list_all p xs ≡ every p xs
+unfolding every
+all_every p [] = refl
+all_every p (x ∷ xs) = ap (λ b. p x && b) (all_every p xs)
 
-pub ruleset all_steps = (node_steps, all_starts, all_end, all_eight, all_missing, all_next)
+pub any_any : {A : Type 0} (p : A → Bool) (xs : List A) → list_any p xs ≡ any p xs
+unfolding any
+any_any p [] = refl
+any_any p (x ∷ xs) = ap (λ b. p x || b) (any_any p xs)
+
+pub ruleset all_steps = (node_steps, all_every)
 
 -- What a row gives, and that its list is one that the table can hold.
 pub row_given : (nodes : List ℕ) (row : ℕ) (n : Node) → row < 64 → n ≡ node_at nodes row → (c : List ℕ) → permissions_of c n.permissions ≡ given_at c nodes row
@@ -121,32 +160,7 @@ module _ (nodes : List ℕ) (row purpose : ℕ) where
 
 pub ruleset purpose_steps = (node_steps, grants_none, grants_row, grants_not)
 
--- Whether a row gives a flag.
-pub record FlagSoFar (value : ℕ) (nodes : List ℕ) (n : ℕ) (l : List ℕ) (i : ℕ) : Type 0 where
-  pub same : (c : List ℕ) → any (λ row. has_bit value (given_at c nodes row).map) (take n l) ≡ any (λ row. has_bit value (given_at c nodes row).map) (drop i (take n l))
-
-pub flag_starts : (value : ℕ) (nodes : List ℕ) (n : ℕ) (l : List ℕ) → FlagSoFar value nodes n l 0
-flag_starts value nodes n l = record { same = λ c. refl }
-
-module _ (value : ℕ) (nodes : List ℕ) (n : ℕ) (l : List ℕ) (i : ℕ) (s : FlagSoFar value nodes n l i) where
-  pub flag_end : n ≤ i → (c : List ℕ) → false ≡ any (λ row. has_bit value (given_at c nodes row).map) (take n l)
-  unfolding any
-  flag_end h c = sym (rw (none_left l n i h) at (s.same c))
-
-  pub flag_eight : length l ≡ 8 → 8 ≤ i → (c : List ℕ) → false ≡ any (λ row. has_bit value (given_at c nodes row).map) (take n l)
-  unfolding any
-  flag_eight k h c = sym (rw (past_end l n i (omega arith)) at (s.same c))
-
-  module _ (k : length l ≡ 8) (j : i < 8) (h : i < n) (b : Bool) (q : (c : List ℕ) → b ≡ has_bit value (given_at c nodes (get_or l i 0)).map) where
-    pub flag_here : b ≡ true → (c : List ℕ) → true ≡ any (λ row. has_bit value (given_at c nodes row).map) (take n l)
-    unfolding any
-    flag_here e c = sym (rw (one_left l n i 0 h (omega arith), ← q c, e) at (s.same c))
-
-    pub flag_next : b ≡ false → FlagSoFar value nodes n l (i + 1)
-    unfolding any
-    flag_next e = record { same = λ c. rw (one_left l n i 0 h (omega arith), ← q c, e) at (s.same c) }
-
-pub ruleset flag_steps = (node_steps, flag_starts, flag_end, flag_eight, flag_here, flag_next)
+pub ruleset flag_steps = (node_steps, any_any)
 
 -- The search for a group in a disclose list has come to item i.
 pub record ItemSoFar (c : List ℕ) (group n at i : ℕ) : Type 0 where
@@ -172,34 +186,32 @@ module _ (c : List ℕ) (group n at i : ℕ) (s : ItemSoFar c group n at i) wher
 pub ruleset item_steps = (node_steps, item_starts, item_ends, item_here, item_next)
 
 -- What is joined so far, and what is left to join; at most eight counts are joined, so the sum stays small.
-pub record SumSoFar (group : ℕ) (c nodes : List ℕ) (n : ℕ) (l : List ℕ) (sum i : ℕ) : Type 0 where
-  pub whole : sum_count sum ⊕ joined_at group c nodes (drop i (take n l)) ≡ joined_at group c nodes (take n l)
+pub record SumSoFar (group : ℕ) (c nodes rows : List ℕ) (sum i : ℕ) : Type 0 where
+  pub few : length rows ≤ 8
+  pub whole : sum_count sum ⊕ joined_at group c nodes (drop i rows) ≡ joined_at group c nodes rows
   pub small : Small i sum
 
-pub sum_starts : (group : ℕ) (c nodes : List ℕ) (n : ℕ) (l : List ℕ) → SumSoFar group c nodes n l 0 0
+pub sum_starts : (group : ℕ) (c nodes rows : List ℕ) → length rows ≤ 8 → SumSoFar group c nodes rows 0 0
 unfolding sum_count
-sum_starts group c nodes n l = record { whole = nothing_join _; small = record { low = λ h. omega arith; top = omega arith } }
+sum_starts group c nodes rows h = record { few = h; whole = nothing_join _; small = record { low = λ h. omega arith; top = omega arith } }
 
-module _ (group : ℕ) (c nodes : List ℕ) (n : ℕ) (l : List ℕ) (sum i : ℕ) (s : SumSoFar group c nodes n l sum i) where
-  pub sum_low : sum < 4294967296
-  sum_low = omega (arith, s.small.top)
+module _ (group : ℕ) (c nodes rows : List ℕ) (sum i : ℕ) (s : SumSoFar group c nodes rows sum i) where
+  pub sum_low : i ≤ length rows → sum < 4294967296
+  sum_low h = omega (arith, s.small.top, s.few)
 
-  pub sum_end : n ≤ i → sum_count sum ≡ joined_at group c nodes (take n l)
+  pub sum_end : length rows ≤ i → sum_count sum ≡ joined_at group c nodes rows
   unfolding joined_at
-  sum_end h = sym (join_nothing (sum_count sum)) ∙ (rw (none_left l n i h) at s.whole)
+  sum_end h = sym (join_nothing (sum_count sum)) ∙ (rw (drop_of_length-le rows {i = i} h) at s.whole)
 
-  pub sum_eight : length l ≡ 8 → 8 ≤ i → sum_count sum ≡ joined_at group c nodes (take n l)
-  unfolding joined_at
-  sum_eight k h = sym (join_nothing (sum_count sum)) ∙ (rw (past_end l n i (omega arith)) at s.whole)
-
-  pub sum_next : length l ≡ 8 → i < 8 → i < n → (w : ℕ) → stored_count w ≡ listed group (given_at c nodes (get_or l i 0)).list → w < 65536
-      → (r : ℕ) → r ≡ added sum w → SumSoFar group c nodes n l r (i + 1)
+  pub sum_next : i < length rows → (w : ℕ) → stored_count w ≡ listed group (given_at c nodes (get_or rows i 0)).list → w < 65536
+      → (r : ℕ) → r ≡ added sum w → SumSoFar group c nodes rows r (i + 1)
   unfolding joined_at stored_count count_of
-  sum_next k j h w q v r e =
-      let next : Joined i sum w = join_small i sum w (omega arith) v s.small in
+  sum_next h w q v r e =
+      let next : Joined i sum w = join_small i sum w (omega (arith, s.few)) v s.small in
       record {
-        whole = rw (e, next.same, q) (join_assoc _ _ _ ∙ (rw (one_left l n i 0 h (omega arith)) at s.whole));
+        few = s.few;
+        whole = rw (e, next.same, q) (join_assoc _ _ _ ∙ (rw (one_left rows i 0 h) at s.whole));
         small = rw (e, add-one) next.small;
       }
 
-pub ruleset sum_steps = (node_steps, sum_starts, sum_low, sum_end, sum_eight, sum_next)
+pub ruleset sum_steps = (node_steps, sum_starts, sum_low, sum_end, sum_next)

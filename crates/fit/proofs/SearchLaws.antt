@@ -101,14 +101,14 @@ module _ (c nodes : List ℕ) (trees : Trees) (table sums : List ℕ) (n k : ℕ
   unfolding missing_of
   none_marked h policy held up required sum = rw (← is, not-true u h) refl
 
-  -- what `entry_covering` finds for an entry
-  pub lacks_at : Bounded trees → length trees.kinds ≡ 16 → not u ≡ false → (r : Covering) (column : ℕ)
-      → verdicts_of r ≡ verdicts_for c nodes trees table sums n k → column ≡ lacking_in (verdicts_of r)
+  -- what `covering` finds for an entry
+  pub lacks_at : not u ≡ false → (r : Covering) (column : ℕ)
+      → ((policy : List Tree) → AllHeld c nodes trees 0 policy → Orderly table n → (required : Required) → Summed table sums required n k
+      → verdicts_of r ≡ covering policy required (entry_at table n k)) → column ≡ lacking_in (verdicts_of r)
       → (policy : List Tree) → AllHeld c nodes trees 0 policy → Orderly table n → (required : Required) → Summed table sums required n k
       → kind_missing policy required table n k ≡ missing_of column
-  lacks_at bounded kinds h r column told e policy held up required sum =
-      rw (← is, not-false u h, e, told, verdicts_for_lem c nodes trees policy held bounded.few kinds table sums n k up required sum)
-      (missing_number policy required table n k up)
+  lacks_at h r column told e policy held up required sum =
+      rw (← is, not-false u h, e, told policy held up required sum) (missing_number policy required table n k up)
 
 -- The kinds passed so far lack nothing, so that those left decide, of which those that are marked count.
 abbrev kinds_from : List ℕ → ℕ → ℕ → ℕ → List Entry
@@ -168,12 +168,12 @@ module _ (c nodes : List ℕ) (trees : Trees) (table sums : List ℕ) (n kind co
 
 pub kinds_covered : (c nodes : List ℕ) (trees : Trees) (table sums : List ℕ) (n kind : ℕ) → KindsLeft c nodes trees table sums n kind → 16 ≤ kind
     → (policy : List Tree) → AllHeld c nodes trees 0 policy → Orderly table n → (required : Required) → ((k : ℕ) → k < 16 → Summed table sums required n k)
-    → first_uncovered policy required (row_entries table n) ≡ uncovered_at table (record { component = n; kind = kind; column = 67 })
+    → first_uncovered policy required (row_entries table n) ≡ uncovered_at table (record { component = n; kind = 0; column = 67 })
 unfolding first_uncovered only
 kinds_covered c nodes trees table sums n kind left done policy held up required sum =
     left.same policy held up required sum
     ∙ ap (λ (l : List ℕ). first_uncovered policy required (map (entry_at table n) (only (λ k. is_set (cell table n k 11)) l))) (rising_done kind 16 done)
-    ∙ none_at table (record { component = n; kind = kind; column = 67 }) (omega arith)
+    ∙ none_at table (record { component = n; kind = 0; column = 67 }) (omega arith)
 
 -- The same of components.
 pub record RowsLeft (c nodes : List ℕ) (trees : Trees) (table sums : List ℕ) (m i : ℕ) : Type 0 where

@@ -2,6 +2,7 @@
 -- them. (`covering_rows` of proofs/EntryLaws.antt: it is the definition's.)
 use Rattle.std.specs.Prelude.{ℕ, ◌-◌, ◌≡◌, List, [], ◌∷◌, ◌++◌, map, Bool, true, false, cond, take, get_or, ltb, eqb}
 use Rattle.std.proofs.Math.Option.{Option, some, none}
+use Rattle.std.specs.Prelude.{Option as Answer, Some, None}
 use Rattle.inference.specs.Lists.{every, any, only, rising}
 use Rattle.inference.specs.Interface.{Permission, reading, writing, accessing, disclosing}
 use Rattle.inference.specs.Rows.{is_set, cell, group_count, group_at, path_at, purpose_at}
@@ -75,7 +76,16 @@ unfoldable pub verdicts_at : List ℕ → List ℕ → List ℕ → List ℕ →
 verdicts_at c nodes rows table sums component kind =
     flags_at c nodes rows table component kind (places_from 0 (group_count table component) c nodes rows table sums component kind)
 
--- the rows of a kind's tree in the table of nodes; none where there is no such tree
+-- the rows of a kind's tree in the table of nodes, where there is such a tree
+unfoldable pub tree_rows_of : Trees → ℕ → Answer Span
+tree_rows_of trees kind =
+    cond (ltb (index_of kind (take trees.len trees.kinds)) trees.len)
+    (Some (record {
+      from = start_of trees (index_of kind (take trees.len trees.kinds));
+      to = get_or trees.ends (index_of kind (take trees.len trees.kinds)) 0;
+    })) None
+
+-- the same, none where there is no such tree
 unfoldable pub span_for : Trees → ℕ → Span
 span_for trees kind =
     cond (ltb (index_of kind (take trees.len trees.kinds)) trees.len)

@@ -1,12 +1,13 @@
 // What a policy grants of what an entry needs (document 02, Q-5): which needed flags are granted and, for each group disclosed to, the
 // granted sum beside the needed one; and the first of them that is not covered.
-ghost use Rattle.std.specs.Prelude.{◌≡◌, List, ℕ, ◌<◌, ◌≤◌, ◌-◌, length};
+ghost use Rattle.std.specs.Prelude.{◌≡◌, List, ℕ, ◌<◌, ◌≤◌, ◌-◌, length, take};
 ghost use Rattle.inference.specs.Counts.{at_most};
-ghost use Rattle.inference.specs.Interface.{Permission};
-ghost use Rattle.inference.specs.Rows.{group_count, path_at};
-ghost use Rattle.sharing.specs.Sums.{sum_count};
-ghost use Rattle.policy.specs.Loads.{Bounded};
-ghost use Rattle.fit.specs.Satisfies.{Verdict, counts};
+ghost use Rattle.inference.specs.Interface.{Permission, Required};
+ghost use Rattle.inference.specs.Rows.{Orderly, entry_at, group_count, path_at};
+ghost use Rattle.sharing.specs.Sums.{sum_count, Summed};
+ghost use Rattle.policy.specs.Syntax.{Tree};
+ghost use Rattle.policy.specs.Loads.{Bounded, AllHeld};
+ghost use Rattle.fit.specs.Satisfies.{Verdict, covering};
 ghost use Rattle.fit.specs.Givers.{given_rows, joined_at, givers_in};
 ghost use Rattle.fit.specs.Covers.{
   flag_verdicts,
@@ -18,172 +19,163 @@ ghost use Rattle.fit.specs.Covers.{
   sum_verdicts,
   places_from,
   lacking_in,
-  span_for,
   verdicts_for,
   verdicts_of,
   CoveringIs,
 };
 
-use crate::grants::{all_given, count_granted, flag_granted, givers, granting, tree_for};
-use crate::{Covering, Flag, Flags, Givers, Sum, Sums};
-use inference::rows::{group_at, group_count, path_of, purpose_of};
-use interface::{bit, count_at};
-use policy::nodes::span_of;
-use policy::{Span, Trees};
+use crate::grants::{givers, tree_of};
+use crate::{Case, Covering, Flag, Flags, Grant, Sum, Sums};
+use inference::rows::{group_at, group_count};
+use inference::table::{ACCESSES, Entry, READS, Row, WRITES};
+use interface::count_at;
+use policy::{Policy, Span, Trees};
 use sharing::needed_at;
 
-// What is granted of a flag that an entry may need.
-fn flag_of(needed: usize, nodes: &[u16], givers: Givers, value: usize) -> Flag
-    requires { 0 < value }
-    ensures { (c : List ℕ) (p : Permission) → flag_verdicts p result ≡ flag_at p value c nodes.now (given_rows givers) needed }
-{
-    if needed == 0 {
-        return Flag::Unneeded;
+impl Grant<'_> {
+    // What is granted of a flag of which an entry needs so many.
+    #[tactic(auto, using(crate::proofs::CoverSteps::cover_steps))]
+    fn flag(&self, needed: usize, value: usize) -> Flag
+        requires { 0 < value }
+        ensures { (c : List ℕ) (p : Permission) → flag_verdicts p result
+            ≡ flag_at p value c self.now.policy.nodes.now (given_rows self.now.givers) needed }
+    {
+        if needed == 0 {
+            Flag::Unneeded
+        } else if self.has_flag(value) {
+            Flag::Granted
+        } else {
+            Flag::Lacking
+        }
     }
-    if flag_granted(nodes, givers, value) {
-        return Flag::Granted;
+
+    // What is granted of the flags of an entry.
+    #[tactic(auto, using(crate::proofs::CoverSteps::cover_steps))]
+    fn flags(&self, entry: Entry<'_>) -> Flags
+        ensures { (c : List ℕ) (rest : List Verdict) → flags_then result rest
+            ≡ flags_at c self.now.policy.nodes.now (given_rows self.now.givers) entry.entry.table.now entry.entry.component entry.entry.kind rest }
+    {
+        let read = self.flag(entry.count(READS), 1);
+        let write = self.flag(entry.count(WRITES), 2);
+        let access = self.flag(entry.count(ACCESSES), 4);
+        Flags {
+            read,
+            write,
+            access,
+        }
     }
-    Flag::Lacking
+
+    // The sums for the groups that an entry discloses to.
+    #[tactic(auto, using(crate::proofs::CoverSteps::cover_steps))]
+    fn sums(&self, sums: &[u32], entry: Entry<'_>) -> Sums
+        ensures result_value { sum_verdicts result ≡ places_from 0 (group_count entry.entry.table.now entry.entry.component)
+            self.now.policy.charter.now self.now.policy.nodes.now (given_rows self.now.givers)
+            entry.entry.table.now sums.now entry.entry.component entry.entry.kind }
+        ensures few { result.len ≤ 8 }
+    {
+        let Entry {
+            table,
+            component,
+            kind,
+        } = entry;
+        let count = group_count(table, component);
+        let mut items = [NO_SUM; 8];
+        let mut len: usize = 0;
+        for place in 0..count {
+            if count_at(table, component, kind, place) != 0 {
+                let group = group_at(table, component, place);
+                let needed = needed_at(sums, table, component, kind, place);
+                let granted = self.count(group);
+                items[len] = Sum {
+                    group,
+                    needed,
+                    granted,
+                };
+                len += 1;
+            }
+        }
+        Sums { items, len }
+    }
 }
 
-// What is granted of the flags of the entry of a component and a kind.
-fn flags_of(table: &[u16], component: usize, kind: usize, nodes: &[u16], givers: Givers) -> Flags
-    requires { (component < 32) × (kind < 16) }
-    ensures { (c : List ℕ) (rest : List Verdict) → flags_then result rest
-        ≡ flags_at c nodes.now (given_rows givers) table.now component kind rest }
-{
-    let read = count_at(table, component, kind, 8);
-    let write = count_at(table, component, kind, 9);
-    let access = count_at(table, component, kind, 10);
-    Flags {
-        read: flag_of(read, nodes, givers, 1),
-        write: flag_of(write, nodes, givers, 2),
-        access: flag_of(access, nodes, givers, 4),
-    }
-}
-
-// The sums for a group; no matter which, where the component's own count is 0.
-fn sum_of(own: usize, needed: usize, c: &[u8], nodes: &[u16], givers: Givers, group: usize) -> Sum
-    ensures { (own ≡ 0 → ⊥) → sum_verdict result ≡ counts group (sum_count needed) (joined_at group c.now nodes.now (given_rows givers)) }
-{
-    if own == 0 {
-        return Sum {
-            group,
-            needed,
-            granted: 0,
-        };
-    }
-    Sum {
-        group,
-        needed,
-        granted: count_granted(c, nodes, givers, group),
-    }
-}
-
-// The sums for the groups that the entry of a component and a kind discloses to.
-fn sums_of(
-    c: &[u8],
-    table: &[u16],
-    sums: &[u32],
-    component: usize,
-    kind: usize,
-    nodes: &[u16],
-    givers: Givers,
-) -> Sums
-    requires { (component < 32) × (kind < 16) }
-    ensures result_value { sum_verdicts result ≡ places_from 0 (group_count table.now component) c.now nodes.now
-        (given_rows givers) table.now sums.now component kind }
-    ensures few { result.len ≤ 8 }
-{
-    let count = group_count(table, component);
-    let mut items = [Sum {
-        group: 0,
-        needed: 0,
-        granted: 0,
-    }; 8];
-    let mut len: usize = 0;
-    let mut place: usize = 0;
-    while place < count {
-        let own = count_at(table, component, kind, place);
-        let needed = needed_at(sums, table, component, kind, place);
-        let group = group_at(table, component, place);
-        items[len] = sum_of(own, needed, c, nodes, givers, group);
-        len += bit(own, 1);
-        place += 1;
-    }
-    Sums { items, len }
-}
+const NO_SUM: Sum = Sum {
+    group: 0,
+    needed: 0,
+    granted: 0,
+};
 
 // No verdict at all.
-fn nothing() -> Covering {
-    Covering {
-        reached: false,
-        flags: Flags {
-            read: Flag::Unneeded,
-            write: Flag::Unneeded,
-            access: Flag::Unneeded,
-        },
-        sums: Sums {
-            items: [Sum {
-                group: 0,
-                needed: 0,
-                granted: 0,
-            }; 8],
-            len: 0,
-        },
+const NOTHING: Covering = Covering {
+    reached: false,
+    flags: Flags {
+        read: Flag::Unneeded,
+        write: Flag::Unneeded,
+        access: Flag::Unneeded,
+    },
+    sums: Sums {
+        items: [NO_SUM; 8],
+        len: 0,
+    },
+};
+
+impl<'a> Case<'a> {
+    /// What an entry comes to in a tree: its path reaches nodes whatever they are for, and of these those for its purpose grant.
+    #[tactic(auto, using(crate::proofs::CoverSteps::cover_steps))]
+    pub fn cover(&self, tree: Span, entry: Entry<'_>) -> Covering
+        requires { tree.to ≤ 64 }
+        ensures covering_is { CoveringIs self.now.policy.charter.now self.now.policy.nodes.now
+            (givers_in self.now.policy.charter.now self.now.policy.nodes.now
+            (path_at entry.entry.table.now entry.entry.component) tree.from (tree.to - tree.from))
+            entry.entry.table.now self.now.sums.now entry.entry.component entry.entry.kind result }
+        ensures few { result.sums.len ≤ 8 }
+    {
+        let policy = self.policy;
+        // Never so; said for the compiler, which then tests no index of the table again.
+        if policy.nodes.len() != 384 {
+            return NOTHING;
+        }
+        let Entry {
+            table,
+            component,
+            ..
+        } = entry;
+        let row = Row { table, component };
+        let reached = givers(policy.nodes, tree, row.path());
+        let granting = reached.granting(policy.nodes, row.purpose());
+        let grant = Grant {
+            policy,
+            givers: granting,
+        };
+        Covering {
+            reached: reached.all_given(),
+            flags: grant.flags(entry),
+            sums: grant.sums(self.sums, entry),
+        }
+    }
+
+    /// What an entry comes to in the policy: what the definition of its covering says. Where there is no tree of its kind, no rows give.
+    #[tactic(auto, using(crate::proofs::CoverSteps::cover_steps))]
+    pub fn covering(&self, entry: Entry<'_>) -> Covering
+        ensures covering_value { (policy : List Tree) → AllHeld self.now.policy.charter.now self.now.policy.nodes.now self.now.policy.trees 0 policy
+            → Orderly entry.entry.table.now entry.entry.component → (required : Required)
+            → Summed entry.entry.table.now self.now.sums.now required entry.entry.component entry.entry.kind
+            → verdicts_of result ≡ covering policy required (entry_at entry.entry.table.now entry.entry.component entry.entry.kind) }
+        ensures result_value { verdicts_of result ≡ verdicts_for self.now.policy.charter.now self.now.policy.nodes.now self.now.policy.trees
+            entry.entry.table.now self.now.sums.now entry.entry.component entry.entry.kind }
+        ensures few { result.sums.len ≤ 8 }
+    {
+        let tree = tree_of(self.policy.trees, entry.kind).unwrap_or(Span { from: 0, to: 0 });
+        self.cover(tree, entry)
     }
 }
 
-// What the entry of a component and a kind comes to in the kind's tree: its path reaches nodes whatever they are for, and of these those
-// for its purpose grant.
-pub fn cover(
-    c: &[u8],
-    nodes: &[u16],
-    tree: Span,
-    table: &[u16],
-    sums: &[u32],
-    component: usize,
-    kind: usize,
-) -> Covering
-    requires { (tree.to ≤ 64) × (component < 32) × (kind < 16) × (length nodes.now ≡ 384) }
-    ensures covering_is { CoveringIs c.now nodes.now
-        (givers_in c.now nodes.now (path_at table.now component) tree.from (tree.to - tree.from))
-        table.now sums.now component kind result }
-    ensures few { result.sums.len ≤ 8 }
-{
-    // Never so; said for the compiler, which then tests no index of the table again.
-    if nodes.len() != 384 {
-        return nothing();
-    }
-    let reached = givers(nodes, tree, path_of(table, component));
-    let found = granting(nodes, reached, purpose_of(table, component));
-    Covering {
-        reached: all_given(reached),
-        flags: flags_of(table, component, kind, nodes, found),
-        sums: sums_of(c, table, sums, component, kind, nodes, found),
-    }
-}
-
-// The rows of a kind's tree; none where there is no such tree.
-fn rows_of(trees: Trees, kind: usize) -> Span
-    requires { Bounded trees }
-    ensures value { result ≡ span_for trees kind }
-    ensures few { result.to ≤ 64 }
-{
-    let t = tree_for(trees, kind);
-    if trees.len <= t {
-        return Span { from: 0, to: 0 };
-    }
-    span_of(trees, t)
-}
-
-// What the entry of a component and a kind comes to in the policy. (`verdicts_for_lem` of proofs/EntryLaws.antt: it is the covering.)
-pub fn entry_covering(
-    c: &[u8],
-    nodes: &[u16],
+/// What the entry of a component and a kind comes to in the policy.
+pub fn entry_covering<'a>(
+    c: &'a [u8],
+    nodes: &'a [u16],
     trees: Trees,
-    table: &[u16],
-    sums: &[u32],
+    table: &'a [u16],
+    sums: &'a [u32],
     component: usize,
     kind: usize,
 ) -> Covering
@@ -191,65 +183,70 @@ pub fn entry_covering(
     ensures result_value { verdicts_of result ≡ verdicts_for c.now nodes.now trees table.now sums.now component kind }
     ensures few { result.sums.len ≤ 8 }
 {
-    cover(c, nodes, rows_of(trees, kind), table, sums, component, kind)
+    let policy = Policy {
+        charter: c,
+        nodes,
+        trees,
+    };
+    let entry = Entry {
+        table,
+        component,
+        kind,
+    };
+    Case { policy, sums }.covering(entry)
 }
 
-fn is_lacking(flag: Flag) -> bool
-    ensures { result ≡ is_lacking flag }
-{
-    match flag {
-        Flag::Unneeded => false,
-        Flag::Granted => false,
-        Flag::Lacking => true,
+impl Sum {
+    // Is the needed sum at most the granted one? One from 4,000,000 on is unlimited.
+    #[tactic(auto, using(crate::proofs::CoverSteps::cover_steps))]
+    fn is_covered(&self) -> bool
+        ensures { result ≡ at_most (sum_count self.now.needed) (sum_count self.now.granted) }
+    {
+        4_000_000 <= self.granted || self.needed <= self.granted
     }
 }
 
-// Is a needed sum, unlimited from 4,000,000 on, at most a granted one?
-fn within(needed: usize, granted: usize) -> bool
-    ensures { result ≡ at_most (sum_count needed) (sum_count granted) }
-{
-    if 4000000 <= granted {
-        return true;
+impl Sums {
+    /// The sums, by rising group.
+    pub fn items(&self) -> &[Sum]
+        ensures { result.now ≡ take self.now.len self.now.items }
+    {
+        &self.items[..self.len.min(8)]
     }
-    needed <= granted
-}
 
-// The first group of which more is needed than is granted, or 67.
-fn first_short(sums: Sums) -> usize
-    ensures { result ≡ lacking_in (sum_verdicts sums) }
-{
-    let items = sums.items;
-    let len = sums.len;
-    let mut i: usize = 0;
-    while i < 8 {
-        if len <= i {
-            return 67;
+    // The first group of which more is needed than is granted, or 67.
+    #[tactic(auto, using(crate::proofs::CoverSteps::cover_steps))]
+    fn first_short(&self) -> usize
+        ensures { result ≡ lacking_in (sum_verdicts self.now) }
+    {
+        let items = self.items();
+        for sum in items {
+            if !sum.is_covered() {
+                return sum.group;
+            }
         }
-        let sum = items[i];
-        if !within(sum.needed, sum.granted) {
-            return sum.group;
-        }
-        i += 1;
+        67
     }
-    67
 }
 
-// The number of the first permission that is not covered, in the order read (64), write (65), access (66), then groups; or 67.
+/// The number of the first permission that is not covered, in the order read (64), write (65), access (66), then groups; or 67.
+#[tactic(auto, using(crate::proofs::CoverSteps::cover_steps))]
 pub fn first_lacking(found: Covering) -> usize
     ensures { result ≡ lacking_in (verdicts_of found) }
 {
-    let flags = found.flags;
-    let read = flags.read;
-    if is_lacking(read) {
+    let Flags {
+        read,
+        write,
+        access,
+    } = found.flags;
+    if read == Flag::Lacking {
         return 64;
     }
-    let write = flags.write;
-    if is_lacking(write) {
+    if write == Flag::Lacking {
         return 65;
     }
-    let access = flags.access;
-    if is_lacking(access) {
+    if access == Flag::Lacking {
         return 66;
     }
-    first_short(found.sums)
+    found.sums.first_short()
 }

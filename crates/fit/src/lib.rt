@@ -7,15 +7,31 @@ pub mod entries;
 pub mod grants;
 pub mod uncovered;
 
-// What gives to a path: for each of its groups the row of the group's first reached node, or 64.
+use policy::Policy;
+
+/// What gives to a path: for each of its groups the row of the group's first reached node, or 64.
 #[derive(Clone, Copy)]
 pub struct Givers {
-    pub rows: [usize; 8],
-    pub len: usize,
+    rows: [usize; 8],
+    len: usize,
 }
 
-// What a policy says to a flag: the entry does not need it, it is granted, or it is not.
+/// A policy, of which the entries of a table are asked, and the sums of what the table's classes need: none where no components share.
 #[derive(Clone, Copy)]
+pub struct Case<'a> {
+    pub policy: Policy<'a>,
+    pub sums: &'a [u32],
+}
+
+/// What a policy grants a component for data of a kind: what gives to its path in the kind's tree and grants for its purpose.
+#[derive(Clone, Copy)]
+pub struct Grant<'a> {
+    pub policy: Policy<'a>,
+    pub givers: Givers,
+}
+
+/// What a policy says to a flag: the entry does not need it, it is granted, or it is not.
+#[derive(Clone, Copy, PartialEq, Eq, Debug)]
 pub enum Flag {
     Unneeded,
     Granted,

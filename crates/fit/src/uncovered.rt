@@ -11,105 +11,112 @@ ghost use Rattle.fit.specs.Covers.{missing_of};
 ghost use Rattle.fit.specs.Uncovered.{first_missing, first_uncovered};
 ghost use Rattle.fit.specs.Search.{uncovered_at};
 
-use crate::Missing;
-use crate::cover::{entry_covering, first_lacking};
-use interface::is_used;
-use policy::Trees;
+use crate::cover::first_lacking;
+use crate::{Case, Missing};
+use inference::table::{Entry, Row};
+use policy::{Policy, Trees};
 use sharing::sum_classes;
 
-// The number of the first permission of an entry that is not covered, or 67; a kind that is not marked has no entry.
-fn entry_missing(
-    c: &[u8],
-    nodes: &[u16],
-    trees: Trees,
-    table: &[u16],
-    sums: &[u32],
-    component: usize,
-    kind: usize,
-) -> usize
-    requires { (component < 32) × (kind < 16) × Bounded trees × (length nodes.now ≡ 384) }
-    ensures { (policy : List Tree) → AllHeld c.now nodes.now trees 0 policy
-        → Orderly table.now component → (required : Required) → Summed table.now sums.now required component kind
-        → cond (is_set (cell table.now component kind 11)) (first_missing policy required (entry_at table.now component kind)) none
-        ≡ missing_of result }
-{
-    if !is_used(table, component, kind) {
-        return 67;
+impl<'a> Case<'a> {
+    // The number of the first permission of an entry that is not covered, or 67; a kind that is not marked has no entry.
+    #[tactic(auto, using(crate::proofs::SearchLaws::search_steps))]
+    fn entry_missing(&self, entry: Entry<'_>) -> usize
+        ensures { (policy : List Tree) → AllHeld self.now.policy.charter.now self.now.policy.nodes.now self.now.policy.trees 0 policy
+            → Orderly entry.entry.table.now entry.entry.component → (required : Required)
+            → Summed entry.entry.table.now self.now.sums.now required entry.entry.component entry.entry.kind
+            → cond (is_set (cell entry.entry.table.now entry.entry.component entry.entry.kind 11))
+            (first_missing policy required (entry_at entry.entry.table.now entry.entry.component entry.entry.kind)) none
+            ≡ missing_of result }
+    {
+        if !entry.is_used() {
+            return 67;
+        }
+        first_lacking(self.covering(entry))
     }
-    first_lacking(entry_covering(c, nodes, trees, table, sums, component, kind))
-}
 
-// The first uncovered permission of a component.
-fn row_missing(
-    c: &[u8],
-    nodes: &[u16],
-    trees: Trees,
-    table: &[u16],
-    sums: &[u32],
-    component: usize,
-) -> Missing
-    requires { (component < 32) × Bounded trees × (length nodes.now ≡ 384) }
-    ensures component_value { (policy : List Tree) → AllHeld c.now nodes.now trees 0 policy
-        → Orderly table.now component → (required : Required) → ((k : ℕ) → k < 16 → Summed table.now sums.now required component k)
-        → first_uncovered policy required (row_entries table.now component) ≡ uncovered_at table.now result }
-    ensures few { result.component < 32 }
-{
-    let mut kind: usize = 0;
-    while kind < 16 {
-        let column = entry_missing(c, nodes, trees, table, sums, component, kind);
-        if column < 67 {
-            return Missing {
+    // The first uncovered permission of a component.
+    #[tactic(auto, using(crate::proofs::SearchLaws::search_steps))]
+    fn row_missing(&self, row: Row<'_>) -> Missing
+        ensures component_value { (policy : List Tree)
+            → AllHeld self.now.policy.charter.now self.now.policy.nodes.now self.now.policy.trees 0 policy
+            → Orderly row.entry.table.now row.entry.component → (required : Required)
+            → ((k : ℕ) → k < 16 → Summed row.entry.table.now self.now.sums.now required row.entry.component k)
+            → first_uncovered policy required (row_entries row.entry.table.now row.entry.component) ≡ uncovered_at row.entry.table.now result }
+        ensures few { result.component < 32 }
+    {
+        let Row { table, component } = row;
+        for kind in 0..16 {
+            let entry = Entry {
+                table,
                 component,
                 kind,
-                column,
             };
+            let column = self.entry_missing(entry);
+            if column < 67 {
+                return Missing {
+                    component,
+                    kind,
+                    column,
+                };
+            }
         }
-        kind += 1;
+        Missing {
+            component,
+            kind: 0,
+            column: 67,
+        }
     }
-    Missing {
-        component,
-        kind,
-        column: 67,
+
+    // The first uncovered permission of all components.
+    #[tactic(auto, using(crate::proofs::SearchLaws::search_steps))]
+    fn rows_missing(&self, table: &[u16], components: usize) -> Missing
+        requires { components ≤ 32 }
+        ensures components_value { (policy : List Tree)
+            → AllHeld self.now.policy.charter.now self.now.policy.nodes.now self.now.policy.trees 0 policy
+            → ((n : ℕ) → n < components → Orderly table.now n)
+            → (required : Required) → ((n k : ℕ) → n < components → k < 16 → Summed table.now self.now.sums.now required n k)
+            → first_uncovered policy required (table_entries table.now components) ≡ uncovered_at table.now result }
+        ensures few { result.component < 32 }
+    {
+        for component in 0..components {
+            let missing = self.row_missing(Row { table, component });
+            if missing.column < 67 {
+                return missing;
+            }
+        }
+        Missing {
+            component: 0,
+            kind: 0,
+            column: 67,
+        }
     }
 }
 
-// The first uncovered permission of all components, with the sums of their classes.
-fn rows_missing(
-    c: &[u8],
-    nodes: &[u16],
-    trees: Trees,
-    table: &[u16],
-    sums: &[u32],
-    components: usize,
-) -> Missing
-    requires { (components ≤ 32) × Bounded trees × (length nodes.now ≡ 384) }
-    ensures components_value { (policy : List Tree) → AllHeld c.now nodes.now trees 0 policy
+// The first uncovered permission of the interface that a table holds, with the sums of its classes.
+#[tactic(auto, using(crate::proofs::SearchLaws::search_steps))]
+fn policy_missing(policy: Policy<'_>, table: &[u16], components: usize) -> Missing
+    requires { components ≤ 32 }
+    ensures components_value { (trees : List Tree) → AllHeld policy.entry.charter.now policy.entry.nodes.now policy.entry.trees 0 trees
         → ((n : ℕ) → n < components → Orderly table.now n)
-        → (required : Required) → ((n k : ℕ) → n < components → k < 16 → Summed table.now sums.now required n k)
-        → first_uncovered policy required (table_entries table.now components) ≡ uncovered_at table.now result }
+        → first_uncovered trees (table_required table.now components) (table_entries table.now components)
+        ≡ uncovered_at table.now result }
     ensures few { result.component < 32 }
 {
-    let mut component: usize = 0;
-    while component < components {
-        let missing = row_missing(c, nodes, trees, table, sums, component);
-        if missing.column < 67 {
-            return missing;
-        }
-        component += 1;
-    }
-    Missing {
-        component: 0,
-        kind: 0,
-        column: 67,
-    }
+    let mut sums = [0u32; 4128];
+    sum_classes(table, components, &mut sums);
+    let case = Case {
+        policy,
+        sums: &sums,
+    };
+    case.rows_missing(table, components)
 }
 
-// The first uncovered permission of the interface that a table holds.
-pub fn first_uncovered(
-    c: &[u8],
-    nodes: &[u16],
+/// The first uncovered permission of the interface that a table holds.
+pub fn first_uncovered<'a>(
+    c: &'a [u8],
+    nodes: &'a [u16],
     trees: Trees,
-    table: &[u16],
+    table: &'a [u16],
     components: usize,
 ) -> Missing
     requires { (components ≤ 32) × Bounded trees × (length nodes.now ≡ 384) }
@@ -119,7 +126,10 @@ pub fn first_uncovered(
         ≡ uncovered_at table.now result }
     ensures few { result.component < 32 }
 {
-    let mut sums = [0u32; 4128];
-    sum_classes(table, components, &mut sums);
-    rows_missing(c, nodes, trees, table, &sums, components)
+    let policy = Policy {
+        charter: c,
+        nodes,
+        trees,
+    };
+    policy_missing(policy, table, components)
 }

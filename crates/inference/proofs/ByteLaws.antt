@@ -2,10 +2,10 @@
 use Prim.Native.Nat.{ℕ, ◌+◌, ◌<◌, ◌≤◌}
 use mathlib.Core.Bool.{Bool, true, false, ◌&&◌}
 use mathlib.Core.List.{List}
-use mathlib.Core.Path.{◌≡◌, refl, sym, ◌∙◌}
+use mathlib.Core.Path.{◌≡◌, refl, ◌∙◌}
 use native.Mathlib.Omega.{arith}
 use borrow.Author.Tests.{lt-ltb, le-ltb, ltb-true, ltb-false, ne_eqb}
-use lib.Dec.{ltb, eqb}
+use lib.Dec.{ltb}
 use lib.ListN.{length, get_or}
 use Rattle.reading.specs.declared.Dialect.TheVariants.{Current as current}
 use Rattle.reading.specs.Read.{Read, got, refused, and_then, byte_at, below}
@@ -13,9 +13,8 @@ use Rattle.reading.specs.Types.{type_at_in, type_at}
 use Rattle.reading.specs.Forms.{limited, new_form_in, input_form_in, output_form, process_form_in, process_at_in, process_at}
 use Rattle.reading.specs.Syntax.{nil}
 use Rattle.reading.specs.Total.{process_tree}
-use Rattle.reading.specs.declared.Form.{Form}
 use Rattle.reading.specs.declared.Form.TheVariants.{Nil, Par, New, Input, Output, Replicate}
-use Rattle.reading.proofs.Parts.{parts, byte_found, below_found}
+use Rattle.reading.proofs.Parts.{parts, byte_found}
 use Rattle.reading.proofs.TotalLaws.{process_stop}
 
 -- By cases: below, or not.

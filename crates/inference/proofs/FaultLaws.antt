@@ -2,13 +2,10 @@
 -- names in scope, else 8 where not every act is on a channel, and so on, and 11 where all pass.
 use Prim.Native.Nat.{ℕ, ◌≤◌, min}
 use mathlib.Core.Path.{◌≡◌, refl, sym, ap, ap₂, ◌∙◌}
-use mathlib.Core.List.{List, [], ◌∷◌, ◌++◌}
+use mathlib.Core.List.{List, [], ◌∷◌}
 use mathlib.Core.Bool.{Bool, true, false, cond, ◌&&◌}
 use native.Mathlib.Omega.{arith}
-use borrow.Author.Tests.{le-ltb}
-use Rattle.std.specs.Prelude.{None}
 use Rattle.reading.specs.Syntax.{Sheet}
-use Rattle.reading.specs.Told.{failed_below}
 use Rattle.inference.specs.Lists.{every, gather}
 use Rattle.inference.specs.Acts.{Act, Located, acts_of, located, sheet_acts}
 use Rattle.inference.specs.Typing.{in_scope, on_channel, carries_object, in_path}
@@ -81,23 +78,3 @@ pub sheet_fault : (sheet : Sheet) → worst_all (located sheet)
     ≡ first_no (every in_scope (sheet_acts sheet)) (every on_channel (sheet_acts sheet)) (every carries_object (sheet_acts sheet)) (every in_path (sheet_acts sheet))
 unfolding sheet_acts
 sheet_fault sheet = worst_gather (located sheet) ∙ worst_tests (gather acts_of (located sheet))
-
--- No act fails a question before 7.
-fault_low : (a : Act) → 7 ≤ fault_of a
-fault_low a = rw (fault_tests a) (least_seven (in_scope a) (on_channel a) (carries_object a) (in_path a))
-
-worst_low : (xs : List Act) → 7 ≤ worst xs
-unfolding worst
-worst_low [] = omega arith
-worst_low (a ∷ xs) = omega (arith, fault_low a, worst_low xs)
-
-pub worst_all_low : (xs : List Located) → 7 ≤ worst_all xs
-unfolding worst_all
-worst_all_low [] = omega arith
-worst_all_low (l ∷ xs) = omega (arith, worst_low (acts_of l), worst_all_low xs)
-
-pub no_question : (n : ℕ) → 11 ≤ n → failed_below 11 n ≡ None
-unfolding failed_below
-no_question n h = rw (le-ltb n 11 h)
-
-pub ruleset question_steps = (no_question)

@@ -1,11 +1,11 @@
 -- The tables in lent memory: the types of the names in scope, and the rows of what components need. Each lemma is one return of
 -- a function of scope or rows.
-use Prim.Native.Nat.{ℕ, zero, suc, ◌+◌, ◌-◌, ◌*◌, ◌%◌, ◌≤◌, ◌<◌, min}
-use mathlib.Core.Bool.{Bool, true, false, cond, ◌&&◌, and-false}
+use Prim.Native.Nat.{ℕ, zero, suc, ◌+◌, ◌-◌, ◌*◌, ◌%◌, ◌≤◌, ◌<◌}
+use mathlib.Core.Bool.{Bool, true, false, cond, and-false}
 use mathlib.Core.List.{List, [], ◌∷◌}
 use mathlib.Core.Option.{some, none}
-use Rattle.std.specs.Prelude.{Option, Some, None}
-use mathlib.Core.Path.{◌≡◌, refl, sym, ◌∙◌}
+use Rattle.std.specs.Prelude.{Some, None}
+use mathlib.Core.Path.{◌≡◌, refl, sym}
 use native.Mathlib.Omega.{arith}
 use native.Mathlib.Numerals.{add-one}
 use borrow.Author.Tests.{lt-ltb, le-ltb, ltb-false, eq-eqb, ne_eqb}
@@ -14,9 +14,6 @@ use lib.ListN.{length, take, get_or, set, get_elem?, length-take}
 use lib.Seq.{set_out, get_or-take}
 use Rattle.reading.proofs.Tests.{tests}
 use Rattle.reading.proofs.Tables.{unset, unread}
-use Rattle.reading.specs.Told.{path_of}
-use Rattle.reading.specs.declared.Path.{Path}
-use Rattle.needs.specs.declared.Need.{Need}
 use Rattle.needs.specs.declared.Need.TheVariants as need_case
 use Rattle.inference.specs.Rows.{bumped, charge_at, cell_of, charge_cell, marked, charge_column, group_at, group_count, place_from, found_place, charge}
 

@@ -1,13 +1,13 @@
 -- A whole sheet: the loop that binds the free names' types, and what the walk over the system tells of the sheet that was read.
 use Prim.Native.Nat.{ℕ, zero, suc, ◌+◌, ◌-◌, ◌<◌, ◌≤◌}
 use mathlib.Core.List.{List, [], ◌∷◌, ◌++◌, append_assoc, append-nil}
-use mathlib.Core.Path.{◌≡◌, refl, sym, ap, ◌∙◌}
+use mathlib.Core.Path.{◌≡◌, refl, sym, ◌∙◌}
 use native.Mathlib.Numerals.{sub-one}
 use native.Mathlib.Omega.{arith}
 use borrow.Author.Rules.{rules}
 use lib.Dec.{eqb}
 use lib.ListN.{length, take, set, length-set}
-use Rattle.std.specs.Prelude.{Result, Ok, Err}
+use Rattle.std.specs.Prelude.{None, Result, Ok, Err}
 use Rattle.reading.proofs.Parts.{parts, passed, never, below_found}
 use Rattle.reading.proofs.TotalLaws.{system_total}
 use Rattle.reading.proofs.TreeLaws.{free_count_lem}
@@ -15,17 +15,16 @@ use Rattle.reading.specs.declared.Dialect.TheVariants.{Current as current}
 use Rattle.reading.specs.Read.{Read, got, refused, and_then, below}
 use Rattle.reading.specs.Syntax.{Sheet, components}
 use Rattle.reading.specs.System.{free_types_in, free_types, header_in, header, read_system, to_its_end, read_sheet_in, read_sheet}
-use Rattle.reading.specs.Told.{number, number_of, numbered, failed_below}
+use Rattle.reading.specs.Told.{number, number_of}
 use Rattle.reading.specs.Total.{system_tree}
 use Rattle.reading.specs.Types.{type_at}
 use Rattle.reading.specs.declared.Number.{Number}
 use Rattle.reading.specs.declared.Refusal.{Refusal}
 use Rattle.inference.proofs.WalkLaws.{bound}
-use Rattle.inference.proofs.FaultLaws.{worst_all_low}
-use Rattle.inference.specs.declared.Inference.{Inference}
 use Rattle.inference.specs.Acts.{located}
-use Rattle.inference.specs.Walks.{InferredAt, InferredSheet, WalkedSheet, LoadedTypes, LoadedFree}
-use Rattle.inference.specs.declared.SystemWalk.{SystemWalk}
+use Rattle.inference.specs.Told.{sooner}
+use Rattle.inference.specs.Walks.{WalkedAt, InferredSheet, LoadedTypes, LoadedFree}
+use Rattle.inference.specs.declared.Walker.{Walker}
 
 -- The types bound so far, followed by those that are still to be read, are those that there are in all.
 pub record Loading (count : ℕ) (s : List ℕ) (at : ℕ) (scope : List ℕ) (next names : ℕ) : Type 0 where
@@ -140,30 +139,20 @@ sheet_parts s sheet end e =
     let q : record { free = h.value; system = i.value } ≡ sheet = cc in
     rw (← q) (record { at = h.place; end = i.place; free_types_lem = h.first; body = i.first })
 
-pub sheet_inferred : (s scope scope' table table' path : List ℕ) (r : Number) (w : SystemWalk) → path ≡ [] → LoadedFree s scope r
-    → InferredAt 0 path (system_tree 64 s r.value path 0 r.next) r.value scope scope' table table' w
-    → (sheet : Sheet) (end : ℕ) → read_sheet s ≡ got sheet end → WalkedSheet sheet table table' w
-unfolding located
-sheet_inferred s scope scope' table table' path r w e f h sheet end g =
-    let p = sheet_parts s sheet end g in
+pub sheet_inferred : (w w' : Walker) (path table' : List ℕ) (r : Number) (k : ℕ)
+    → WalkedAt path (system_tree 64 w.sheet.now r.value path w.components r.next) r.value w w' k
+    → path ≡ [] → LoadedFree w.sheet.now w.scope r → w.components ≡ 0 → w.fault ≡ None → table' ≡ w'.table.now
+    → (sheet : Sheet) (end : ℕ) → read_sheet w.sheet.now ≡ got sheet end
+    → InferredSheet sheet w.table.now table' (record { fault = w'.fault; components = w'.components })
+unfolding located sooner
+sheet_inferred w w' path table' r k h e f z n q sheet end g =
+    let p = sheet_parts w.sheet.now sheet end g in
     let l = f.loaded sheet.free p.at p.free_types_lem in
-    let t = system_total 64 s (length sheet.free) [] 0 p.at sheet.system p.end p.body in
+    let t = system_total 64 w.sheet.now (length sheet.free) [] 0 p.at sheet.system p.end p.body in
     record {
-      first = rw (e, l.0, l.1, l.2, t) at h.first;
-      number = let n : w.components ≡ 0 + components sheet.system = rw (e, l.0, l.1, t) at h.number in omega arith;
-      counted = rw (e, l.0, l.1, l.2, t) at h.counted;
+      first = rw (e, z, n, l.0, l.1, l.2, t) at h.first;
+      number = let m : w'.components ≡ 0 + components sheet.system = rw (e, z, l.0, l.1, t) at h.number in omega arith;
+      counted = q ∙ (rw (e, z, l.0, l.1, l.2, t) at h.counted);
     }
 
-pub sheet_asked : (s table table' : List ℕ) (w : SystemWalk) (r : Inference)
-    → ((sheet : Sheet) (end : ℕ) → read_sheet s ≡ got sheet end → WalkedSheet sheet table table' w)
-    → (7 ≤ w.fault → numbered r.fault ≡ failed_below 11 w.fault) → r.components ≡ w.components
-    → (sheet : Sheet) (end : ℕ) → read_sheet s ≡ got sheet end → InferredSheet sheet table table' r
-sheet_asked s table table' w r f q n sheet end g =
-    let h = f sheet end g in
-    record {
-      first = rw h.first at (q (rw h.first (worst_all_low (located sheet))));
-      number = n ∙ h.number;
-      counted = h.counted;
-    }
-
-pub ruleset sheet_steps = (rules, load_first, load_next, load_stop, load_last, no_header, header_loaded, sheet_inferred)
+pub ruleset sheet_steps = (rules, load_first, load_next, load_stop, load_last, no_header, header_loaded)

@@ -9,14 +9,14 @@ use borrow.Author.Rules.{rules}
 use borrow.Author.Tests.{lt-ltb, ltb-true}
 use lib.Dec.{ltb}
 use lib.ListN.{length, take, set}
-use Rattle.std.specs.Prelude.{Result, Ok, Err}
+use Rattle.std.specs.Prelude.{Option as Answer, Result, Ok, Err}
 use Rattle.reading.specs.declared.Dialect.TheVariants.{Current as current}
 use Rattle.reading.proofs.FormLaws.{GroupNew, system_group}
 use Rattle.reading.proofs.TotalLaws.{system_nest, system_names, group_room, component_room, component_number, system_step, system_stop, both_left, both_right}
 use Rattle.reading.specs.Forms.{system_at}
 use Rattle.reading.specs.Read.{got}
-use Rattle.reading.specs.Syntax.{Process, System, nilₛ, parₛ, newₛ, compₛ, components}
-use Rattle.reading.specs.Told.{form, number_of}
+use Rattle.reading.specs.Syntax.{Process, System, nilₛ, compₛ, components}
+use Rattle.reading.specs.Told.{form, number_of, numbered, failed_below}
 use Rattle.reading.specs.Total.{Grown, under, beside, system_grown, process_tree, system_tree}
 use Rattle.reading.specs.declared.Act.{Act as Fields}
 use Rattle.reading.specs.declared.Form.{Form}
@@ -24,21 +24,25 @@ use Rattle.reading.specs.declared.Form.TheVariants.{Nil, Par, Group, New, Compon
 use Rattle.reading.specs.declared.OwnFields.{OwnFields}
 use Rattle.reading.specs.declared.Place.{Place}
 use Rattle.reading.specs.declared.Refusal.{Refusal}
-use Rattle.inference.proofs.WalkLaws.{worst_most, purpose_aside, purpose_uncounted, worst_all_append, charged_all_append, scope_bound, kept_below_lem, min_cong}
+use Rattle.inference.proofs.WalkLaws.{worst_most, purpose_aside, purpose_uncounted, worst_all_append, charged_all_append, scope_bound, kept_below_lem, none_fails, first_then}
 use Rattle.inference.specs.Acts.{component_at, acts, acts_of, locate}
 use Rattle.inference.specs.Rows.{with_path, with_purpose}
-use Rattle.inference.specs.Walks.{worst_all, charged_all, opens, Inferred, InferredAt}
-use Rattle.inference.specs.declared.SystemWalk.{SystemWalk}
-use Rattle.inference.specs.declared.Walk.{Walk}
+use Rattle.inference.specs.Told.{sooner}
+use Rattle.inference.specs.Walks.{worst_all, charged_all, opens, Walked, WalkedAt}
+use Rattle.inference.specs.declared.Walker.{Walker}
 
-pub with_least : (k a b m n : ℕ) → m ≡ min a b
-    → ◌≡◌ {A = SystemWalk} (record { next = k; fault = m; components = n }) (record { next = k; fault = min a b; components = n })
-with_least k a b m n e = rw e
-
-nothing : (t : Grown System) (at preceding : ℕ) (path : List ℕ) (names : ℕ) (scope table : List ℕ) → t ≡ record { tree = nilₛ; next = at }
-    → InferredAt preceding path t names scope scope table table (record { next = at; fault = 11; components = preceding })
+nothing : (t : Grown System) (at : ℕ) (path : List ℕ) (names : ℕ) (w : Walker) → t ≡ record { tree = nilₛ; next = at }
+    → WalkedAt path t names w w at
 unfolding locate worst_all charged_all components
-nothing t at preceding path names scope table e = rw e (record { place = refl; first = refl; number = omega arith; counted = refl; kept = refl })
+nothing t at path names w e = rw e (record {
+  place = refl;
+  first = none_fails (numbered w.fault);
+  counted = refl;
+  kept = refl;
+  number = omega arith;
+  same = refl;
+  lent = refl;
+})
 
 -- The form at a place.
 module _ (n : ℕ) (s : List ℕ) (names : ℕ) (path : List ℕ) (preceding at : ℕ) (r : Result Place Refusal) (e : form r ≡ system_at s at n names path preceding) where
@@ -64,17 +68,16 @@ module _ (n : ℕ) (s : List ℕ) (names : ℕ) (path : List ℕ) (preceding at 
       go (Output a) q = refl
       go Replicate q = refl
 
-  module _ (scope scope' table table' : List ℕ) where
-    pub no_form : (q : Refusal) → r ≡ Err q
-        → InferredAt preceding path (system_tree n s names path preceding at) names scope scope table table (record { next = at; fault = 11; components = preceding })
-    no_form q h = nothing (system_tree n s names path preceding at) at preceding path names scope table
-        (system_stop n s names path preceding at (number_of q.question) q.at (sym (rw h at e)))
+-- The same of a walker's sheet, with the components that it has numbered.
+module _ (w : Walker) (n names : ℕ) (path : List ℕ) (at : ℕ) (r : Result Place Refusal) (e : form r ≡ system_at w.sheet.now at n names path w.components) where
+  pub no_form : (q : Refusal) → r ≡ Err q → WalkedAt path (system_tree n w.sheet.now names path w.components at) names w w at
+  no_form q h = nothing (system_tree n w.sheet.now names path w.components at) at path names w
+      (system_stop n w.sheet.now names path w.components at (number_of q.question) q.at (sym (rw h at e)))
 
-    pub by_form : (p : Place) (w : SystemWalk) → r ≡ Ok p
-        → InferredAt preceding path (system_grown (λ ns l j m. system_tree (n - 1) s ns l j m) (λ m. process_tree (n - 1) s names m) at names path preceding p.form p.next)
-        names scope scope' table table' w
-        → InferredAt preceding path (system_tree n s names path preceding at) names scope scope' table table' w
-    by_form p w h i = rw (system_step n s names path preceding at p.form p.next (found p h)) i
+  pub by_form : (p : Place) (w' : Walker) (k : ℕ) → r ≡ Ok p
+      → WalkedAt path (system_grown (λ ns l j m. system_tree (n - 1) w.sheet.now ns l j m) (λ m. process_tree (n - 1) w.sheet.now names m) at names path w.components p.form p.next)
+      names w w' k → WalkedAt path (system_tree n w.sheet.now names path w.components at) names w w' k
+  by_form p w' k h i = rw (system_step n w.sheet.now names path w.components at p.form p.next (found n w.sheet.now names path w.components at r e p h)) i
 
 -- The arms of the match on a form.
 module _ (names : ℕ) (path : List ℕ) (preceding : ℕ) (f : Form) (h : opens names path preceding f ≡ true) where
@@ -105,110 +108,108 @@ module _ (names : ℕ) (path : List ℕ) (preceding : ℕ) (f : Form) (h : opens
   head_small own e =
       ltb-true own.group 65536 (both_right (ltb (length path) 8 && ltb preceding 32) (ltb own.group 65536) (rw e at h))
 
-module _ (grow : ℕ → List ℕ → ℕ → ℕ → Grown System) (process : ℕ → Grown Process) (at names : ℕ) (path : List ℕ) (preceding : ℕ) (f : Form) (next : ℕ)
-    (scope scope' table table' : List ℕ) where
+module _ (w : Walker) (n at names : ℕ) (path : List ℕ) (f : Form) (next : ℕ) where
+  abbrev s : List ℕ
+  s = w.sheet.now
+
+  abbrev grow : ℕ → List ℕ → ℕ → ℕ → Grown System
+  grow ns p k m = system_tree n s ns p k m
+
   abbrev grown : Grown System
-  grown = system_grown grow process at names path preceding f next
+  grown = system_grown (λ ns p k m. system_tree n s ns p k m) (λ m. process_tree n s names m) at names path w.components f next
 
-  pub form_nil : f ≡ Nil → InferredAt preceding path grown names scope scope table table
-      (record { next = next; fault = 11; components = preceding })
+  abbrev Here : Walker → ℕ → Type 0
+  Here w' k = WalkedAt path grown names w w' k
+
+  pub form_nil : f ≡ Nil → Here w next
   unfolding system_grown
-  form_nil e = nothing grown next preceding path names scope table (rw e)
+  form_nil e = nothing grown next path names w (rw e)
 
-  pub form_input : (a : Fields) → f ≡ Input a → InferredAt preceding path grown names scope scope table table
-      (record { next = at; fault = 11; components = preceding })
+  pub form_input : (a : Fields) → f ≡ Input a → Here w at
   unfolding system_grown
-  form_input a e = nothing grown at preceding path names scope table (rw e)
+  form_input a e = nothing grown at path names w (rw e)
 
-  pub form_output : (a : Fields) → f ≡ Output a → InferredAt preceding path grown names scope scope table table
-      (record { next = at; fault = 11; components = preceding })
+  pub form_output : (a : Fields) → f ≡ Output a → Here w at
   unfolding system_grown
-  form_output a e = nothing grown at preceding path names scope table (rw e)
+  form_output a e = nothing grown at path names w (rw e)
 
-  pub form_repl : f ≡ Replicate → InferredAt preceding path grown names scope scope table table
-      (record { next = at; fault = 11; components = preceding })
+  pub form_repl : f ≡ Replicate → Here w at
   unfolding system_grown
-  form_repl e = nothing grown at preceding path names scope table (rw e)
+  form_repl e = nothing grown at path names w (rw e)
 
-  module _ (w : SystemWalk) where
-    pub form_par : f ≡ Par
-        → InferredAt preceding path (beside parₛ (grow names path preceding next) (λ l m. grow names path (preceding + components l) m)) names scope scope' table table' w → InferredAt preceding path grown names scope scope' table table' w
-    unfolding system_grown
-    form_par e h = rw e h
-
-    pub form_new : (t : ℕ) → f ≡ New t → InferredAt preceding path (under (newₛ t) (grow (names + 1) path preceding next)) names scope scope' table table' w → InferredAt preceding path grown names scope scope' table table' w
-    unfolding system_grown
-    form_new t e h = rw e h
-
-    pub form_head : (own : OwnFields) → f ≡ Head own → InferredAt preceding path (under (compₛ own) (process next)) names scope scope' table table' w → InferredAt preceding path grown names scope scope' table table' w
+  module _ (w' : Walker) (k : ℕ) where
+    pub form_head : (own : OwnFields) → f ≡ Head own → WalkedAt path (under (compₛ own) (process_tree n s names next)) names w w' k → Here w' k
     unfolding system_grown
     form_head own e h = rw e h
 
-    pub form_group : (g : ℕ) (deeper : List ℕ) → f ≡ Group g → opens names path preceding f ≡ true
+    pub form_group : (g : ℕ) (deeper : List ℕ) → f ≡ Group g → opens names path w.components f ≡ true
         → (ltb (length path) 8 ≡ true → g < 65536 → deeper ≡ path ++ (g ∷ []))
-        → InferredAt preceding deeper (grow names deeper preceding next) names scope scope' table table' w → InferredAt preceding path grown names scope scope' table table' w
+        → WalkedAt deeper (grow names deeper w.components next) names w w' k → Here w' k
     unfolding system_grown under locate components
-    form_group g deeper e o d h = let q = d (group_opens names path preceding f o g e) (group_small names path preceding f o g e) in
+    form_group g deeper e o d h = let q = d (group_opens names path w.components f o g e) (group_small names path w.components f o g e) in
         rw e (record {
           place = rw q at h.place;
           first = rw q at h.first;
-          number = rw q at h.number;
           counted = rw q at h.counted;
           kept = h.kept;
+          number = rw q at h.number;
+          same = h.same;
+          lent = h.lent;
         })
 
--- Under one name more.
-module _ (t : Grown System) (names u preceding : ℕ) (path scope scope₁ scope' table table' : List ℕ) (w : SystemWalk) where
-  pub under_new : scope₁ ≡ set scope names u → length scope ≡ 64 → names < 64 → InferredAt preceding path t (names + 1) scope₁ scope' table table' w
-      → InferredAt preceding path (under (newₛ u) t) names scope scope' table table' w
-  unfolding under locate components
-  under_new e l k h =
-      let widened = scope_bound scope scope₁ names u e (omega arith) in
-      record {
-        place = h.place;
-        first = rw widened at h.first;
-        number = h.number;
-        counted = rw widened at h.counted;
-        kept = kept_below_lem scope scope₁ scope' names u e h.kept;
-      }
+    pub form_new : (u : ℕ) → f ≡ New u → length w.scope ≡ 64 → names < 64
+        → WalkedAt path (grow (names + 1) path w.components next) (names + 1) (record w { scope = set w.scope names u }) w' k → Here w' k
+    unfolding system_grown under locate components
+    form_new u e l room h =
+        let widened = scope_bound w.scope (set w.scope names u) names u refl (omega arith) in
+        rw e (record {
+          place = h.place;
+          first = rw widened at h.first;
+          counted = rw widened at h.counted;
+          kept = kept_below_lem w.scope (set w.scope names u) w'.scope names u refl h.kept;
+          number = h.number;
+          same = h.same;
+          lent = h.lent;
+        })
+
+    pub form_par : (v : Walker) (l : ℕ) → f ≡ Par → WalkedAt path (grow names path w.components next) names w v l
+        → WalkedAt path (system_tree n v.sheet.now names path v.components l) names v w' k → Here w' k
+    unfolding system_grown beside under locate components
+    form_par v l e h i = rw (e, ← h.place) (record {
+      place = rw (h.same, h.number) at i.place;
+      first = rw worst_all_append (first_then (numbered w.fault) (numbered v.fault) (numbered w'.fault) _ _ h.first (rw (h.kept, h.same, h.number) at i.first));
+      counted = rw (charged_all_append, ← h.counted) (rw (h.kept, h.same, h.number) at i.counted);
+      kept = i.kept ∙ h.kept;
+      number = let j = rw (h.same, h.number) at i.number in omega arith;
+      same = i.same ∙ h.same;
+      lent = i.lent ∙ h.lent;
+    })
 
 -- A component.
-module _ (t : Grown Process) (names : ℕ) (own : OwnFields) (preceding : ℕ) (path whole scope scope' table table₀ table₁ table' : List ℕ) (w : Walk) where
-  pub component_found : ltb (length path) 8 ≡ true → own.group < 65536 → (ltb (length path) 8 ≡ true → own.group < 65536 → whole ≡ path ++ (own.group ∷ []))
-      → table₀ ≡ with_purpose table preceding own.purpose → table₁ ≡ with_path table₀ preceding whole
-      → Inferred t (acts (record { number = preceding; path = whole; purpose = 0 }) false (map some (take names scope)) t.tree) names scope scope' table₁ table' w
-      → InferredAt preceding path (under (compₛ own) t) names scope scope' table table' (record { next = w.next; fault = w.fault; components = preceding + 1 })
-  unfolding under locate component_at components worst_all charged_all acts_of
-  component_found o small d p q h = record {
-    place = h.place;
-    first = once (rw (d o small) at h.first ∙ purpose_aside preceding _ 0 own.purpose false (map some (take names scope)) t.tree) (worst_most _);
-    number = refl;
-    counted = rw (q, p, d o small) at h.counted ∙ purpose_uncounted preceding _ 0 own.purpose _ false (map some (take names scope)) t.tree;
-    kept = h.kept;
-  }
-    where
-      once : {a b : ℕ} → a ≡ b → b ≤ 11 → a ≡ min b 11
-      once i j = omega arith
+once : (f g : Answer ℕ) (a b : ℕ) → g ≡ sooner f (failed_below 11 a) → a ≡ b → b ≤ 11 → g ≡ sooner f (failed_below 11 (min b 11))
+once f g a b i j m = let e : min b 11 ≡ a = omega arith in rw e i
 
--- One system after another.
-module _ (n : ℕ) (s : List ℕ) (names : ℕ) (path : List ℕ) (preceding at : ℕ) (scope scope₁ scope' table table₁ table' : List ℕ) (l r w : SystemWalk) where
-  pub after_left : InferredAt preceding path (system_tree n s names path preceding at) names scope scope₁ table table₁ l
-      → InferredAt l.components path (system_tree n s names path l.components l.next) names scope₁ scope' table₁ table' r
-      → w ≡ record { next = r.next; fault = min l.fault r.fault; components = r.components }
-      → InferredAt preceding path (beside parₛ (system_tree n s names path preceding at) (λ p m. system_tree n s names path (preceding + components p) m))
-      names scope scope' table table' w
-  unfolding beside under locate components
-  after_left h i e = rw (e, ← h.place, ← h.number) (record {
-    place = i.place;
-    first = rw (worst_all_append) (min_cong h.first (rw h.kept at i.first));
-    number = omega (arith, h.number, i.number);
-    counted = rw (charged_all_append, ← h.counted) (rw h.kept at i.counted);
-    kept = i.kept ∙ h.kept;
-  })
+module _ (w v w' : Walker) (t : Grown Process) (names : ℕ) (own : OwnFields) (path whole table₀ : List ℕ) (k : ℕ) where
+  pub component_found : Walked t (acts (record { number = w.components; path = whole; purpose = 0 }) false (map some (take names v.scope)) t.tree) names v w' k
+      → ltb (length path) 8 ≡ true → own.group < 65536 → (ltb (length path) 8 ≡ true → own.group < 65536 → whole ≡ path ++ (own.group ∷ []))
+      → table₀ ≡ with_purpose w.table.now w.components own.purpose → v.table.now ≡ with_path table₀ w.components whole
+      → numbered v.fault ≡ numbered w.fault → v.scope ≡ w.scope → v.components ≡ w.components + 1 → v.sheet ≡ w.sheet
+      → v.table.ghost_name ≡ w.table.ghost_name
+      → WalkedAt path (under (compₛ own) t) names w w' k
+  unfolding under locate component_at components worst_all charged_all acts_of
+  component_found h o small d p q f kept number same lent = record {
+    place = h.place;
+    first = once (numbered w.fault) (numbered w'.fault) _ _ (rw (f, kept, d o small) at h.first)
+        (purpose_aside w.components _ 0 own.purpose false (map some (take names w.scope)) t.tree) (worst_most _);
+    counted = rw (q, p, kept, d o small) at h.counted ∙ purpose_uncounted w.components _ 0 own.purpose _ false (map some (take names w.scope)) t.tree;
+    kept = rw kept at h.kept;
+    number = h.number ∙ number;
+    same = h.same ∙ same;
+    lent = h.lent ∙ lent;
+  }
 
 pub ruleset system_steps = (
   rules,
-  with_least,
   nest_left,
   room_to_open,
   no_form,
@@ -227,7 +228,5 @@ pub ruleset system_steps = (
   form_new,
   form_head,
   form_group,
-  under_new,
   component_found,
-  after_left,
 )

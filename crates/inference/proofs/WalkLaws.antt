@@ -2,13 +2,18 @@
 -- another, and a name that is bound.
 use Prim.Native.Nat.{ℕ, zero, suc, ◌+◌, ◌<◌, ◌≤◌, min}
 use mathlib.Core.List.{List, [], ◌∷◌, ◌++◌, map}
-use mathlib.Core.Option.{Option, some, none}
+use mathlib.Core.Option.{Option, some}
 use mathlib.Core.Path.{◌≡◌, refl, sym, ap, ◌∙◌}
 use native.Mathlib.Numerals.{add-one}
 use native.Mathlib.Omega.{arith}
 use lib.ListN.{length, take, set, get_elem?}
 use lib.Seq.{take-suc-set, take-set-le, take-take}
-use mathlib.Core.Bool.{Bool, true}
+use mathlib.Core.Bool.{Bool, true, false, cond}
+use borrow.Author.Tests.{lt-ltb, le-ltb, ltb-true, ltb-false}
+use lib.Dec.{ltb}
+use Rattle.std.specs.Prelude.{Option as Answer, Some, None}
+use Rattle.reading.specs.Told.{failed_below}
+use Rattle.inference.specs.Told.{sooner}
 use Rattle.reading.specs.Syntax.{Process, nil, par, new, input, output, repl}
 use Rattle.inference.specs.Acts.{Act, Component, Located, type_of, acts, acts_of}
 use Rattle.inference.specs.Needs.{need_of}
@@ -83,6 +88,43 @@ unfolding charged_all
 charged_all_append t [] ys = refl
 charged_all_append t (l ∷ xs) ys =
     charged_all_append (charged (with_component t l.component) (acts_of l)) xs ys
+
+-- Of questions that fail: which fails first.
+pub sooner_none : (f : Answer ℕ) → sooner f None ≡ f
+unfolding sooner
+sooner_none None = refl
+sooner_none (Some n) = refl
+
+pub none_fails : (f : Answer ℕ) → f ≡ sooner f (failed_below 11 11)
+unfolding failed_below
+none_fails f = sym (sooner_none f)
+
+pub sooner_assoc : (f g h : Answer ℕ) → sooner (sooner f g) h ≡ sooner f (sooner g h)
+unfolding sooner
+sooner_assoc None g h = refl
+sooner_assoc (Some a) None h = refl
+sooner_assoc (Some a) (Some b) None = refl
+sooner_assoc (Some a) (Some b) (Some c) = rw (min_assoc a b c)
+
+-- the lesser of two faults fails the sooner
+fails_sooner : (a b : ℕ) (s t : Bool) → ltb a 11 ≡ s → ltb b 11 ≡ t
+    → cond (ltb (min a b) 11) (Some (min a b)) None ≡ sooner (cond s (Some a) None) (cond t (Some b) None)
+unfolding sooner
+fails_sooner a b true true e f = rw (lt-ltb (min a b) 11 (omega (arith, ltb-true a 11 e)))
+fails_sooner a b true false e f =
+    let h : min a b ≡ a = omega (arith, ltb-true a 11 e, ltb-false b 11 f) in rw (h, e)
+fails_sooner a b false true e f =
+    let h : min a b ≡ b = omega (arith, ltb-false a 11 e, ltb-true b 11 f) in rw (h, f)
+fails_sooner a b false false e f = rw (le-ltb (min a b) 11 (omega (arith, ltb-false a 11 e, ltb-false b 11 f)))
+
+pub failed_min : (a b : ℕ) → failed_below 11 (min a b) ≡ sooner (failed_below 11 a) (failed_below 11 b)
+unfolding failed_below
+failed_min a b = fails_sooner a b (ltb a 11) (ltb b 11) refl refl
+
+-- What fails first of one and then another.
+pub first_then : (f g h : Answer ℕ) (a b : ℕ) → g ≡ sooner f (failed_below 11 a) → h ≡ sooner g (failed_below 11 b)
+    → h ≡ sooner f (failed_below 11 (min a b))
+first_then f g h a b p q = rw (failed_min a b, ← sooner_assoc, ← p) q
 
 -- The scope after a name was bound, and what is kept of it.
 pub bound : (l : List ℕ) (n t : ℕ) → n < length l → take (n + 1) (set l n t) ≡ take n l ++ (t ∷ [])

@@ -1,9 +1,13 @@
--- Which value of the definitions each case of an answer of the code is.
-use Rattle.std.specs.Prelude.{ℕ}
+-- Which value of the definitions an answer of the code is, and of two questions that fail the sooner.
+use Rattle.std.specs.Prelude.{ℕ, min, Option as Answer, Some, None}
 use Rattle.std.proofs.Math.Option.{Option, some, none}
-use Rattle.inference.specs.declared.Known.{Known}
-use Rattle.inference.specs.declared.Known.TheVariants as known_case
 
-abbrev pub known : Known → Option ℕ
-known (known_case.Type t) = some t
-known known_case.Nothing = none
+abbrev pub known : Answer ℕ → Option ℕ
+known (Some t) = some t
+known None = none
+
+-- Of two questions that fail, if any does, the one with the lower number.
+unfoldable pub sooner : Answer ℕ → Answer ℕ → Answer ℕ
+sooner None other = other
+sooner (Some one) None = Some one
+sooner (Some one) (Some other) = Some (min one other)

@@ -1,5 +1,5 @@
 -- Questions 7 to 10, each a test of one act: the typing rules of the calculus.
-use Rattle.std.specs.Prelude.{ℕ, List, Bool, true, false, ◌&&◌, eqb}
+use Rattle.std.specs.Prelude.{ℕ, Bool, true, false, ◌&&◌, eqb}
 use Rattle.std.proofs.Math.Option.{Option, some, none}
 use Rattle.reading.specs.Types.{shape}
 use Rattle.reading.specs.Forms.{member}

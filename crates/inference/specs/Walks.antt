@@ -1,5 +1,5 @@
 -- What the walk over a sheet finds and writes, in terms of the acts of the tree that it walks.
-use Rattle.std.specs.Prelude.{ℕ, ◌+◌, ◌≤◌, min, ◌≡◌, List, [], ◌∷◌, map, Bool, true, false, cond, ◌&&◌, ltb, length, take}
+use Rattle.std.specs.Prelude.{ℕ, ◌+◌, ◌≤◌, min, ◌≡◌, List, [], ◌∷◌, map, Bool, true, cond, ◌&&◌, ltb, length, take, Some}
 use Rattle.std.proofs.Math.Option.{Option, some}
 use Rattle.reading.specs.Read.{got}
 use Rattle.reading.specs.Syntax.{Process, System, Sheet, components}
@@ -8,14 +8,15 @@ use Rattle.reading.specs.declared.Form.{Form}
 use Rattle.reading.specs.declared.Form.TheVariants.{Nil, Par, Group, New, Component as Head, Input, Output, Replicate}
 use Rattle.reading.specs.declared.Number.{Number}
 use Rattle.reading.specs.Forms.{member}
-use Rattle.reading.specs.Told.{numbered, failed_below}
+use Rattle.reading.specs.Told.{numbered, failed_below, path_of}
 use Rattle.reading.specs.Total.{Grown}
-use Rattle.inference.specs.declared.Walk.{Walk}
-use Rattle.inference.specs.declared.SystemWalk.{SystemWalk}
+use Rattle.inference.specs.declared.Context.{Context}
+use Rattle.inference.specs.declared.Walker.{Walker}
 use Rattle.inference.specs.declared.Inference.{Inference}
 use Rattle.inference.specs.Acts.{Act, Located, acts_of, locate, located}
 use Rattle.inference.specs.Typing.{is_known, of_channel, is_type}
-use Rattle.inference.specs.Needs.{need_of}
+use Rattle.inference.specs.Needs.{need_of, need_on}
+use Rattle.inference.specs.Told.{sooner}
 use Rattle.inference.specs.Rows.{charge, with_component}
 
 -- The first of questions 7 to 10 that an act fails, or 11: the tests of Typing.antt, one after another.
@@ -50,27 +51,49 @@ unfoldable pub worst_all : List Located → ℕ
 worst_all [] = 11
 worst_all (l ∷ rest) = min (worst (acts_of l)) (worst_all rest)
 
--- A walk over a process: `walked` are its acts. What is found and counted does not depend on the purpose (`purpose_aside` of
--- proofs/WalkLaws.antt), so the context has none, and 0 stands where the walk is told.
-pub record Inferred (t : Grown Process) (walked : List Act) (names : ℕ) (scope scope' table table' : List ℕ) (r : Walk) : Type 0 where
-  pub place : r.next ≡ t.next
-  pub first : r.fault ≡ worst walked
-  pub counted : table' ≡ charged table walked
-  pub kept : take names scope' ≡ take names scope
+-- A question with this number was noted.
+pub record Noted (question : ℕ) (w w' : Walker) : Type 0 where
+  pub first : numbered w'.fault ≡ sooner (numbered w.fault) (Some question)
+  pub counted : w'.table.now ≡ w.table.now
+  pub kept : w'.scope ≡ w.scope
+  pub number : w'.components ≡ w.components
+  pub same : w'.sheet ≡ w.sheet
+  pub lent : w'.table.ghost_name ≡ w.table.ghost_name
 
--- A walk over a system: `ls` are its components, `before` the number of those before it.
-pub record InferredSystem (t : Grown System) (ls : List Located) (before names : ℕ) (scope scope' table table' : List ℕ)
-    (r : SystemWalk) : Type 0 where
-  pub place : r.next ≡ t.next
-  pub first : r.fault ≡ worst_all ls
-  pub number : r.components ≡ before + components t.tree
-  pub counted : table' ≡ charged_all table ls
-  pub kept : take names scope' ≡ take names scope
+-- An act was typed, and what it needs was counted.
+pub record Acted (sends : Bool) (channel object : Option ℕ) (context : Context) (w w' : Walker) : Type 0 where
+  pub first : numbered w'.fault ≡ sooner (numbered w.fault) (failed_below 11 (fault channel object (path_of context.path)))
+  pub counted : w'.table.now ≡ charge w.table.now context.component (need_on sends channel) context.repeated
+  pub kept : w'.scope ≡ w.scope
+  pub number : w'.components ≡ w.components
+  pub same : w'.sheet ≡ w.sheet
+  pub lent : w'.table.ghost_name ≡ w.table.ghost_name
 
--- The same, for the components of a tree with a path and a number of components before it.
-abbrev pub InferredAt : ℕ → List ℕ → Grown System → ℕ → List ℕ → List ℕ → List ℕ → List ℕ → SystemWalk → Type 0
-InferredAt before path t names scope scope' table table' r =
-    InferredSystem t (locate before path (map some (take names scope)) t.tree) before names scope scope' table table' r
+-- A walk over a process: `walked` are its acts, `next` is the place after it. What is found and counted does not depend on the purpose
+-- (`purpose_aside` of proofs/WalkLaws.antt), so the context has none, and 0 stands where the walk is told.
+pub record Walked (t : Grown Process) (walked : List Act) (names : ℕ) (w w' : Walker) (next : ℕ) : Type 0 where
+  pub place : next ≡ t.next
+  pub first : numbered w'.fault ≡ sooner (numbered w.fault) (failed_below 11 (worst walked))
+  pub counted : w'.table.now ≡ charged w.table.now walked
+  pub kept : take names w'.scope ≡ take names w.scope
+  pub number : w'.components ≡ w.components
+  pub same : w'.sheet ≡ w.sheet
+  pub lent : w'.table.ghost_name ≡ w.table.ghost_name
+
+-- A walk over a system: `ls` are its components.
+pub record WalkedSystem (t : Grown System) (ls : List Located) (names : ℕ) (w w' : Walker) (next : ℕ) : Type 0 where
+  pub place : next ≡ t.next
+  pub first : numbered w'.fault ≡ sooner (numbered w.fault) (failed_below 11 (worst_all ls))
+  pub counted : w'.table.now ≡ charged_all w.table.now ls
+  pub kept : take names w'.scope ≡ take names w.scope
+  pub number : w'.components ≡ w.components + components t.tree
+  pub same : w'.sheet ≡ w.sheet
+  pub lent : w'.table.ghost_name ≡ w.table.ghost_name
+
+-- The same, for the components of a tree under a path.
+abbrev pub WalkedAt : List ℕ → Grown System → ℕ → Walker → Walker → ℕ → Type 0
+WalkedAt path t names w w' next =
+    WalkedSystem t (locate w.components path (map some (take names w.scope)) t.tree) names w w' next
 
 -- Where a form of a system binds a name, opens a group or is a component, there is room for it.
 unfoldable pub opens : ℕ → List ℕ → ℕ → Form → Bool
@@ -86,12 +109,6 @@ opens names path preceding Replicate = true
 -- What a whole sheet's walk finds and writes.
 pub record InferredSheet (sheet : Sheet) (table table' : List ℕ) (r : Inference) : Type 0 where
   pub first : numbered r.fault ≡ failed_below 11 (worst_all (located sheet))
-  pub number : r.components ≡ components sheet.system
-  pub counted : table' ≡ charged_all table (located sheet)
-
--- The same, with the question by its number, and 11 for none.
-pub record WalkedSheet (sheet : Sheet) (table table' : List ℕ) (r : SystemWalk) : Type 0 where
-  pub first : r.fault ≡ worst_all (located sheet)
   pub number : r.components ≡ components sheet.system
   pub counted : table' ≡ charged_all table (located sheet)
 

@@ -1,53 +1,102 @@
 // What an act needs where its channel's name may be out of scope, and the first of questions 7 to 10 that an act fails.
-ghost use Rattle.std.specs.Prelude.{◌≡◌};
-ghost use Rattle.reading.specs.Told.{path_of};
+ghost use Rattle.std.specs.Prelude.{◌≡◌, take};
+ghost use Rattle.std.proofs.Math.ListN.{get_elem?};
+ghost use Rattle.reading.specs.Told.{path_of, number_of, numbered, failed_below};
 ghost use Rattle.inference.specs.Needs.{need_on};
-ghost use Rattle.inference.specs.Walks.{fault};
+ghost use Rattle.inference.specs.Walks.{Acted, Noted, fault};
 ghost use Rattle.inference.specs.Told.{known};
 
-use crate::Known;
+use crate::rows::charge_need;
+use crate::{Context, Walker};
 use needs::{Need, need_of};
 use reading::types::shape_of;
-use reading::{Path, Shape};
+use reading::{Path, Question, Shape};
 
 // What a send or a receive needs where the channel's name may be out of scope.
 #[tactic(auto, using(crate::proofs::NeedSteps::need_steps))]
-pub fn need_on(sends: bool, channel: Known) -> Need
+fn need_on(sends: bool, channel: Option<usize>) -> Need
     ensures { result ≡ need_on sends (known channel) }
 {
     match channel {
-        Known::Type(t) => need_of(sends, t),
-        Known::Nothing => Need::Nothing,
+        Some(t) => need_of(sends, t),
+        None => Need::Nothing,
     }
 }
 
 // Questions 8 to 10 of an act whose names are in scope.
 #[tactic(auto, using(crate::proofs::NeedSteps::need_steps))]
-fn typed_fault(channel: usize, object: usize, path: Path) -> usize
-    ensures { result ≡ fault (known (Known.Type channel)) (known (Known.Type object)) (path_of path) }
+fn typed_fault(channel: usize, object: usize, path: Path) -> Option<Question>
+    ensures { numbered result ≡ failed_below 11 (fault (known (Some channel)) (known (Some object)) (path_of path)) }
 {
     match shape_of(channel) {
-        Shape::Plain(_) => 8,
+        Shape::Plain(_) => Some(Question::Channel),
         Shape::Channel { group, carried } => {
-            if carried == object {
-                if path.has(group) { 11 } else { 10 }
+            if carried != object {
+                Some(Question::Carried)
+            } else if !path.has(group) {
+                Some(Question::Located)
             } else {
-                9
+                None
             }
         }
     }
 }
 
-// The first of questions 7 to 10 that an act fails, or 11.
+// The first of questions 7 to 10 that an act fails.
 #[tactic(auto, using(crate::proofs::NeedSteps::need_steps))]
-pub fn fault_of(channel: Known, object: Known, path: Path) -> usize
-    ensures { result ≡ fault (known channel) (known object) (path_of path) }
+fn fault_of(channel: Option<usize>, object: Option<usize>, path: Path) -> Option<Question>
+    ensures { numbered result ≡ failed_below 11 (fault (known channel) (known object) (path_of path)) }
 {
-    let Known::Type(c) = channel else {
-        return 7;
+    let Some(channel) = channel else {
+        return Some(Question::Scope);
     };
-    let Known::Type(o) = object else {
-        return 7;
+    let Some(object) = object else {
+        return Some(Question::Scope);
     };
-    typed_fault(c, o, path)
+    typed_fault(channel, object, path)
+}
+
+impl Walker<'_> {
+    /// The type of a name, if the name is in scope.
+    #[tactic(auto, using(crate::proofs::RowSteps::row_steps))]
+    pub fn type_of(&self, names: usize, name: usize) -> Option<usize>
+        ensures { known result ≡ get_elem? (take names self.now.scope) name }
+    {
+        if name < names && name < self.scope.len() {
+            Some(self.scope[name])
+        } else {
+            None
+        }
+    }
+
+    // Notes a question that fails: the first is kept.
+    fn fail(&mut self, question: Question)
+        ensures { Noted (number_of question) self.old self.new }
+    {
+        match self.fault {
+            Some(first) => {
+                if question.number() < first.number() {
+                    self.fault = Some(question);
+                }
+            }
+            None => self.fault = Some(question),
+        }
+    }
+
+    /// Types an act and counts what it needs.
+    pub fn act(
+        &mut self,
+        sends: bool,
+        channel: Option<usize>,
+        object: Option<usize>,
+        context: Context,
+    )
+        ensures { Acted sends (known channel) (known object) context self.old self.new }
+    {
+        let need = need_on(sends, channel);
+        charge_need(self.table, context.component, need, context.repeated);
+        if let Some(question) = fault_of(channel, object, context.path) {
+            self.fail(question);
+        }
+    }
 }

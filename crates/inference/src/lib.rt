@@ -3,50 +3,40 @@
 // purpose and of the counts of what it needs.
 #![tactic(auto)]
 
+ghost use Rattle.std.specs.Prelude.{◌<◌};
+
 pub mod acts;
 pub mod rows;
-pub mod scope;
 pub mod sheet;
 pub mod systems;
 pub mod table;
 pub mod walks;
 
-pub use reading::Spot;
 use reading::{Path, Question};
-
-// The type of a name, if the name is in scope.
-#[derive(Clone, Copy)]
-pub enum Known {
-    Type(usize),
-    Nothing,
-}
-
-// Whose process a walk goes over: the component's number and path, and whether it stands under a repeat.
-#[derive(Clone, Copy)]
-pub struct Context {
-    pub component: usize,
-    pub path: Path,
-    pub repeated: bool,
-}
-
-// What a walk over a process found: the place after it, and the first of questions 7 to 10 that fails, or 11.
-#[derive(Clone, Copy)]
-pub struct Walk {
-    pub next: usize,
-    pub fault: usize,
-}
-
-// The same of a system, with the number of components so far.
-#[derive(Clone, Copy)]
-pub struct SystemWalk {
-    pub next: usize,
-    pub fault: usize,
-    pub components: usize,
-}
 
 /// What was found of a sheet: the first of questions 7 to 10 that fails, and the number of components.
 #[derive(Clone, Copy, Debug, PartialEq, Eq)]
 pub struct Inference {
     pub fault: Option<Question>,
     pub components: usize,
+}
+
+/// Whose process a walk goes over: the component's number and path, and whether it stands under a repeat.
+#[derive(Clone, Copy)]
+pub struct Context {
+    pub component: usize,
+    pub path: Path,
+    pub repeated: bool,
+    pub ghost in_table: { component < 32 },
+}
+
+/// A walk over a sheet that passes questions 1 to 6: the sheet, the table that it fills, the types of the names in scope, by level (those
+/// past the number of names count for nothing), the number of components so far, and the first question that fails.
+#[derive(Drop)]
+pub struct Walker<'a> {
+    pub sheet: &'a [u8],
+    pub table: &'a mut [u16],
+    pub scope: [usize; 64],
+    pub components: usize,
+    pub fault: Option<Question>,
 }

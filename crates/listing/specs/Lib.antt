@@ -1,2 +1,3 @@
 -- What the composer's contracts cite: the text of an entry.
 pub mod Text
+pub mod Put

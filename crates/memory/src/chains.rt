@@ -1,5 +1,6 @@
 // The run names of the binders that a thread has passed, as chains of cells. A cell holds the cell of the binder before and a
 // name, as one number of 32 binary digits. Cells are written once, so that threads share what they have in common.
+// Kept as numbers: the definitions `bound` and `chain`, of which the laws of ChainLaws.antt speak, read a cell by its digits.
 ghost use Rattle.std.specs.Prelude.{◌≡◌, get_or};
 ghost use Rattle.memory.specs.Chains.{bound, parent_of, name_of, chain};
 
@@ -30,6 +31,7 @@ fn parent_of(cells: &[u32], cell: usize) -> usize
 }
 
 /// The run name at a level, of `names` names of which the innermost stands in cell `env`; 65,535 where there is none.
+// Kept with a number for none: the definition `run_name` of the crate running, of which its theorems speak, gives it.
 #[tactic(auto, unfolding(crate::specs::Chains::name_of), using(crate::proofs::ChainSteps::search_steps))]
 pub fn name_at(cells: &[u32], names: usize, env: usize, level: usize) -> usize
     ensures { result ≡ get_or (chain cells.now names env) level 65535 }

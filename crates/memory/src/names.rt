@@ -3,11 +3,22 @@ ghost use Rattle.std.specs.Prelude.{◌≡◌, true, false, ◌<◌, get_or, tak
 
 use crate::put;
 
+// What a table holds of a name, or `none` past the names given.
+fn given<T: Copy>(table: &[T], names: usize, name: usize, none: T) -> T
+    ensures { result ≡ get_or (take names table.now) name none }
+{
+    if name < names {
+        table.get(name).copied().unwrap_or(none)
+    } else {
+        none
+    }
+}
+
 /// Is a name known to the environment?
 pub fn is_known(known: &[bool], names: usize, name: usize) -> bool
     ensures { result ≡ get_or (take names known.now) name false }
 {
-    name < names && known.get(name).copied().unwrap_or(false)
+    given(known, names, name, false)
 }
 
 /// A name becomes known to the environment.
@@ -21,11 +32,7 @@ pub fn know(known: &mut [bool], name: usize)
 pub fn type_of(types: &[u32], names: usize, name: usize) -> usize
     ensures { result ≡ get_or (take names types.now) name 0 }
 {
-    if name < names {
-        types.get(name).copied().unwrap_or(0) as usize
-    } else {
-        0
-    }
+    given(types, names, name, 0) as usize
 }
 
 /// Stores a number in a table, where there is such a place.

@@ -1,4 +1,6 @@
 // Threads as numbers, each field in digits of its own, and a list of threads of which a part is replaced.
+// Kept as numbers: the definitions `packed` and `unpacked` and the law `unpack_pack` speak of the digits, and what a run holds
+// (`Holds` of the crate products) is told by them.
 ghost use Rattle.std.specs.Prelude.{◌≡◌, ◌+◌, ◌-◌, ◌<◌, ◌≤◌, length, take, drop};
 ghost use Rattle.memory.specs.Threads.{packed, unpacked, replaced};
 
@@ -47,6 +49,16 @@ pub fn unpack(w: usize) -> Thread
     Thread::unpack(w)
 }
 
+/// Of a list of `len` threads, puts others in place of those from `at` up to `from`.
+#[tactic(auto, using(crate::proofs::SpliceSteps::splice_steps))]
+pub fn replace(threads: &mut [usize], len: usize, at: usize, from: usize, others: &[usize])
+    requires { (at ≤ from) × (from ≤ len) × (len ≤ 128) × (at + length others.now + (len - from) ≤ 128) × (length threads.old ≡ 128) }
+    ensures { take (at + length others.now + (len - from)) threads.new ≡ replaced (take len threads.old) at from others.now }
+{
+    threads.copy_within(from..len, at + others.len());
+    threads[at..at + others.len()].copy_from_slice(others);
+}
+
 /// Of a list of `len` threads, replaces those from `at` up to `from` by `count` of those made, from `first` on.
 #[tactic(auto, using(crate::proofs::SpliceSteps::splice_steps))]
 pub fn splice(
@@ -63,6 +75,5 @@ pub fn splice(
     ensures { take (at + count + (len - from)) threads.new
         ≡ replaced (take len threads.old) at from (take count (drop first made.now)) }
 {
-    threads.copy_within(from..len, at + count);
-    threads[at..at + count].copy_from_slice(&made[first..first + count]);
+    replace(threads, len, at, from, &made[first..first + count]);
 }

@@ -1,35 +1,18 @@
 -- What each return and each turn of a loop over letters has to show, over plain values: the letters passed so far and those left are
 -- the name.
-use Prim.Native.Nat.{ℕ, suc, ◌+◌, ◌-◌, ◌<◌, ◌≤◌}
+use Prim.Native.Nat.{ℕ, zero, suc, ◌+◌, ◌-◌, ◌<◌, ◌≤◌}
 use mathlib.Core.Path.{◌≡◌, refl, sym, ap, ap₂, ◌∙◌}
 use mathlib.Core.List.{List, [], ◌∷◌}
 use mathlib.Core.Bool.{Bool, true, false, cond, not}
 use native.Mathlib.Omega.{arith}
-use lib.Dec.{leb}
-use lib.ListN.{length, get_or}
+use lib.Dec.{ltb}
+use lib.ListN.{length, get_or, take, drop, length-take, length-drop, get_or-eq_default}
+use lib.Seq.{drop-cons}
+use native.Mathlib.Numerals.{add-one}
+use Rattle.std.specs.List.{slice_range}
 use borrow.Author.Rules.{rules}
-use borrow.Author.Tests.{le-leb, lt-leb, eq-eqb, ne_eqb, not-true, not-false}
-use Rattle.interface.specs.Writes.{store_bytes, Stored}
-use Rattle.interface.proofs.WriteLaws.{store_length}
+use borrow.Author.Tests.{ltb-true, ltb-false, eq-eqb, ne_eqb, not-true, not-false}
 use Rattle.naming.specs.Names.{is_letter, letters_at, same}
-
--- Which bytes are letters.
-module _ (b : ℕ) where
-  pub below_letters : b < 65 → false ≡ is_letter b
-  unfolding is_letter
-  below_letters h = rw (lt-leb 65 b h, lt-leb 97 b (omega arith)) refl
-
-  pub upper_letters : 65 ≤ b → b ≤ 90 → true ≡ is_letter b
-  unfolding is_letter
-  upper_letters h k = rw (le-leb 65 b h, le-leb b 90 k) refl
-
-  pub between_letters : 65 ≤ b → 90 < b → b < 97 → false ≡ is_letter b
-  unfolding is_letter
-  between_letters h k l = rw (le-leb 65 b h, lt-leb b 90 k, lt-leb 97 b l) refl
-
-  pub lower_letters : 65 ≤ b → 90 < b → 97 ≤ b → leb b 122 ≡ is_letter b
-  unfolding is_letter
-  lower_letters h k l = rw (le-leb 65 b h, lt-leb b 90 k, le-leb 97 b l) refl
 
 -- What is left of a name after i of its letters.
 abbrev pub letters_left : List ℕ → ℕ → ℕ → List ℕ
@@ -119,57 +102,46 @@ pub all_agree_lem : (s : List ℕ) (a b i : ℕ) → Compared s a b i → 20 ≤
 unfolding same
 all_agree_lem s a b i so h = sym (so.so_far ∙ ap₂ same (left_none s a i h) (left_none s b i h))
 
--- Writing: storing the letters left makes of the output now what storing all makes of it at first.
-pub record Spelled (s : List ℕ) (place : ℕ) (first : List ℕ) (start : ℕ) (out : List ℕ) (next i : ℕ) : Type 0 where
-  pub within : i ≤ 20
-  pub near : next ≤ start + i
-  pub kept : length out ≡ length first
-  pub whole : store_bytes out next (letters_left s place i) ≡ store_bytes first start (letters_at 20 s place)
-  pub place_after_lem : next + length (letters_left s place i) ≡ start + length (letters_at 20 s place)
+-- The letters from a place on are a part of the text: past its end there is no letter.
+no_letter : is_letter 0 ≡ false
+unfolding is_letter
+no_letter = refl
 
-pub spell_start : (s : List ℕ) (place : ℕ) (out : List ℕ) (at : ℕ) → Spelled s place out at out at 0
-spell_start s place out at = record {
-  within = omega arith;
-  near = omega arith;
-  kept = refl;
-  whole = ap (store_bytes out at) (left_all s place);
-  place_after_lem = ap (λ (l : List ℕ). at + length l) (left_all s place);
-}
+letter_within : (s : List ℕ) (at : ℕ) → is_letter (get_or s at 0) ≡ true → at < length s
+letter_within s at e = go (ltb at (length s)) refl
+  where
+    go : (b : Bool) → ltb at (length s) ≡ b → at < length s
+    go true f = ltb-true at (length s) f
+    go false f = let z : is_letter 0 ≡ true = rw (get_or-eq_default s 0 {n = at} (ltb-false at (length s) f)) at e in let q : ◌≡◌ {A = Bool} true false = sym z ∙ no_letter in cc
 
-module _ (s : List ℕ) (place : ℕ) (first : List ℕ) (start : ℕ) (out : List ℕ) (next i : ℕ) (so : Spelled s place first start out next i) where
-  pub spell_more : (x : ℕ) (b : Bool) → i < 20 → x ≡ get_or s (place + i) 0 → b ≡ is_letter x → not b ≡ false → (out' : List ℕ) (r : ℕ)
-      → Stored out out' next (x ∷ []) r → Spelled s place first start out' r (i + 1)
-  unfolding store_bytes
-  spell_more x b h e f g out' r st =
-      let l = left_letter s place i x b e f h (not-false b g) in
-      record {
-        within = omega arith;
-        near = omega (arith, so.near, st.next);
-        kept = ap length st.left ∙ store_length (x ∷ []) out next ∙ so.kept;
-        whole = rw (st.left, st.next) (sym (ap (store_bytes out next) l) ∙ so.whole);
-        place_after_lem = omega (arith, so.place_after_lem, st.next, ap length l);
-      }
+word_part : (n : ℕ) (s : List ℕ) (at : ℕ) → letters_at n s at ≡ take (length (letters_at n s at)) (drop at s)
+unfolding letters_at
+word_part zero s at = refl
+word_part (suc n) s at = go (is_letter (get_or s at 0)) refl (word_part n s (at + 1))
+  where
+    go : (b : Bool) → is_letter (get_or s at 0) ≡ b → letters_at n s (at + 1) ≡ take (length (letters_at n s (at + 1))) (drop (at + 1) s)
+        → cond b (get_or s at 0 ∷ letters_at n s (at + 1)) [] ≡ take (length (cond b (get_or s at 0 ∷ letters_at n s (at + 1)) [])) (drop at s)
+    go false e rest = refl
+    go true e rest =
+        let one : drop at s ≡ get_or s at 0 ∷ drop (at + 1) s = rw (drop-cons s at 0 (letter_within s at e), ← add-one) in
+        ap (λ (l : List ℕ). get_or s at 0 ∷ l) rest ∙ ap (take (suc (length (letters_at n s (at + 1))))) (sym one)
 
-  left_over_lem : letters_left s place i ≡ [] → Stored first out start (letters_at 20 s place) next
-  unfolding store_bytes
-  left_over_lem l = record {
-    next = omega (arith, so.place_after_lem, ap length l);
-    left = sym (ap (store_bytes out next) l) ∙ so.whole;
-  }
+module _ (s : List ℕ) (at len : ℕ) (is : len ≡ length (letters_at 20 s at)) where
+  pub word_none : len ≡ 0 → [] ≡ letters_at 20 s at
+  word_none e = go (letters_at 20 s at) (sym is ∙ e)
+    where
+      go : (l : List ℕ) → length l ≡ 0 → [] ≡ l
+      go [] f = refl
+      go (x ∷ l) f = absurd (omega arith)
 
-  pub spell_ends : (x : ℕ) (b : Bool) → i < 20 → x ≡ get_or s (place + i) 0 → b ≡ is_letter x → not b ≡ true
-      → Stored first out start (letters_at 20 s place) next
-  spell_ends x b h e f g = left_over_lem (left_end s place i x b e f h (not-true b g))
+  pub word_some : (len ≡ 0 → ⊥) → slice_range s at (at + len) ≡ letters_at 20 s at
+  word_some e = let z : at + len - at ≡ len = omega arith in rw (z, is) (sym (word_part 20 s at))
 
-  pub spell_full : 20 ≤ i → Stored first out start (letters_at 20 s place) next
-  spell_full h = left_over_lem (left_none s place i h)
+  pub word_within : (len ≡ 0 → ⊥) → at + len ≤ length s
+  word_within e = omega (arith, is, ap length (word_part 20 s at), length-take (length (letters_at 20 s at)) (drop at s), length-drop at s)
 
 pub ruleset letter_steps = (
   rules,
-  below_letters,
-  upper_letters,
-  between_letters,
-  lower_letters,
   count_start,
   count_more,
   count_ends,
@@ -179,8 +151,7 @@ pub ruleset letter_steps = (
   letters_differ,
   letters_agree,
   all_agree_lem,
-  spell_start,
-  spell_more,
-  spell_ends,
-  spell_full,
+  word_none,
+  word_some,
+  word_within,
 )

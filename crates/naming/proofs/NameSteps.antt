@@ -6,7 +6,7 @@ use mathlib.Core.List.{List, [], ◌∷◌, ◌++◌, map, map-append, append_as
 use mathlib.Core.Bool.{Bool, true, false, not, ◌&&◌, ◌||◌}
 use native.Mathlib.Numerals.{add-one}
 use native.Mathlib.Omega.{arith}
-use lib.ListN.{length, get_or, set, take, drop, length-set, drop_of_length-le}
+use lib.ListN.{length, get_or, set, take, drop, length-set, length-drop, drop_of_length-le}
 use lib.Seq.{drop-cons, take-suc-set, take_all}
 use borrow.Author.Rules.{rules}
 use borrow.Author.Tests.{lt-ltb, eq-eqb, ne_eqb}
@@ -15,6 +15,7 @@ use Rattle.reading.specs.declared.End.{End}
 use Rattle.reading.specs.declared.End.TheVariants as end_case
 use Rattle.reading.specs.declared.Refusal.{Refusal}
 use Rattle.inference.specs.Lists.{any}
+use Rattle.std.specs.List.{list_any}
 use Rattle.naming.specs.Names.{letters_at, ended_at, name_at, names_at, same, distinct, list_at, Names, whole_at, read_names}
 use Rattle.naming.specs.Told.{ends, after, words_at, names_at_places}
 
@@ -111,30 +112,15 @@ module _ (s : List ℕ) (at : ℕ) (places₀ places : List ℕ) (next i : ℕ) 
   pub names_near : after (end_case.At next) ≤ at + 21 * length places₀
   names_near = let m : i ≡ length places₀ = omega (arith, so.within, so.long) in rw (← m) so.near
 
--- None of the names passed so far is the name.
-pub record NoneSoFar (s : List ℕ) (at : ℕ) (places : List ℕ) (from i : ℕ) : Type 0 where
-  pub so_far : any (same (letters_at 20 s at)) (words_at s (drop from places)) ≡ any (same (letters_at 20 s at)) (words_at s (drop i places))
+-- A slice from a place on.
+pub rest_of : (l : List ℕ) (k : ℕ) → take (length l - k) (drop k l) ≡ drop k l
+rest_of l k = take_all (length l - k) (drop k l) (omega (arith, length-drop k l))
 
-pub none_start : (s : List ℕ) (at : ℕ) (places : List ℕ) (from : ℕ) → NoneSoFar s at places from from
-none_start s at places from = record { so_far = refl }
-
-module _ (s : List ℕ) (at : ℕ) (places : List ℕ) (from i : ℕ) (so : NoneSoFar s at places from i) where
-  none_turn : i < length places → any (same (letters_at 20 s at)) (words_at s (drop from places))
-      ≡ (same (letters_at 20 s at) (letters_at 20 s (get_or places i 0)) || any (same (letters_at 20 s at)) (words_at s (drop (i + 1) places)))
-  unfolding words_at any
-  none_turn h = so.so_far ∙ rw (drop-cons places i 0 h, add-one) refl
-
-  pub one_same : (x : ℕ) (b : Bool) → i < length places → x ≡ get_or places i 0 → b ≡ same (letters_at 20 s at) (letters_at 20 s x) → b ≡ true
-      → true ≡ any (same (letters_at 20 s at)) (words_at s (drop from places))
-  one_same x b h e f g = sym (none_turn h ∙ rw (← e, ← f, g) refl)
-
-  pub one_other : (x : ℕ) (b : Bool) → i < length places → x ≡ get_or places i 0 → b ≡ same (letters_at 20 s at) (letters_at 20 s x) → b ≡ false
-      → NoneSoFar s at places from (i + 1)
-  one_other x b h e f g = record { so_far = none_turn h ∙ rw (← e, ← f, g) refl }
-
-  pub none_same : length places ≤ i → false ≡ any (same (letters_at 20 s at)) (words_at s (drop from places))
-  unfolding words_at any
-  none_same h = sym (so.so_far ∙ rw (drop_of_length-le places {i = i} h) refl)
+-- Whether a name is among those that begin at some places.
+pub among_words : (s word places : List ℕ) → list_any (λ (p : ℕ). same word (letters_at 20 s p)) places ≡ any (same word) (words_at s places)
+unfolding any words_at
+among_words s word [] = refl
+among_words s word (p ∷ places) = ap (λ b. same word (letters_at 20 s p) || b) (among_words s word places)
 
 -- Each of the names passed so far is none of those after it.
 pub record ApartSoFar (s places : List ℕ) (i : ℕ) : Type 0 where
@@ -149,13 +135,13 @@ module _ (s places : List ℕ) (i : ℕ) (so : ApartSoFar s places i) where
   unfolding words_at distinct
   apart_turn h = so.so_far ∙ rw (drop-cons places i 0 h, add-one) refl
 
-  pub repeated : (x : ℕ) (b : Bool) → i < length places → x ≡ get_or places i 0 → b ≡ any (same (letters_at 20 s x)) (words_at s (drop (i + 1) places))
+  pub repeated : (x : ℕ) (b : Bool) → i < length places → x ≡ get_or places i 0 → (later : List ℕ) → later ≡ drop (i + 1) places → b ≡ any (same (letters_at 20 s x)) (words_at s later)
       → b ≡ true → false ≡ distinct (words_at s places)
-  repeated x b h e f g = sym (apart_turn h ∙ rw (← e, ← f, g) refl)
+  repeated x b h e later l f g = sym (apart_turn h ∙ rw (← e, ← l, ← f, g) refl)
 
-  pub not_repeated : (x : ℕ) (b : Bool) → i < length places → x ≡ get_or places i 0 → b ≡ any (same (letters_at 20 s x)) (words_at s (drop (i + 1) places))
+  pub not_repeated : (x : ℕ) (b : Bool) → i < length places → x ≡ get_or places i 0 → (later : List ℕ) → later ≡ drop (i + 1) places → b ≡ any (same (letters_at 20 s x)) (words_at s later)
       → b ≡ false → ApartSoFar s places (i + 1)
-  not_repeated x b h e f g = record { so_far = apart_turn h ∙ rw (← e, ← f, g) refl }
+  not_repeated x b h e later l f g = record { so_far = apart_turn h ∙ rw (← e, ← l, ← f, g) refl }
 
   pub all_apart : length places ≤ i → true ≡ distinct (words_at s places)
   unfolding words_at distinct
@@ -207,10 +193,7 @@ pub ruleset name_steps = (
   name_broken,
   names_end,
   names_near,
-  none_start,
-  one_same,
-  one_other,
-  none_same,
+  rest_of,
   apart_start,
   repeated,
   not_repeated,

@@ -2,3 +2,4 @@
 pub mod Names
 pub mod Sentence
 pub mod Told
+pub mod Line

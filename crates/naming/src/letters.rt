@@ -4,45 +4,53 @@ ghost use Rattle.naming.specs.Names.{is_letter, letters_at, same};
 
 use reading::bytes::byte_in;
 
-// Is a byte a letter, A-Z or a-z?
+/// How many letters a name has at most.
+const LONGEST: usize = 20;
+
+/// Is a byte a letter, A-Z or a-z?
+#[tactic(auto, unfolding(crate::specs::Names::is_letter))]
 pub fn is_letter(b: usize) -> bool
     ensures { result ≡ is_letter b }
 {
-    if b < 65 {
-        return false;
-    }
-    if b <= 90 {
-        return true;
-    }
-    if b < 97 {
-        return false;
-    }
-    b <= 122
+    (65 <= b && b <= 90) || (97 <= b && b <= 122)
 }
 
-// How many letters stand from a place on, at most 20.
+/// How many letters stand from a place on, at most 20.
+#[tactic(auto, using(crate::proofs::LetterSteps::letter_steps))]
 pub fn letters_at(s: &[u8], at: usize) -> usize
     requires { at < 100000 }
     ensures value { result ≡ length (letters_at 20 s.now at) }
     ensures few { result ≤ 20 }
 {
-    let mut n: usize = 0;
-    while n < 20 {
+    for n in 0..LONGEST {
         if !is_letter(byte_in(s, at + n)) {
             return n;
         }
-        n += 1;
     }
-    n
+    LONGEST
 }
 
-// Do the same letters stand from two places on?
+/// The letters that stand from a place on, at most 20.
+#[tactic(auto, using(crate::proofs::LetterSteps::letter_steps))]
+pub fn word_at(s: &[u8], at: usize) -> &[u8]
+    requires { at < 100000 }
+    ensures value { result.now ≡ letters_at 20 s.now at }
+    ensures few { length result.now ≤ 20 }
+{
+    let len = letters_at(s, at);
+    if len == 0 {
+        return &[];
+    }
+    &s[at..at + len]
+}
+
+/// Do the same letters stand from two places on?
+#[tactic(auto, using(crate::proofs::LetterSteps::letter_steps))]
 pub fn same_at(s: &[u8], a: usize, b: usize) -> bool
     requires { (a < 100000) × (b < 100000) }
     ensures { result ≡ same (letters_at 20 s.now a) (letters_at 20 s.now b) }
 {
-    let mut i: usize = 0;
-    while i < 20 {
+    for i in 0..LONGEST {
         let x = byte_in(s, a + i);
         let y = byte_in(s, b + i);
         if !is_letter(x) {
@@ -51,7 +59,6 @@ pub fn same_at(s: &[u8], a: usize, b: usize) -> bool
         if x != y {
             return false;
         }
-        i += 1;
     }
     true
 }

@@ -1,5 +1,5 @@
 // The reader of a names file: question 40. It keeps the place at which each name begins.
-ghost use Rattle.std.specs.Prelude.{◌≡◌, List, ℕ, ◌+◌, ◌*◌, ◌<◌, ◌≤◌, length, drop};
+ghost use Rattle.std.specs.Prelude.{◌≡◌, ◌+◌, ◌*◌, ◌<◌, ◌≤◌, length};
 ghost use Rattle.inference.specs.Lists.{any};
 ghost use Rattle.naming.specs.Names.{letters_at, name_at, names_at, same, distinct, list_at, read_names};
 ghost use Rattle.naming.specs.Told.{ends, after, words_at, names_at_places};
@@ -16,6 +16,7 @@ fn broken(at: usize) -> End
 }
 
 // Reads past the name at a place and the byte 0A that ends it.
+#[tactic(auto, using(crate::proofs::NameSteps::name_steps))]
 fn name_at(s: &[u8], at: usize) -> End
     requires { at < 100000 }
     ensures at_value { ends result (letters_at 20 s.now at) ≡ name_at s.now at }
@@ -33,62 +34,47 @@ fn name_at(s: &[u8], at: usize) -> End
 }
 
 // Reads names, as many as there are places, and keeps where each begins.
+#[tactic(auto, using(crate::proofs::NameSteps::name_steps))]
 fn names_at(s: &[u8], at: usize, places: &mut [u16]) -> End
     requires { (at < 30000) × (length places.old ≤ 64) }
     ensures places_after { ends result (words_at s.now places.new) ≡ names_at (length places.old) s.now at }
     ensures near { after result ≤ at + 21 * length places.old }
 {
     let mut next = at;
-    let mut i: usize = 0;
-    while i < places.len() {
-        places[i] = next as u16;
+    for place in places.iter_mut() {
+        *place = next as u16;
         let read = name_at(s, next);
         let End::At(end) = read else {
             return read;
         };
         next = end;
-        i += 1;
     }
     End::At(next)
 }
 
-// A place as a number of the usual width.
-pub fn wide(place: u16) -> usize
-    ensures { (result ≡ place) × (result < 65536) }
-{
-    place as usize
-}
-
-// Is the name at a place one of those that begin at the places from a number on?
-fn among(s: &[u8], at: usize, places: &[u16], from: usize) -> bool
+// Is the name at a place one of those that begin at some places?
+fn among(s: &[u8], at: usize, places: &[u16]) -> bool
     requires { at < 100000 }
-    ensures { result ≡ any (same (letters_at 20 s.now at)) (words_at s.now (drop from places.now)) }
+    ensures { result ≡ any (same (letters_at 20 s.now at)) (words_at s.now places.now) }
 {
-    let mut i = from;
-    while i < places.len() {
-        if same_at(s, at, wide(places[i])) {
-            return true;
-        }
-        i += 1;
-    }
-    false
+    places.iter().any(|place| same_at(s, at, *place as usize))
 }
 
 // Are the names that begin at some places distinct?
+#[tactic(auto, using(crate::proofs::NameSteps::name_steps))]
 fn all_distinct(s: &[u8], places: &[u16]) -> bool
     ensures { result ≡ distinct (words_at s.now places.now) }
 {
-    let mut i: usize = 0;
-    while i < places.len() {
-        if among(s, wide(places[i]), places, i + 1) {
+    for (i, place) in places.iter().enumerate() {
+        if among(s, *place as usize, &places[i + 1..]) {
             return false;
         }
-        i += 1;
     }
     true
 }
 
 // Reads a list of distinct names, as many as there are places.
+#[tactic(auto, using(crate::proofs::NameSteps::name_steps))]
 fn list_at(s: &[u8], at: usize, places: &mut [u16]) -> End
     requires { (at < 30000) × (length places.old ≤ 64) }
     ensures places_after { ends result (words_at s.now places.new) ≡ list_at (length places.old) s.now at }
@@ -105,7 +91,8 @@ fn list_at(s: &[u8], at: usize, places: &mut [u16]) -> End
     }
 }
 
-// Question 40 of any bytes, and the places at which the names of the 64 groups and of the 16 kinds begin.
+/// Question 40 of any bytes, and the places at which the names of the 64 groups and of the 16 kinds begin.
+#[tactic(auto, using(crate::proofs::NameSteps::name_steps))]
 pub fn read_names(s: &[u8], groups: &mut [u16], kinds: &mut [u16]) -> End
     requires { (length groups.old ≡ 64) × (length kinds.old ≡ 16) }
     ensures { ends result (names_at_places s.now groups.new kinds.new) ≡ read_names s.now }

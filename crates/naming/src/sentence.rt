@@ -1,118 +1,128 @@
 // The composer of the sentence for an uncovered permission: fixed byte strings between names, verbs being fixed byte strings too.
-ghost use Rattle.std.specs.Prelude.{◌≡◌, ◌+◌, ◌<◌, ◌≤◌, length};
+ghost use Rattle.std.specs.Prelude.{◌≡◌, ◌∷◌, [], ◌+◌, ◌<◌, ◌≤◌, length};
 ghost use Rattle.reading.specs.Told.{path_of};
 ghost use Rattle.interface.specs.Writes.{Stored};
 ghost use Rattle.fit.specs.Covers.{permission_at};
-ghost use Rattle.naming.specs.Names.{letters_at};
 ghost use Rattle.naming.specs.Sentence.{name_of, path_names, verb, of_kind, sentence};
 ghost use Rattle.naming.specs.Told.{words_at, step_text, names_at_places};
+ghost use Rattle.naming.specs.Line.{Put};
 
-use crate::letters::is_letter;
-use crate::names::wide;
+use crate::letters::word_at;
 use fit::Missing;
-use inference::rows::path_len;
-use interface::put;
 use reading::Path;
-use reading::bytes::byte_in;
 
-// Stores bytes and answers the next place.
-fn put_text(text: &[u8], out: &mut [u8], at: usize) -> usize
-    requires { (at < 1000) × (length text.now ≤ 20) }
-    ensures { Stored out.old out.new at text.now result }
-{
-    let mut next = at;
-    let mut i: usize = 0;
-    while i < text.len() {
-        next = put(out, next, byte_in(text, i));
-        i += 1;
-    }
-    next
+// A list of names: the file in which they stand, and where each begins.
+#[derive(Clone, Copy)]
+struct NameList<'a> {
+    file: &'a [u8],
+    places: &'a [u16],
 }
 
-// Stores the name that begins at a place.
-fn put_letters(s: &[u8], place: usize, out: &mut [u8], at: usize) -> usize
-    requires { (place < 100000) × (at < 1000) }
-    ensures { Stored out.old out.new at (letters_at 20 s.now place) result }
-{
-    let mut next = at;
-    let mut i: usize = 0;
-    while i < 20 {
-        let b = byte_in(s, place + i);
-        if !is_letter(b) {
-            return next;
+impl<'a> NameList<'a> {
+    // The name of a number, nothing past the list's end.
+    #[tactic(auto, using(crate::proofs::SentenceSteps::sentence_steps))]
+    fn name(self, n: usize) -> &'a [u8]
+        ensures value { result.now ≡ name_of (words_at self.entry.file.now self.entry.places.now) n }
+        ensures few { length result.now ≤ 20 }
+    {
+        let places = self.places;
+        if places.len() <= n {
+            return &[];
         }
-        next = put(out, next, b);
-        i += 1;
+        word_at(self.file, places[n] as usize)
     }
-    next
 }
 
-// Stores the name of a number.
-fn put_name(s: &[u8], places: &[u16], n: usize, out: &mut [u8], at: usize) -> usize
-    requires { at < 1000 }
-    ensures { Stored out.old out.new at (name_of (words_at s.now places.now) n) result }
-{
-    if n < places.len() {
-        return put_letters(s, wide(places[n]), out, at);
-    }
-    at
+// A line as it is composed: its bytes stand in the lent memory as far as there is room, and all of them are counted.
+#[derive(Drop)]
+struct Line<'a> {
+    out: &'a mut [u8],
+    len: usize,
 }
 
-// Stores the name of a group of a path, with a slash before it but for the first.
-fn put_step(s: &[u8], places: &[u16], group: usize, i: usize, out: &mut [u8], at: usize) -> usize
-    requires { at < 900 }
-    ensures { Stored out.old out.new at (step_text (words_at s.now places.now) i group) result }
-{
-    if i == 0 {
-        return put_name(s, places, group, out, at);
+impl<'a> Line<'a> {
+    // Adds a byte.
+    #[tactic(auto, using(crate::proofs::SentenceSteps::sentence_steps))]
+    fn put_byte(&mut self, byte: u8)
+        requires { self.old.len < 2000 }
+        ensures { Put self.old self.new (byte ∷ []) }
+    {
+        if self.len < self.out.len() {
+            self.out[self.len] = byte;
+        }
+        self.len += 1;
     }
-    let next = put_text(b"/", out, at);
-    put_name(s, places, group, out, next)
-}
 
-// Stores the names of a path's groups, joined by slashes.
-fn put_path(s: &[u8], places: &[u16], path: Path, out: &mut [u8]) -> usize
-    ensures stored { Stored out.old out.new 0 (path_names (words_at s.now places.now) (path_of path)) result }
-    ensures near { result ≤ 168 }
-{
-    let groups = path.groups;
-    let len = path_len(path);
-    let mut next: usize = 0;
-    let mut i: usize = 0;
-    while i < len {
-        next = put_step(s, places, groups[i] as usize, i, out, next);
-        i += 1;
-    }
-    next
-}
-
-// Stores the verb of a permission, which is given by its column.
-fn put_verb(s: &[u8], groups: &[u16], column: usize, out: &mut [u8], at: usize) -> usize
-    requires { at < 800 }
-    ensures stored { Stored out.old out.new at (verb (words_at s.now groups.now) (permission_at column)) result }
-    ensures near { result ≤ at + 40 }
-{
-    match column {
-        64 => put_text(b"read", out, at),
-        65 => put_text(b"write", out, at),
-        66 => put_text(b"access", out, at),
-        _ => {
-            let next = put_text(b"disclose to ", out, at);
-            put_name(s, groups, column, out, next)
+    // Adds a text.
+    #[tactic(auto, using(crate::proofs::SentenceSteps::sentence_steps))]
+    fn put(&mut self, text: &[u8])
+        requires { (self.old.len < 1000) × (length text.now ≤ 20) }
+        ensures { Put self.old self.new text.now }
+    {
+        for byte in text {
+            self.put_byte(*byte);
         }
     }
+
+    // Adds the name of the i-th group of a path, with a slash before it but for the first.
+    #[tactic(auto, using(crate::proofs::SentenceSteps::sentence_steps))]
+    fn put_step(&mut self, groups: NameList<'_>, i: usize, group: usize)
+        requires { self.old.len < 900 }
+        ensures { Put self.old self.new (step_text (words_at groups.entry.file.now groups.entry.places.now) i group) }
+    {
+        let name = groups.name(group);
+        if i == 0 {
+            self.put(name);
+            return;
+        }
+        self.put(b"/");
+        self.put(name);
+    }
+
+    // Adds the names of a path's groups, joined by slashes, to an empty line.
+    #[tactic(auto, using(crate::proofs::SentenceSteps::sentence_steps))]
+    fn put_path(&mut self, groups: NameList<'_>, path: Path)
+        requires { self.old.len ≡ 0 }
+        ensures put { Put self.old self.new (path_names (words_at groups.entry.file.now groups.entry.places.now) (path_of path)) }
+        ensures near { self.new.len ≤ 168 }
+    {
+        let steps = path.groups();
+        for (i, group) in steps.iter().enumerate() {
+            self.put_step(groups, i, *group as usize);
+        }
+    }
+
+    // Adds the verb of a permission, which is given by its column.
+    #[tactic(auto, using(crate::proofs::SentenceSteps::sentence_steps))]
+    fn put_verb(&mut self, groups: NameList<'_>, column: usize)
+        requires { self.old.len < 800 }
+        ensures put { Put self.old self.new (verb (words_at groups.entry.file.now groups.entry.places.now) (permission_at column)) }
+        ensures near { self.new.len ≤ self.old.len + 40 }
+    {
+        match column {
+            64 => self.put(b"read"),
+            65 => self.put(b"write"),
+            66 => self.put(b"access"),
+            _ => {
+                self.put(b"disclose to ");
+                self.put(groups.name(column));
+            }
+        }
+    }
+
+    // Adds the kind's part of a sentence.
+    #[tactic(auto, using(crate::proofs::SentenceSteps::sentence_steps))]
+    fn put_kind(&mut self, kinds: NameList<'_>, kind: usize)
+        requires { self.old.len < 900 }
+        ensures { Put self.old self.new (of_kind (words_at kinds.entry.file.now kinds.entry.places.now) kind) }
+    {
+        self.put(b": ");
+        self.put(kinds.name(kind));
+    }
 }
 
-// Stores the kind's part of a sentence.
-fn put_kind(s: &[u8], kinds: &[u16], kind: usize, out: &mut [u8], at: usize) -> usize
-    requires { at < 900 }
-    ensures { Stored out.old out.new at (of_kind (words_at s.now kinds.now) kind) result }
-{
-    let next = put_text(b": ", out, at);
-    put_name(s, kinds, kind, out, next)
-}
-
-// Stores the sentence for an uncovered permission of a path, as much of it as there is room for, and answers its length.
+/// Stores the sentence for an uncovered permission of a path, as much of it as there is room for, and answers its length.
+#[tactic(auto, using(crate::proofs::SentenceSteps::sentence_steps))]
 pub fn put_sentence(
     s: &[u8],
     groups: &[u16],
@@ -125,8 +135,18 @@ pub fn put_sentence(
         (sentence (names_at_places s.now groups.now kinds.now)
         (record { path = path_of path; permission = permission_at missing.column; kind = missing.kind })) result }
 {
-    let who = put_path(s, groups, path, out);
-    let not = put_text(b" may not ", out, who);
-    let what = put_verb(s, groups, missing.column, out, not);
-    put_kind(s, kinds, missing.kind, out, what)
+    let group_names = NameList {
+        file: s,
+        places: groups,
+    };
+    let kind_names = NameList {
+        file: s,
+        places: kinds,
+    };
+    let mut line = Line { out, len: 0 };
+    line.put_path(group_names, path);
+    line.put(b" may not ");
+    line.put_verb(group_names, missing.column);
+    line.put_kind(kind_names, missing.kind);
+    line.len
 }

@@ -15,11 +15,10 @@ use Rattle.reading.specs.declared.Dialect.TheVariants.{Current as current}
 use Rattle.reading.specs.Read.{got, refused, and_then, below}
 use Rattle.reading.specs.Syntax.{Sheet, components}
 use Rattle.reading.specs.System.{free_types_in, free_types, header_in, read_system, read_sheet}
-use Rattle.reading.specs.Told.{number}
+use Rattle.reading.specs.Told.{number, number_of}
+use Rattle.std.specs.Prelude.{Result, Ok, Err}
 use Rattle.reading.specs.Types.{type_at}
 use Rattle.reading.specs.declared.Number.{Number}
-use Rattle.reading.specs.declared.NumberRead.{NumberRead}
-use Rattle.reading.specs.declared.NumberRead.TheVariants as number_read
 use Rattle.reading.specs.declared.Refusal.{Refusal}
 use Rattle.decoding.specs.Notes.{SystemNoted}
 use Rattle.decoding.specs.Tables.{system_in}
@@ -42,12 +41,12 @@ use Rattle.products.proofs.GrowLaws.{system_crowd_counts}
 use Rattle.products.proofs.GiveLaws.{given_small}
 
 -- The number of free names.
-module _ (s : List ℕ) (r : NumberRead) (e : number r ≡ below 33 s 0) where
-  pub count_none : (q : Refusal) → r ≡ number_read.Refused q → record { value = 0; next = 0 } ≡ free_count s
+module _ (s : List ℕ) (r : Result Number Refusal) (e : number r ≡ below 33 s 0) where
+  pub count_none : (q : Refusal) → r ≡ Err q → record { value = 0; next = 0 } ≡ free_count s
   unfolding free_count or_zero
   count_none q f = rw (← e, f)
 
-  pub count_found : (n : Number) → r ≡ number_read.Found n → n ≡ free_count s
+  pub count_found : (n : Number) → r ≡ Ok n → n ≡ free_count s
   unfolding free_count or_zero
   count_found n f = rw (← e, f)
 
@@ -191,11 +190,11 @@ module _ (given u : ℕ) (types types₁ cells cells₁ : List ℕ) (z z₁ : Si
       )
 
 module _ (count : ℕ) (s : List ℕ) (at : ℕ) (types₀ cells₀ : List ℕ) (next given : ℕ) (types cells : List ℕ) (z : Sizes)
-    (o : Giving count s at types₀ cells₀ next given types cells z) (r : NumberRead) (e : number r ≡ type_at s next) (h : given < count) where
-  pub type_fits : (t : Number) → r ≡ number_read.Found t → t.value < 4294967296
+    (o : Giving count s at types₀ cells₀ next given types cells z) (r : Result Number Refusal) (e : number r ≡ type_at s next) (h : given < count) where
+  pub type_fits : (t : Number) → r ≡ Ok t → t.value < 4294967296
   type_fits t f = let k = small_type s next (sym e ∙ ap number f) in omega arith
 
-  pub give_next : (t : Number) (types₁ cells₁ : List ℕ) (z₁ : Sizes) → r ≡ number_read.Found t → length types₁ ≡ length types → length cells₁ ≡ length cells
+  pub give_next : (t : Number) (types₁ cells₁ : List ℕ) (z₁ : Sizes) → r ≡ Ok t → length types₁ ≡ length types → length cells₁ ≡ length cells
       → Gives z t.value given types types₁ cells cells₁ z₁ → Giving count s at types₀ cells₀ t.next (given + 1) types₁ cells₁ z₁
   give_next t types₁ cells₁ z₁ f i j g = record {
     few = omega arith;
@@ -214,11 +213,11 @@ module _ (count : ℕ) (s : List ℕ) (at : ℕ) (types₀ cells₀ : List ℕ) 
         };
   }
 
-  pub give_stop : (q : Refusal) → r ≡ number_read.Refused q → GivenTypes count s at types₀ types cells₀ cells (record { next = next; sizes = z })
+  pub give_stop : (q : Refusal) → r ≡ Err q → GivenTypes count s at types₀ types cells₀ cells (record { next = next; sizes = z })
   give_stop q f = record {
     given = λ room c ts end all.
         let b = o.so_far room c ts end all in
-        no_type (count - given) s next b.others end q.question q.at (omega arith) (sym (rw f at e)) b.left;
+        no_type (count - given) s next b.others end (number_of q.question) q.at (omega arith) (sym (rw f at e)) b.left;
   }
 
 pub give_last : (count : ℕ) (s : List ℕ) (at : ℕ) (types₀ cells₀ : List ℕ) (next given : ℕ) (types cells : List ℕ) (z : Sizes)

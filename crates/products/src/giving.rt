@@ -3,10 +3,8 @@ ghost use Rattle.std.specs.Prelude.{◌≡◌, ◌-◌, ◌<◌};
 ghost use Rattle.products.specs.Makers.{GivesIn, PushesIn};
 
 use crate::{MAX_CELLS, MAX_NAMES, MAX_THREADS, Maker, Sizes};
-use memory::Thread;
 use memory::chains::bind;
-use memory::names::{store, store_type};
-use memory::threads::pack;
+use memory::{Thread, put};
 
 impl<'a> Maker<'a> {
     /// Gives a name of type `t` the next number; its cell comes after `env`. Where no number or no cell is left, the names count as
@@ -24,7 +22,7 @@ impl<'a> Maker<'a> {
                 ..sizes
             };
         }
-        store_type(self.types, name, t);
+        put(self.types, name, t as u32);
         bind(self.cells, cell, env, name);
         Sizes {
             names: name + 1,
@@ -45,7 +43,7 @@ impl<'a> Maker<'a> {
                 ..sizes
             };
         }
-        store(self.made, n, pack(t));
+        put(self.made, n, t.pack());
         Sizes {
             threads: n + 1,
             ..sizes

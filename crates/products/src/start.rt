@@ -9,11 +9,10 @@ ghost use Rattle.products.specs.Starts.{Blank, Starts};
 
 use crate::{Made, Maker, Sizes};
 use decoding::noting::note_system;
-use memory::Thread;
-use memory::names::know;
+use memory::{Thread, put};
 use reading::bytes::byte_below;
 use reading::types::type_at;
-use reading::{Dialect, Number, NumberRead};
+use reading::{Dialect, Number};
 
 // How many free names there are, and the place of their types.
 #[tactic(auto, using(crate::proofs::StartSteps::start_steps))]
@@ -21,7 +20,7 @@ fn free_count(s: &[u8]) -> Number
     ensures { result ≡ free_count s.now }
 {
     let read = byte_below(s, 0, 33);
-    let NumberRead::Found(count) = read else {
+    let Ok(count) = read else {
         return Number { value: 0, next: 0 };
     };
     count
@@ -33,7 +32,7 @@ fn know_first(known: &mut [bool], count: usize)
     ensures { known.new ≡ first_known count known.old }
 {
     for i in 0..count {
-        know(known, i);
+        put(known, i, true);
     }
 }
 
@@ -54,7 +53,7 @@ impl<'a> Maker<'a> {
         };
         for given in 0..count {
             let read = type_at(Dialect::Current, s, next);
-            let NumberRead::Found(t) = read else {
+            let Ok(t) = read else {
                 return Made { next, sizes };
             };
             sizes = self.give(sizes, t.value, given);

@@ -1,10 +1,10 @@
 -- What is known where a reading succeeds: each part of it succeeded, each test on the way came out so, and there was room.
-use Prim.Native.Nat.{ℕ, ◌<◌, ◌+◌}
+use Prim.Native.Nat.{ℕ, ◌<◌, ◌≤◌, ◌+◌}
 use mathlib.Core.Bool.{Bool, true, false, cond}
 use mathlib.Core.List.{List}
 use mathlib.Core.Path.{◌≡◌, refl}
 use native.Mathlib.Omega.{arith}
-use borrow.Author.Tests.{ltb-true}
+use borrow.Author.Tests.{ltb-true, lt-ltb, le-ltb}
 use lib.Dec.{ltb}
 use lib.ListN.{length, get_or}
 use Rattle.reading.specs.Read.{Read, got, refused, and_then, byte_at, below}
@@ -75,3 +75,20 @@ module _ {A : Type 0} (P : A → Type 0) where
   unfolding Every limited
   every_limited true at x h = h refl
   every_limited false at x h = tt
+
+-- A byte below a bound, by its parts.
+module _ (n : ℕ) (s : List ℕ) (at : ℕ) where
+  module _ {b k : ℕ} (e : byte_at s at ≡ got b k) where
+    pub below_in : b < n → below n s at ≡ got b k
+    unfolding below and_then
+    below_in h = rw (e, lt-ltb b n h)
+
+    pub below_out : n ≤ b → below n s at ≡ refused 4 at
+    unfolding below and_then
+    below_out h = rw (e, le-ltb b n h)
+
+  pub below_refused : {q p : ℕ} → byte_at s at ≡ refused q p → below n s at ≡ refused q p
+  unfolding below and_then
+  below_refused e = rw e
+
+pub ruleset below_steps = (below_in, below_out, below_refused)

@@ -11,13 +11,12 @@ use lib.Dec.{lit<}
 use mir.Syntax.{w64}
 use mir.Val.{Fits}
 use Rattle.reading.proofs.Parts.{below_found}
-use Rattle.reading.proofs.Steps.{steps}
 use Rattle.reading.proofs.TypeLaws.{groups_64, kinds_16, channel_scaled, power_step}
 use Rattle.reading.specs.Dialects.{groups_in, kinds_in}
 use Rattle.std.specs.Prelude.{Result, Ok, Err}
 use Rattle.reading.specs.Read.{Read, got, refused, and_then, below}
 use Rattle.reading.specs.Told.{number}
-use Rattle.reading.specs.Types.{channel, groups_then_kind_in}
+use Rattle.reading.specs.Types.{channel, groups_then_kind_in, type_at_in}
 use Rattle.reading.specs.declared.Dialect.{Dialect}
 use Rattle.reading.specs.declared.Number.{Number}
 use Rattle.reading.specs.declared.Refusal.{Refusal}
@@ -26,11 +25,21 @@ small : (n : ℕ) (s : List ℕ) (at : ℕ) (q : Result Number Refusal) (g : Num
     → g.value < n
 small n s at q g f e = below_found n s at {b = g.value} {k = g.next} (rw f at (sym e))
 
-pub count_fits : (s : List ℕ) (at : ℕ) (q : Result Number Refusal) (g : Number) → q ≡ Ok g → number q ≡ below 5 s at
-    → g.value ≤ 4
-count_fits s at q g f e = omega (arith, small 5 s at q g f e)
+-- A stored type: the count of its groups, and then these and the kind.
+module _ (d : Dialect) (s : List ℕ) (at : ℕ) where
+  module _ {n m : ℕ} (e : below 5 s at ≡ got n m) where
+    pub count_fits : n ≤ 4
+    count_fits = omega (arith, below_found 5 s at e)
 
-pub ruleset type_steps = (steps, count_fits)
+    pub type_at_got : type_at_in d s at ≡ groups_then_kind_in d n s m
+    unfolding type_at_in and_then
+    type_at_got = rw e
+
+  pub type_at_refused : {q p : ℕ} → below 5 s at ≡ refused q p → type_at_in d s at ≡ refused q p
+  unfolding type_at_in and_then
+  type_at_refused e = rw e
+
+pub ruleset type_steps = (count_fits, type_at_got, type_at_refused)
 
 -- A type in its groups: its number is scaled and added to what they make.
 unfoldable pub in_groups : ℕ → ℕ → Read ℕ → Read ℕ

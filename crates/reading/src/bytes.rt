@@ -24,15 +24,12 @@ pub fn byte_at(s: &[u8], at: usize) -> Result<Number, Refusal>
             next: at + 1,
         })
     } else {
-        Err(Refusal {
-            question: Question::Byte,
-            at,
-        })
+        Err(Question::Byte.at(at))
     }
 }
 
 /// Questions 2 and 4: the byte due at a place, which must be below `bound`.
-#[tactic(auto, using(crate::proofs::Tests::tests, crate::proofs::Steps::steps), unfolding(crate::specs::Read::below))]
+#[tactic(auto, using(crate::proofs::Parts::below_steps))]
 pub fn byte_below(s: &[u8], at: usize, bound: usize) -> Result<Number, Refusal>
     ensures { number result ≡ below bound s.now at }
 {
@@ -43,9 +40,6 @@ pub fn byte_below(s: &[u8], at: usize, bound: usize) -> Result<Number, Refusal>
     if byte.value < bound {
         Ok(byte)
     } else {
-        Err(Refusal {
-            question: Question::Range,
-            at,
-        })
+        Err(Question::Range.at(at))
     }
 }

@@ -1,5 +1,5 @@
 // What stands at a place: the form's code byte (questions 2, 4 and 5), then its fields (questions 2, 4 and 6).
-ghost use Rattle.std.specs.Prelude.{◌≡◌, ◌&&◌, ltb};
+ghost use Rattle.std.specs.Prelude.{◌≡◌, ◌&&◌, ltb, length};
 ghost use Rattle.reading.specs.Read.{got, refused};
 ghost use Rattle.reading.specs.Forms.{
   limited,
@@ -19,35 +19,22 @@ use crate::bytes::{byte_at, byte_below};
 use crate::types::type_at;
 use crate::{Act, Form, Number, OwnFields, Path, Place, Question, Refusal, Source, Spot};
 
-// Question 5 fails at the code byte of the form that is too many.
-fn too_many(at: usize) -> Result<Place, Refusal>
-    ensures { told result ≡ refused 5 at }
-{
-    Err(Refusal {
-        question: Question::Limits,
-        at,
-    })
-}
-
 // Question 4 fails at a code byte that no form has.
 fn no_form(at: usize) -> Result<Place, Refusal>
     ensures { told result ≡ refused 4 at }
 {
-    Err(Refusal {
-        question: Question::Range,
-        at,
-    })
+    Err(Question::Range.at(at))
 }
 
 // A form without fields.
-#[tactic(auto, using(crate::proofs::Steps::steps))]
+#[tactic(auto, using(crate::proofs::FormSteps::form_steps))]
 fn bare(form: Form, at: usize, next: usize, room: bool) -> Result<Place, Refusal>
     ensures { told result ≡ limited room at (got form next) }
 {
     if room {
         Ok(Place { form, next })
     } else {
-        too_many(at)
+        Err(Question::Limits.at(at))
     }
 }
 
@@ -58,16 +45,30 @@ impl Spot {
     {
         0 < self.nest && self.names < 64
     }
+
+    // Is there room for one more group in the path?
+    fn deepens(self, path: Path) -> bool
+        ensures { result ≡ (ltb 0 self.nest && ltb (length (path_of path)) 8) }
+    {
+        0 < self.nest && path.has_room()
+    }
+
+    // Is there room for one more group in the path, and for one more component?
+    fn places(self, path: Path, components: usize) -> bool
+        ensures { result ≡ ((ltb 0 self.nest && ltb (length (path_of path)) 8) && ltb components 32) }
+    {
+        self.deepens(path) && components < 32
+    }
 }
 
 impl Source<'_> {
     // A new name: its type.
-    #[tactic(auto, using(crate::proofs::Steps::steps), unfolding(crate::specs::Forms::new_form_in))]
+    #[tactic(auto, using(crate::proofs::FormSteps::form_steps))]
     fn new_form(self, at: usize, next: usize, room: bool) -> Result<Place, Refusal>
         ensures { told result ≡ limited room at (new_form_in self.entry.dialect self.entry.bytes.now next) }
     {
         if !room {
-            return too_many(at);
+            return Err(Question::Limits.at(at));
         }
         let read = type_at(self.dialect, self.bytes, next);
         let Ok(bound) = read else {
@@ -80,12 +81,12 @@ impl Source<'_> {
     }
 
     // An input: the channel, then the type of the bound name.
-    #[tactic(auto, using(crate::proofs::Steps::steps), unfolding(crate::specs::Forms::input_form_in))]
+    #[tactic(auto, using(crate::proofs::FormSteps::form_steps))]
     fn input_form(self, at: usize, next: usize, room: bool) -> Result<Place, Refusal>
         ensures { told result ≡ limited room at (input_form_in self.entry.dialect self.entry.bytes.now next) }
     {
         if !room {
-            return too_many(at);
+            return Err(Question::Limits.at(at));
         }
         let first = byte_at(self.bytes, next);
         let Ok(channel) = first else {
@@ -105,12 +106,12 @@ impl Source<'_> {
     }
 
     // An output: the channel, then the name sent.
-    #[tactic(auto, using(crate::proofs::Steps::steps), unfolding(crate::specs::Forms::output_form))]
+    #[tactic(auto, using(crate::proofs::FormSteps::form_steps))]
     fn output_form(self, at: usize, next: usize, room: bool) -> Result<Place, Refusal>
         ensures { told result ≡ limited room at (output_form self.entry.bytes.now next) }
     {
         if !room {
-            return too_many(at);
+            return Err(Question::Limits.at(at));
         }
         let first = byte_at(self.bytes, next);
         let Ok(channel) = first else {
@@ -139,22 +140,19 @@ impl Source<'_> {
             return read;
         };
         if path.has(group.value) {
-            Err(Refusal {
-                question: Question::NewGroup,
-                at,
-            })
+            Err(Question::NewGroup.at(at))
         } else {
             Ok(group)
         }
     }
 
     // A group: one that is new to the path.
-    #[tactic(auto, using(crate::proofs::Steps::steps), unfolding(crate::specs::Forms::group_form_in))]
+    #[tactic(auto, using(crate::proofs::FormSteps::form_steps))]
     fn group_form(self, at: usize, next: usize, path: Path, room: bool) -> Result<Place, Refusal>
         ensures { told result ≡ limited room at (group_form_in self.entry.dialect self.entry.bytes.now next (path_of path)) }
     {
         if !room {
-            return too_many(at);
+            return Err(Question::Limits.at(at));
         }
         let read = self.fresh_group(next, path);
         let Ok(group) = read else {
@@ -180,7 +178,7 @@ impl Source<'_> {
     }
 
     // A component: its own fields, the group, which is new to the path, and then the purpose.
-    #[tactic(auto, using(crate::proofs::Steps::steps), unfolding(crate::specs::Forms::component_form_in))]
+    #[tactic(auto, using(crate::proofs::FormSteps::form_steps))]
     fn component_form(
         self,
         at: usize,
@@ -191,7 +189,7 @@ impl Source<'_> {
         ensures { told result ≡ limited room at (component_form_in self.entry.dialect self.entry.bytes.now next (path_of path)) }
     {
         if !room {
-            return too_many(at);
+            return Err(Question::Limits.at(at));
         }
         let first = self.fresh_group(next, path);
         let Ok(group) = first else {
@@ -211,7 +209,7 @@ impl Source<'_> {
     }
 
     /// What stands at a place of a process, with the permitted nesting that is left and the number of names in scope.
-    #[tactic(auto, using(crate::proofs::FormSteps::process_forms_lem), unfolding(crate::specs::Forms::process_at_in))]
+    #[tactic(auto, using(crate::proofs::FormSteps::process_forms_lem))]
     pub fn process_at(self, spot: Spot) -> Result<Place, Refusal>
         ensures { told result ≡ process_at_in self.entry.dialect self.entry.bytes.now spot.at spot.nest spot.names }
     {
@@ -235,7 +233,7 @@ impl Source<'_> {
     }
 
     /// What stands at a place of a system; beside a process's limits, the path so far and the number of components so far.
-    #[tactic(auto, using(crate::proofs::FormSteps::system_forms_lem), unfolding(crate::specs::Forms::system_at_in))]
+    #[tactic(auto, using(crate::proofs::FormSteps::system_forms_lem))]
     pub fn system_at(self, spot: Spot, path: Path, components: usize) -> Result<Place, Refusal>
         ensures { told result ≡ system_at_in self.entry.dialect self.entry.bytes.now spot.at spot.nest spot.names (path_of path) components }
     {
@@ -247,14 +245,12 @@ impl Source<'_> {
         let next = byte.next;
         let level = 0 < spot.nest;
         let binder = spot.binds();
-        let deeper = level && path.has_room();
-        let another = deeper && components < 32;
         match byte.value {
             0 => bare(Form::Nil, at, next, level),
             1 => bare(Form::Par, at, next, level),
-            2 => self.group_form(at, next, path, deeper),
+            2 => self.group_form(at, next, path, spot.deepens(path)),
             3 => self.new_form(at, next, binder),
-            4 => self.component_form(at, next, path, another),
+            4 => self.component_form(at, next, path, spot.places(path, components)),
             _ => no_form(at),
         }
     }

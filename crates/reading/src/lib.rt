@@ -74,6 +74,13 @@ impl Question {
     {
         self as usize
     }
+
+    /// The question's refusal: it fails at the byte at this place.
+    pub fn at(self, at: usize) -> Refusal
+        ensures { result ≡ record { question = self; at = at } }
+    {
+        Refusal { question: self, at }
+    }
 }
 
 impl From<Question> for u64 {

@@ -50,10 +50,7 @@ impl Source<'_> {
                     spot.at = next;
                 }
                 Form::Group(_) | Form::Component(_) => {
-                    return Err(Refusal {
-                        question: Question::Range,
-                        at: spot.at,
-                    });
+                    return Err(Question::Range.at(spot.at));
                 }
             }
         }
@@ -118,10 +115,7 @@ impl Source<'_> {
                     return self.read_component(Spot { at: next, ..spot }, components);
                 }
                 Form::Input(_) | Form::Output(_) | Form::Replicate => {
-                    return Err(Refusal {
-                        question: Question::Range,
-                        at: spot.at,
-                    });
+                    return Err(Question::Range.at(spot.at));
                 }
             }
         }
@@ -168,10 +162,7 @@ impl Source<'_> {
         if system.next == self.bytes.len() {
             Ok(system)
         } else {
-            Err(Refusal {
-                question: Question::NoneLeft,
-                at: system.next,
-            })
+            Err(Question::NoneLeft.at(system.next))
         }
     }
 }
@@ -182,10 +173,7 @@ pub fn read_in(dialect: Dialect, sheet: &[u8], charter: &[u8]) -> Result<Number,
     ensures { number result ≡ counted_in (sheet_of_in dialect sheet.now charter.now) }
 {
     if 4096 < sheet.len() || 4096 < charter.len() {
-        return Err(Refusal {
-            question: Question::Length,
-            at: 4096,
-        });
+        return Err(Question::Length.at(4096));
     }
     Source {
         dialect,

@@ -51,7 +51,7 @@ fn groups_then_kind(dialect: Dialect, s: &[u8], at: usize, count: usize) -> Resu
 }
 
 /// A stored type: the count of groups, the groups, the kind.
-#[tactic(auto, using(crate::proofs::TypeSteps::type_steps), unfolding(crate::specs::Types::type_at_in))]
+#[tactic(auto, using(crate::proofs::TypeSteps::type_steps))]
 pub fn type_at(dialect: Dialect, s: &[u8], at: usize) -> Result<Number, Refusal>
     ensures { number result ≡ type_at_in dialect s.now at }
 {

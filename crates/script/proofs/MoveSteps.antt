@@ -5,23 +5,11 @@ use mathlib.Core.Path.{◌≡◌}
 use borrow.Author.Tests.{ne_eqb}
 use Rattle.reading.proofs.Steps.{steps}
 use Rattle.reading.specs.Read.{Read, refused, and_then}
-use Rattle.reading.specs.Told.{number, refusal_of}
-use Rattle.reading.specs.declared.Refusal.{Refusal}
-use Rattle.reading.specs.declared.NumberRead.{NumberRead}
-use Rattle.reading.specs.declared.NumberRead.TheVariants as number_read
 use Rattle.running.specs.Moves.{Move}
 use Rattle.running.specs.Script.{move_from}
 use Rattle.script.specs.Fields.{unfold_at, send_at, receipt_at, communication_at, environment_name_at}
-use Rattle.script.specs.Told.{move_read}
-use Rattle.script.specs.declared.MoveRead.{MoveRead}
-use Rattle.script.specs.declared.MoveRead.TheVariants as move_read_variants
 
-pub stops_move : (r : MoveRead) (n : NumberRead) (x : Read ℕ) (f : ℕ → ℕ → Read Move) (q : Refusal)
-    → r ≡ move_read_variants.Refused (refusal_of n) → n ≡ number_read.Refused q → number n ≡ x → move_read r ≡ and_then x f
-unfolding and_then
-stops_move r n x f q e h p = rw (← p, e, h)
-
-pub ruleset field_steps = (steps, stops_move)
+pub ruleset field_steps = (steps)
 
 module _ (s : List ℕ) (at code : ℕ) {y : Read Move} where
   pub code_unfold : code ≡ 1 → y ≡ unfold_at s at → y ≡ move_from s at code

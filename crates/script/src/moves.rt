@@ -1,40 +1,28 @@
 // Reads a script (question 21 of document 01): the move that stands at a place, and how many moves there are to the end.
-ghost use Rattle.std.specs.Prelude.{◌≡◌, cond, ◌+◌, ◌-◌, ◌<◌, ◌≤◌, leb, length};
-ghost use Rattle.reading.specs.Read.{refused};
-ghost use Rattle.reading.specs.Told.{refusal_of};
+ghost use Rattle.std.specs.Prelude.{◌≡◌, cond, ◌+◌, ◌-◌, ◌<◌, ◌≤◌, leb, length, IfSome, IfOk};
 ghost use Rattle.running.specs.Script.{move_at, read_script};
 ghost use Rattle.script.specs.Fields.{unfold_at, send_at, receipt_at, communication_at, environment_name_at};
 ghost use Rattle.script.specs.Told.{move_read, Spans, moves_in};
 
-use crate::{Communication, Move, MovePlace, MoveRead, Receipt};
+use crate::{Communication, Move, MovePlace, Receipt};
 use policy::read::two_bytes;
-use reading::bytes::{byte_at, refusal};
+use reading::bytes::byte_at;
 use reading::types::type_at;
-use reading::{Dialect, NumberRead, Refusal};
+use reading::{Dialect, Question, Refusal};
 
-fn not_read(read: NumberRead) -> MoveRead
-    ensures { result ≡ MoveRead.Refused (refusal_of read) }
-{
-    MoveRead::Refused(refusal(read))
-}
-
-// A code that no move has.
-fn no_move(at: usize) -> MoveRead
-    ensures { move_read result ≡ refused 4 at }
-{
-    MoveRead::Refused(Refusal { question: 4, at })
-}
+/// The most moves that a script may have.
+pub const MAX_MOVES: usize = 1024;
 
 // An unfolding: the thread.
 #[tactic(auto, using(crate::proofs::MoveSteps::field_steps), unfolding(crate::specs::Fields::unfold_at, crate::specs::Told::move_of))]
-fn unfold_at(s: &[u8], at: usize) -> MoveRead
+fn unfold_at(s: &[u8], at: usize) -> Result<MovePlace, Refusal>
     ensures { move_read result ≡ unfold_at s.now at }
 {
     let read = byte_at(s, at);
-    let NumberRead::Found(thread) = read else {
-        return not_read(read);
+    let Ok(thread) = read else {
+        return Err(read.unwrap_err());
     };
-    MoveRead::Found(MovePlace {
+    Ok(MovePlace {
         step: Move::Unfold(thread.value),
         next: thread.next,
     })
@@ -42,14 +30,14 @@ fn unfold_at(s: &[u8], at: usize) -> MoveRead
 
 // A send to the environment: the thread.
 #[tactic(auto, using(crate::proofs::MoveSteps::field_steps), unfolding(crate::specs::Fields::send_at, crate::specs::Told::move_of))]
-fn send_at(s: &[u8], at: usize) -> MoveRead
+fn send_at(s: &[u8], at: usize) -> Result<MovePlace, Refusal>
     ensures { move_read result ≡ send_at s.now at }
 {
     let read = byte_at(s, at);
-    let NumberRead::Found(thread) = read else {
-        return not_read(read);
+    let Ok(thread) = read else {
+        return Err(read.unwrap_err());
     };
-    MoveRead::Found(MovePlace {
+    Ok(MovePlace {
         step: Move::SendOut(thread.value),
         next: thread.next,
     })
@@ -57,22 +45,22 @@ fn send_at(s: &[u8], at: usize) -> MoveRead
 
 // A receive from the environment: the thread, then the name.
 #[tactic(auto, using(crate::proofs::MoveSteps::field_steps), unfolding(crate::specs::Fields::receipt_at, crate::specs::Told::move_of))]
-fn receipt_at(s: &[u8], at: usize) -> MoveRead
+fn receipt_at(s: &[u8], at: usize) -> Result<MovePlace, Refusal>
     ensures { move_read result ≡ receipt_at s.now at }
 {
     let first = byte_at(s, at);
-    let NumberRead::Found(thread) = first else {
-        return not_read(first);
+    let Ok(thread) = first else {
+        return Err(first.unwrap_err());
     };
     let second = two_bytes(s, thread.next);
-    let NumberRead::Found(name) = second else {
-        return not_read(second);
+    let Ok(name) = second else {
+        return Err(second.unwrap_err());
     };
     let receipt = Receipt {
         thread: thread.value,
         name: name.value,
     };
-    MoveRead::Found(MovePlace {
+    Ok(MovePlace {
         step: Move::ReceiveIn(receipt),
         next: name.next,
     })
@@ -80,22 +68,22 @@ fn receipt_at(s: &[u8], at: usize) -> MoveRead
 
 // A communication: the thread that sends, then the one that receives.
 #[tactic(auto, using(crate::proofs::MoveSteps::field_steps), unfolding(crate::specs::Fields::communication_at, crate::specs::Told::move_of))]
-fn communication_at(s: &[u8], at: usize) -> MoveRead
+fn communication_at(s: &[u8], at: usize) -> Result<MovePlace, Refusal>
     ensures { move_read result ≡ communication_at s.now at }
 {
     let first = byte_at(s, at);
-    let NumberRead::Found(sender) = first else {
-        return not_read(first);
+    let Ok(sender) = first else {
+        return Err(first.unwrap_err());
     };
     let second = byte_at(s, sender.next);
-    let NumberRead::Found(receiver) = second else {
-        return not_read(second);
+    let Ok(receiver) = second else {
+        return Err(second.unwrap_err());
     };
     let communication = Communication {
         sender: sender.value,
         receiver: receiver.value,
     };
-    MoveRead::Found(MovePlace {
+    Ok(MovePlace {
         step: Move::Communicate(communication),
         next: receiver.next,
     })
@@ -103,99 +91,100 @@ fn communication_at(s: &[u8], at: usize) -> MoveRead
 
 // A name that the environment makes: its type.
 #[tactic(auto, using(crate::proofs::MoveSteps::field_steps), unfolding(crate::specs::Fields::environment_name_at, crate::specs::Told::move_of))]
-fn environment_name_at(s: &[u8], at: usize) -> MoveRead
+fn environment_name_at(s: &[u8], at: usize) -> Result<MovePlace, Refusal>
     ensures { move_read result ≡ environment_name_at s.now at }
 {
     let read = type_at(Dialect::Current, s, at);
-    let NumberRead::Found(t) = read else {
-        return not_read(read);
+    let Ok(t) = read else {
+        return Err(read.unwrap_err());
     };
-    MoveRead::Found(MovePlace {
+    Ok(MovePlace {
         step: Move::EnvironmentName(t.value),
         next: t.next,
     })
 }
 
-// The move that stands at a place: its code, then its fields.
+/// The move that stands at a place: its code, then its fields; the question that fails, where none can be read.
 #[tactic(auto, using(crate::proofs::MoveSteps::move_steps), unfolding(running::specs::Script::move_at))]
-pub fn move_at(s: &[u8], at: usize) -> MoveRead
+pub fn move_at(s: &[u8], at: usize) -> Result<MovePlace, Refusal>
     ensures { move_read result ≡ move_at s.now at }
 {
     let read = byte_at(s, at);
-    let NumberRead::Found(byte) = read else {
-        return not_read(read);
+    let Ok(byte) = read else {
+        return Err(read.unwrap_err());
     };
     let next = byte.next;
-    let code = byte.value;
-    match code {
+    match byte.value {
         1 => unfold_at(s, next),
         2 => send_at(s, next),
         3 => receipt_at(s, next),
         4 => communication_at(s, next),
         5 => environment_name_at(s, next),
-        _ => no_move(next),
+        _ => Err(Refusal {
+            question: Question::Range,
+            at: next,
+        }),
     }
 }
 
-// The bytes of a move that has `len` of them; 0 where fewer are left.
-fn span(left: usize, len: usize) -> usize
-    ensures { result ≡ cond (leb len left) len 0 }
+// The bytes of a move that has `len` of them, where so many are left.
+fn span(left: usize, len: usize) -> Option<usize>
+    ensures { result ≡ cond (leb len left) (Some len) None }
 {
-    if len <= left { len } else { 0 }
+    if len <= left { Some(len) } else { None }
 }
 
-// The bytes of a move whose field is a type: its code and the type; 0 where no type can be read.
+// The bytes of a move whose field is a type, its code and the type, where a type can be read.
 #[tactic(auto, using(crate::proofs::SpanSteps::type_steps))]
-fn environment_name_span(s: &[u8], at: usize) -> usize
+fn environment_name_span(s: &[u8], at: usize) -> Option<usize>
     requires { at < length s.now }
     ensures spans { Spans at (environment_name_at s.now (at + 1)) result }
-    ensures upper_bound { result ≤ length s.now - at }
+    ensures upper_bound { IfSome result (λ n. n ≤ length s.now - at) }
 {
     let read = type_at(Dialect::Current, s, at + 1);
-    let NumberRead::Found(t) = read else {
-        return 0;
+    let Ok(t) = read else {
+        return None;
     };
-    t.next - at
+    Some(t.next - at)
 }
 
-// How many bytes the move at a place has; 0 where none can be read.
-fn move_span(s: &[u8], at: usize) -> usize
+// How many bytes the move at a place has, where one can be read.
+#[tactic(auto, using(crate::proofs::SpanSteps::span_steps))]
+fn move_span(s: &[u8], at: usize) -> Option<usize>
     ensures spans { Spans at (move_at s.now at) result }
-    ensures upper_bound { result ≤ length s.now - at }
+    ensures upper_bound { IfSome result (λ n. n ≤ length s.now - at) }
 {
     if s.len() <= at {
-        return 0;
+        return None;
     }
     let left = s.len() - at;
     match s[at] {
-        1 => span(left, 2),
-        2 => span(left, 2),
+        1 | 2 => span(left, 2),
         3 => span(left, 4),
         4 => span(left, 3),
         5 => environment_name_span(s, at),
-        _ => 0,
+        _ => None,
     }
 }
 
-// Question 21: how many moves the script is made of, at most 1,024; 65,535 where it fails. The bytes of each move are counted, its
-// fields are not read.
+/// Question 21: how many moves the script is made of, at most 1,024, each of a byte at least. The bytes of each move are counted,
+/// its fields are not read.
 #[tactic(auto, using(crate::proofs::CountSteps::count_steps))]
-pub fn count_moves(s: &[u8]) -> usize
+pub fn count_moves(s: &[u8]) -> Result<usize, Question>
     ensures value { result ≡ moves_in (read_script s.now) }
-    ensures upper_bound { (result ≡ 65535 → ⊥) → (result ≤ 1024) × (result ≤ length s.now) }
+    ensures upper_bound { IfOk result (λ n. (n ≤ 1024) × (n ≤ length s.now)) }
 {
     let mut at: usize = 0;
-    let mut n: usize = 0;
+    let mut count: usize = 0;
     while at != s.len() {
-        if 1024 <= n {
-            return 65535;
+        if MAX_MOVES <= count {
+            return Err(Question::Script);
         }
-        let len = move_span(s, at);
-        if len == 0 {
-            return 65535;
-        }
+        let Some(len) = move_span(s, at) else {
+            return Err(Question::Script);
+        };
         at += len;
-        n += 1;
+        count += 1;
     }
-    n
+    Ok(count)
 }

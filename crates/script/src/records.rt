@@ -1,35 +1,30 @@
 // Writes a record of eight bytes into the lent log.
-ghost use Rattle.std.specs.Prelude.{◌≡◌, ◌++◌, ◌+◌, ◌<◌, ◌≤◌, ◌%◌, length, set, take, drop};
-ghost use Rattle.script.specs.Told.{bytes_of, two_stored};
+ghost use Rattle.std.specs.Prelude.{◌≡◌, ◌++◌, ◌+◌, ◌≤◌, ◌%◌, length, take, drop};
+ghost use Rattle.script.specs.Told.{bytes_of};
 
 use crate::Record;
 
-// Stores a byte.
-fn store(log: &mut [u8], at: usize, value: usize)
-    requires { at < length log.old }
-    ensures { log.new ≡ set log.old at (value % 256) }
+// The low byte of a number.
+fn low(number: usize) -> u8
+    ensures { result ≡ number % 256 }
 {
-    log[at] = (value % 256) as u8;
+    (number % 256) as u8
 }
 
-// Stores two bytes.
-#[tactic(auto, using(crate::proofs::RecordSteps::store_steps))]
-fn store_two(log: &mut [u8], at: usize, first: usize, second: usize)
-    requires { at + 1 < length log.old }
-    ensures { log.new ≡ two_stored log.old at first second }
-{
-    store(log, at, first);
-    store(log, at + 1, second);
-}
-
-// Writes a record from a place on: its number and label, its channel, its name, its two components.
-#[tactic(auto, using(crate::proofs::RecordSteps::record_steps))]
+/// Writes a record from a place on: its number and label, its channel, its name, its two components.
 pub fn write_record(log: &mut [u8], at: usize, r: Record)
     requires { at + 8 ≤ length log.old }
     ensures { log.new ≡ take at log.old ++ (bytes_of r ++ drop (at + 8) log.old) }
 {
-    store_two(log, at, r.number, r.label);
-    store_two(log, at + 2, r.channel, r.channel / 256);
-    store_two(log, at + 4, r.name, r.name / 256);
-    store_two(log, at + 6, r.actor, r.receiver);
+    let bytes = [
+        low(r.number),
+        low(r.label),
+        low(r.channel),
+        low(r.channel / 256),
+        low(r.name),
+        low(r.name / 256),
+        low(r.actor),
+        low(r.receiver),
+    ];
+    log[at..at + 8].copy_from_slice(&bytes);
 }

@@ -2,7 +2,7 @@
 use Prim.Native.Nat.{ℕ, ◌<◌, ◌≤◌, min}
 use mathlib.Core.Path.{◌≡◌, refl, sym, ap, ap₂, ◌∙◌}
 use mathlib.Core.List.{List, [], ◌∷◌, ◌++◌, map}
-use mathlib.Core.Bool.{Bool, true, false, cond, not, ◌&&◌}
+use mathlib.Core.Bool.{Bool, true, false, cond, ◌&&◌}
 use native.Mathlib.Omega.{arith}
 use lib.Dec.{ltb, eqb}
 use borrow.Author.Tests.{lt-ltb, le-ltb, ltb-true, ltb-false}
@@ -10,7 +10,7 @@ use Rattle.reading.specs.Read.{Read, got, refused}
 use Rattle.reading.specs.Syntax.{Sheet}
 use Rattle.reading.specs.System.{sheet_of}
 use Rattle.inference.specs.Lists.{every, only, gather, rising}
-use Rattle.inference.specs.Acts.{Act, Located, acts_of, sheet_acts, located}
+use Rattle.inference.specs.Acts.{Located, acts_of, sheet_acts, located}
 use Rattle.inference.specs.Typing.{in_scope, on_channel, carries_object, in_path}
 use Rattle.inference.specs.Interface.{Entry, entry_of, interface, entries_of, holds_any, Required, required_of}
 use Rattle.inference.specs.Walks.{worst_all}

@@ -13,7 +13,6 @@ use Rattle.reading.specs.Read.{Read, got, refused}
 use Rattle.reading.specs.Syntax.{Sheet, components}
 use Rattle.reading.specs.System.{read_sheet, sheet_of_in, sheet_of}
 use Rattle.reading.specs.Told.{number, counted_in, refusal_of, why_none}
-use Rattle.reading.specs.declared.End.{End}
 use Rattle.reading.specs.declared.End.TheVariants as end_case
 use Rattle.reading.specs.declared.Number.{Number}
 use Rattle.reading.specs.declared.NumberRead.{NumberRead}

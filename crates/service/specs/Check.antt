@@ -1,5 +1,5 @@
 -- The service `check`: its answer, and the final content of the lent output.
-use Rattle.std.specs.Prelude.{ℕ, List, [], ◌∷◌, ◌++◌, length, drop, leb}
+use Rattle.std.specs.Prelude.{ℕ, List, ◌++◌, length, drop, leb}
 use Rattle.inference.specs.Interface.{interface, interface_bytes}
 use Rattle.service.specs.Questions.{Asked, passed, failed, ask, Accepted, judged}
 

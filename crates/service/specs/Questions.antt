@@ -1,5 +1,5 @@
 -- "Questions, in order": the sheet against the charter, questions 1 to 18.
-use Rattle.std.specs.Prelude.{ℕ, List, [], ◌∷◌, Bool, true, false, eqb}
+use Rattle.std.specs.Prelude.{ℕ, List, Bool, true, false, eqb}
 use Rattle.reading.specs.Read.{Read, got, refused}
 use Rattle.reading.specs.Syntax.{Sheet}
 use Rattle.reading.specs.System.{sheet_of}

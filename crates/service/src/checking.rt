@@ -1,17 +1,18 @@
 // The service `check`: questions 1 to 19 of a sheet and a charter, and the interface into the lent output.
-ghost use Rattle.std.specs.Prelude.{◌≡◌, ◌≤◌};
+ghost use Rattle.std.specs.Prelude.{◌≡◌, ◌<◌, ◌≤◌, ◌^◌, replicate};
 ghost use Rattle.inference.specs.Rows.{table_entries};
 ghost use Rattle.inference.specs.Interface.{interface_bytes};
 ghost use Rattle.service.specs.Told.{Ready, Delivered, Checked};
 
 use crate::Answer;
 use crate::judging::judge_read;
+use inference::table::{CELLS, FEW_CELLS};
 use interface::{interface_len, write_interface};
 use reading::NumberRead;
 use reading::bytes::refusal;
 use reading::system::read;
 
-// Question 19, and the interface.
+/// Question 19, and the interface.
 pub fn deliver(table: &[u16], components: usize, output: &mut [u8]) -> Answer
     requires { components ≤ 32 }
     ensures { Delivered (interface_bytes (table_entries table.now components)) output.old
@@ -25,21 +26,25 @@ pub fn deliver(table: &[u16], components: usize, output: &mut [u8]) -> Answer
     Answer::Accepted(len)
 }
 
-// Questions 7 to 19 of a sheet that reads, with a clear table for its components.
-fn check_read(sheet: &[u8], charter: &[u8], table: &mut [u16], output: &mut [u8]) -> Answer
-    requires { Ready sheet.now charter.now table.old }
+// Questions 7 to 19 of a sheet that reads, with a clear table of so many cells, which has a row for each of its components.
+#[tactic(auto, using(crate::proofs::CheckSteps::checking))]
+fn check_by<const N: usize>(sheet: &[u8], charter: &[u8], output: &mut [u8]) -> Answer
+    requires ready { Ready sheet.now charter.now (replicate N 0) }
+    requires size { N < 2 ^ 32 }
     ensures { Checked sheet.now charter.now output.old output.new result }
 {
+    let mut table = [0u16; N];
     let mut nodes = [0u16; 384];
-    let judged = judge_read(sheet, charter, table, &mut nodes);
+    let judged = judge_read(sheet, charter, &mut table, &mut nodes);
     if judged.fault < 64 {
         return Answer::Refused(judged.fault);
     }
-    deliver(table, judged.components, output)
+    deliver(&table, judged.components, output)
 }
 
-// Checks a sheet against a charter. The answer and the output's final bytes are those of the definition `checked`, for any bytes
-// in all three slices. A sheet of at most four components has a small table to clear.
+/// Checks a sheet against a charter. The answer and the output's final bytes are those of the definition `checked`, for any bytes
+/// in all three slices. A sheet of at most four components has a small table to clear.
+#[tactic(auto, using(crate::proofs::CheckSteps::checking))]
 pub fn check(sheet: &[u8], charter: &[u8], output: &mut [u8]) -> Answer
     ensures { Checked sheet.now charter.now output.old output.new result }
 {
@@ -48,9 +53,7 @@ pub fn check(sheet: &[u8], charter: &[u8], output: &mut [u8]) -> Answer
         return Answer::Refused(refusal(read).question);
     };
     if components.value <= 4 {
-        let mut few = [0u16; 844];
-        return check_read(sheet, charter, &mut few, output);
+        return check_by::<FEW_CELLS>(sheet, charter, output);
     }
-    let mut table = [0u16; 6752];
-    check_read(sheet, charter, &mut table, output)
+    check_by::<CELLS>(sheet, charter, output)
 }

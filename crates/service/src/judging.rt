@@ -1,5 +1,5 @@
 // Questions 1 to 18 of a sheet and a charter: the first that fails.
-ghost use Rattle.std.specs.Prelude.{◌≡◌, ℕ, ◌<◌, ◌≤◌, length};
+ghost use Rattle.std.specs.Prelude.{◌≡◌, ℕ, ◌<◌, ◌≤◌, ◌^◌, length, replicate};
 ghost use Rattle.inference.specs.Rows.{Orderly, table_required};
 ghost use Rattle.service.specs.Questions.{judged};
 ghost use Rattle.service.specs.Told.{first_failed, Ready, JudgesLater, Judges};
@@ -7,6 +7,7 @@ ghost use Rattle.service.specs.Told.{first_failed, Ready, JudgesLater, Judges};
 use crate::Judged;
 use fit::entries::fit;
 use inference::sheet::infer;
+use inference::table::{CELLS, FEW_CELLS};
 use policy::read::{no_trees, read_policy};
 use reading::bytes::refusal;
 use reading::system::{read, why_none};
@@ -14,6 +15,7 @@ use reading::{End, NumberRead};
 use wellformed::questions::policy_fault;
 
 // Questions 11 to 18 of a charter and a table of components whose groups are in order, with a table for the charter's nodes: the first that fails, or 64.
+#[tactic(auto, using(crate::proofs::JudgeSteps::policy_judging))]
 fn judge_with(charter: &[u8], table: &[u16], components: usize, nodes: &mut [u16]) -> Judged
     requires { (components ≤ 32) × (length charter.now ≤ 4096) × (length nodes.old ≡ 384) }
     ensures { ((n : ℕ) → n < components → Orderly table.now n)
@@ -60,7 +62,8 @@ fn judge_with(charter: &[u8], table: &[u16], components: usize, nodes: &mut [u16
     }
 }
 
-// Questions 7 to 18 of a sheet that reads, with a clear table for its components and a table for the charter's nodes.
+/// Questions 7 to 18 of a sheet that reads, with a clear table for its components and a table for the charter's nodes.
+#[tactic(auto, using(crate::proofs::JudgeSteps::judging))]
 pub fn judge_read(sheet: &[u8], charter: &[u8], table: &mut [u16], nodes: &mut [u16]) -> Judged
     requires { Ready sheet.now charter.now table.old × (length nodes.old ≡ 384) }
     ensures { Judges sheet.now charter.now table.new nodes.new result }
@@ -77,7 +80,19 @@ pub fn judge_read(sheet: &[u8], charter: &[u8], table: &mut [u16], nodes: &mut [
     judge_with(charter, table, components, nodes)
 }
 
-// Questions 1 to 18 of a sheet and a charter: the first that fails, or 64.
+// The first of questions 7 to 18 that a sheet that reads fails, or 64, with a clear table of so many cells.
+fn first_failed_by<const N: usize>(sheet: &[u8], charter: &[u8]) -> usize
+    requires ready { Ready sheet.now charter.now (replicate N 0) }
+    requires size { N < 2 ^ 32 }
+    ensures { result ≡ first_failed (judged sheet.now charter.now) }
+{
+    let mut table = [0u16; N];
+    let mut nodes = [0u16; 384];
+    judge_read(sheet, charter, &mut table, &mut nodes).fault
+}
+
+/// Questions 1 to 18 of a sheet and a charter: the first that fails, or 64.
+#[tactic(auto, using(crate::proofs::JudgeSteps::judging))]
 pub fn first_failed(sheet: &[u8], charter: &[u8]) -> usize
     ensures { result ≡ first_failed (judged sheet.now charter.now) }
 {
@@ -85,13 +100,8 @@ pub fn first_failed(sheet: &[u8], charter: &[u8]) -> usize
     let NumberRead::Found(components) = read else {
         return refusal(read).question;
     };
-    let mut nodes = [0u16; 384];
     if components.value <= 4 {
-        let mut few = [0u16; 844];
-        let judged = judge_read(sheet, charter, &mut few, &mut nodes);
-        return judged.fault;
+        return first_failed_by::<FEW_CELLS>(sheet, charter);
     }
-    let mut table = [0u16; 6752];
-    let judged = judge_read(sheet, charter, &mut table, &mut nodes);
-    judged.fault
+    first_failed_by::<CELLS>(sheet, charter)
 }

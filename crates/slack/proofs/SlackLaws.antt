@@ -10,7 +10,7 @@ use lib.Seq.{drop-cons}
 use Rattle.inference.specs.Lists.{only, gather, rising}
 use Rattle.inference.specs.Counts.{is_zero}
 use Rattle.inference.specs.Interface.{Disclosure, Permission, reading, writing, accessing, head_then, holds_any, Required}
-use Rattle.inference.specs.Rows.{Orderly, is_set, cell, count_of, group_count, group_at, path_at, disclosures_at, entry_at, row_entries, table_entries}
+use Rattle.inference.specs.Rows.{Orderly, is_set, cell, group_count, path_at, disclosures_at, entry_at, row_entries, table_entries}
 use Rattle.interface.proofs.WriteLaws.{parts_from}
 use Rattle.interface.proofs.InterfaceLaws.{cond_few, set_count, disclosures_few, head_length, path_few, parts_few, row_parts, table_parts}
 use Rattle.sharing.specs.Sums.{Summed}

@@ -1,10 +1,11 @@
 -- What each return and each turn of a loop of the service has to show, over plain values.
 use Prim.Native.Nat.{ℕ, ◌+◌, ◌/◌, ◌%◌, ◌<◌, ◌≤◌}
 use mathlib.Core.Path.{◌≡◌, refl, sym, ◌∙◌}
-use mathlib.Core.List.{List, [], ◌∷◌}
+use mathlib.Core.List.{List, [], ◌∷◌, map}
 use mathlib.Core.Bool.{Bool, true, false, cond, not, ◌&&◌}
 use native.Mathlib.Omega.{arith}
 use lib.ListN.{length, take, get_or, length-map, length-take}
+use lib.Seq.{take_all}
 use borrow.Author.Rules.{rules}
 use borrow.Author.Tests.{lt-ltb, le-ltb, not-true, not-false}
 use Rattle.reading.proofs.TotalLaws.{both_left, both_right}
@@ -13,7 +14,7 @@ use Rattle.inference.specs.Counts.{count_number}
 use Rattle.inference.specs.Interface.{head_then, holds_any}
 use Rattle.inference.specs.Rows.{is_set, cell, entry_at}
 use Rattle.interface.specs.Writes.{Stored}
-use Rattle.interface.proofs.WriteLaws.{stored_none, stored_more, Writing, write_first, write_next, write_last}
+use Rattle.interface.proofs.WriteLaws.{stored_none, stored_more, parts_from, Writing, write_first, write_next, write_last}
 use Rattle.interface.proofs.InterfaceLaws.{head_then_lem}
 use Rattle.sharing.specs.Sums.{sum_count}
 use Rattle.policy.specs.declared.Trees.{Trees}
@@ -54,34 +55,37 @@ none = record { group = 0; needed = 0; granted = 0 }
 unfoldable pub sum_part : List Sum → ℕ → List ℕ
 sum_part items i = verdict_bytes (sum_verdict (get_or items i none))
 
-module _ (o : List ℕ) (at : ℕ) (s : Sums) where
-  pub each_first : Writing (sum_part s.items) 5 s.len o at o at 0
-  each_first = write_first (sum_part s.items) 5 s.len o at (λ j. unfold sum_part in verdict_few (sum_verdict (get_or s.items j none)))
+module _ (o : List ℕ) (at : ℕ) (xs : List Sum) where
+  pub each_first : Writing (sum_part xs) 5 (length xs) o at o at 0
+  each_first = write_first (sum_part xs) 5 (length xs) o at (λ j. unfold sum_part in verdict_few (sum_verdict (get_or xs j none)))
 
-  pub each_next : {o₁ o₂ : List ℕ} {m r i : ℕ} → Writing (sum_part s.items) 5 s.len o at o₁ m i → i < s.len
-      → Stored o₁ o₂ m (verdict_bytes (sum_verdict (get_or s.items i none))) r → Writing (sum_part s.items) 5 s.len o at o₂ r (i + 1)
+  pub each_next : {o₁ o₂ : List ℕ} {m r i : ℕ} → Writing (sum_part xs) 5 (length xs) o at o₁ m i → i < length xs
+      → Stored o₁ o₂ m (verdict_bytes (sum_verdict (get_or xs i none))) r → Writing (sum_part xs) 5 (length xs) o at o₂ r (i + 1)
   each_next w h t = write_next w h (unfold sum_part in t)
 
-  pub each_last : {o₁ : List ℕ} {m i : ℕ} → Writing (sum_part s.items) 5 s.len o at o₁ m i → s.len ≤ i → s.len ≤ 8 → length s.items ≡ 8
-      → Stored o o₁ at (gather verdict_bytes (sum_verdicts s)) m
-  unfolding sum_verdicts
-  each_last w h few l =
-      rw (gather_map verdict_bytes sum_verdict (take s.len s.items), ← parts_are (λ x. verdict_bytes (sum_verdict x)) s.items none s.len (omega arith))
+  pub each_last : {o₁ : List ℕ} {m i : ℕ} → Writing (sum_part xs) 5 (length xs) o at o₁ m i → length xs ≤ i
+      → Stored o o₁ at (gather verdict_bytes (map sum_verdict xs)) m
+  each_last w h =
+      rw (gather_map verdict_bytes sum_verdict xs, ← whole)
       (unfold sum_part in write_last w h)
+    where
+      whole : parts_from (λ i. verdict_bytes (sum_verdict (get_or xs i none))) (length xs) 0 ≡ gather (λ x. verdict_bytes (sum_verdict x)) xs
+      whole = parts_are (λ x. verdict_bytes (sum_verdict x)) xs none (length xs) (omega arith) ∙ rw (take_all (length xs) xs (omega arith)) refl
 
-  -- how many, and each
-  sums_long : s.len ≤ 8 → length s.items ≡ 8 → length (sum_verdicts s) ≡ s.len
-  unfolding sum_verdicts
-  sums_long few l = length-map (take s.len s.items) sum_verdict ∙ omega (arith, length-take s.len s.items)
-
+-- How many, and each.
+module _ (o : List ℕ) (at : ℕ) (s : Sums) where
   pub sums_none : s.len ≡ 0 → Stored o o at (sums_bytes (sum_verdicts s)) at
   unfolding sum_verdicts sums_bytes
   sums_none e = rw e (stored_none o at)
 
   pub sums_some : {o₁ o₂ : List ℕ} {a r : ℕ} → (s.len ≡ 0 → ⊥) → s.len ≤ 8 → length s.items ≡ 8 → Stored o o₁ at (s.len ∷ []) a
-      → Stored o₁ o₂ a (gather verdict_bytes (sum_verdicts s)) r → Stored o o₂ at (sums_bytes (sum_verdicts s)) r
-  sums_some {o₁} {o₂} {a} {r} h few l t u = go (sum_verdicts s) (sums_long few l) u
+      → Stored o₁ o₂ a (gather verdict_bytes (map sum_verdict (take s.len s.items))) r → Stored o o₂ at (sums_bytes (sum_verdicts s)) r
+  unfolding sum_verdicts
+  sums_some {o₁} {o₂} {a} {r} h few l t u = go (map sum_verdict (take s.len s.items)) long u
     where
+      long : length (map sum_verdict (take s.len s.items)) ≡ s.len
+      long = length-map (take s.len s.items) sum_verdict ∙ omega (arith, length-take s.len s.items)
+
       go : (vs : List _) → length vs ≡ s.len → Stored o₁ o₂ a (gather verdict_bytes vs) r → Stored o o₂ at (sums_bytes vs) r
       go [] e v = absurd (h (sym e))
       go (x ∷ vs) e v = unfold sums_bytes in stored_more (rw (← e) at t) v

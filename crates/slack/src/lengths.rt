@@ -4,29 +4,31 @@ ghost use Rattle.inference.specs.Rows.{path_at};
 ghost use Rattle.policy.specs.declared.Trees.{Trees};
 ghost use Rattle.slack.specs.Rows.{slack_at, slack_row, slack_rows};
 
-use inference::rows::{path_len, path_of};
-use interface::{disclosed_groups, is_used, map_at};
+use inference::rows::path_len;
+use inference::table::{Entry, KINDS, Row};
+use interface::{disclosed_groups, map_at};
 
 // The length of an entry up to its map, the same for every kind.
-fn head_len(table: &[u16], component: usize) -> usize
-    requires { component < 32 }
-    ensures value { result ≡ 4 + length (path_at table.now component) }
+#[tactic(auto, using(crate::proofs::LengthSteps::length_steps))]
+fn head_len(row: Row) -> usize
+    ensures value { result ≡ 4 + length (path_at row.entry.table.now row.entry.component) }
     ensures few { result ≤ 12 }
 {
-    4 + path_len(path_of(table, component))
+    4 + path_len(row.path())
 }
 
 // The length of an entry with its slack, five bytes for each group that it discloses to; 0 where there is no entry.
-fn entry_len(table: &[u16], component: usize, kind: usize, head: usize) -> usize
-    requires { (component < 32) × (kind < 16) × (head ≡ 4 + length (path_at table.now component)) × (head ≤ 12) }
+#[tactic(auto, using(crate::proofs::LengthSteps::length_steps))]
+fn entry_len(entry: Entry, head: usize) -> usize
+    requires { (head ≡ 4 + length (path_at entry.table.now entry.component)) × (head ≤ 12) }
     ensures { (c nodes : List ℕ) (trees : Trees) (sums : List ℕ)
-        → result ≡ length (slack_at c nodes trees table.now sums component kind) }
+        → result ≡ length (slack_at c nodes trees entry.entry.table.now sums entry.entry.component entry.entry.kind) }
 {
-    if !is_used(table, component, kind) {
+    if !entry.is_used() {
         return 0;
     }
-    let groups = disclosed_groups(table, component, kind);
-    if map_at(table, component, kind, groups) == 0 {
+    let groups = disclosed_groups(entry.table, entry.component, entry.kind);
+    if map_at(entry.table, entry.component, entry.kind, groups) == 0 {
         return 0;
     }
     if groups == 0 {
@@ -36,32 +38,29 @@ fn entry_len(table: &[u16], component: usize, kind: usize, head: usize) -> usize
 }
 
 // The length of the entries of a component.
-fn row_len(table: &[u16], component: usize) -> usize
-    requires { component < 32 }
+#[tactic(auto, using(crate::proofs::LengthSteps::length_steps))]
+fn row_len(row: Row) -> usize
     ensures { (c nodes : List ℕ) (trees : Trees) (sums : List ℕ)
-        → result ≡ length (slack_row c nodes trees table.now sums component) }
+        → result ≡ length (slack_row c nodes trees row.entry.table.now sums row.entry.component) }
 {
-    let head = head_len(table, component);
-    let mut len: usize = 0;
-    let mut kind: usize = 0;
-    while kind < 16 {
-        len += entry_len(table, component, kind, head);
-        kind += 1;
+    let head = head_len(row);
+    let mut len = 0;
+    for kind in 0..KINDS {
+        len += entry_len(row.entry(kind), head);
     }
     len
 }
 
-// The length of the slack: whatever the policy and the sums, it is the same.
+/// The length of the slack: whatever the policy and the sums, it is the same.
+#[tactic(auto, using(crate::proofs::LengthSteps::length_steps))]
 pub fn slack_len(table: &[u16], components: usize) -> usize
     requires { components ≤ 32 }
     ensures { (c nodes : List ℕ) (trees : Trees) (sums : List ℕ)
         → result ≡ length (slack_rows c nodes trees table.now sums components) }
 {
-    let mut len: usize = 0;
-    let mut component: usize = 0;
-    while component < components {
-        len += row_len(table, component);
-        component += 1;
+    let mut len = 0;
+    for component in 0..components {
+        len += row_len(Row::new(table, component));
     }
     len
 }

@@ -2,13 +2,13 @@
 // (document 02, Q-5).
 #![tactic(auto)]
 
-ghost use Rattle.std.specs.Prelude.{◌≡◌, List, ℕ, ◌+◌, ◌<◌, ◌≤◌, length};
+ghost use Rattle.std.specs.Prelude.{◌≡◌, List, ℕ, ◌+◌, ◌<◌, ◌≤◌, length, map, replicate, ◌^◌};
 ghost use Rattle.inference.specs.Counts.{count_number};
 ghost use Rattle.inference.specs.Interface.{head_then};
 ghost use Rattle.inference.specs.Lists.{only, gather};
 ghost use Rattle.inference.specs.Rows.{entry_at};
 ghost use Rattle.interface.specs.Writes.{Stored};
-ghost use Rattle.sharing.specs.Sums.{sum_count};
+ghost use Rattle.sharing.specs.Sums.{sum_count, add_rows};
 ghost use Rattle.policy.specs.Loads.{Bounded};
 ghost use Rattle.fit.specs.Covers.{sum_verdict, sum_verdicts, verdicts_of};
 ghost use Rattle.service.specs.Told.{Ready, Delivered, Judges};
@@ -22,8 +22,9 @@ use crate::lengths::slack_len;
 use fit::cover::entry_covering;
 use fit::entries::has_entry;
 use fit::{Covering, Sum, Sums};
+use inference::table::{CELLS, Entry, FEW_CELLS, KINDS, Row};
 use interface::{disclosed_groups, map_at, put, put_head};
-use policy::Trees;
+use policy::Policy;
 use reading::NumberRead;
 use reading::bytes::refusal;
 use reading::system::read;
@@ -32,6 +33,7 @@ use service::{Answer, Judged};
 use sharing::{any_shared, sum_classes};
 
 // A sum as it is stored: 65,535 is unlimited.
+#[tactic(auto, using(crate::proofs::SlackSteps::slack_steps))]
 fn number_of(sum: usize) -> usize
     ensures { result ≡ count_number (sum_count sum) }
 {
@@ -39,6 +41,7 @@ fn number_of(sum: usize) -> usize
 }
 
 // Writes a sum in two bytes, the low byte first.
+#[tactic(auto, using(crate::proofs::SlackSteps::slack_steps))]
 fn put_count(sum: usize, out: &mut [u8], at: usize) -> usize
     requires { at < 4200000000 }
     ensures stored { Stored out.old out.new at (count_bytes (sum_count sum)) result }
@@ -50,6 +53,7 @@ fn put_count(sum: usize, out: &mut [u8], at: usize) -> usize
 }
 
 // Writes a group, what is needed, and what is granted.
+#[tactic(auto, using(crate::proofs::SlackSteps::slack_steps))]
 fn put_sum(sum: Sum, out: &mut [u8], at: usize) -> usize
     requires { at < 4100000000 }
     ensures { Stored out.old out.new at (verdict_bytes (sum_verdict sum)) result }
@@ -60,189 +64,164 @@ fn put_sum(sum: Sum, out: &mut [u8], at: usize) -> usize
 }
 
 // Writes the sums of an entry.
-fn put_each(sums: Sums, out: &mut [u8], at: usize) -> usize
-    requires { (sums.len ≤ 8) × (at < 4050000000) }
-    ensures { Stored out.old out.new at (gather verdict_bytes (sum_verdicts sums)) result }
+#[tactic(auto, using(crate::proofs::SlackSteps::slack_steps))]
+fn put_each(sums: &[Sum], out: &mut [u8], at: usize) -> usize
+    requires { (length sums.now ≤ 8) × (at < 4050000000) }
+    ensures { Stored out.old out.new at (gather verdict_bytes (map sum_verdict sums.now)) result }
 {
-    let items = sums.items;
-    let len = sums.len;
     let mut next = at;
-    let mut i: usize = 0;
-    while i < len {
-        next = put_sum(items[i], out, next);
-        i += 1;
+    for &sum in sums {
+        next = put_sum(sum, out, next);
     }
     next
 }
 
 // Writes how many sums an entry has, and the sums, where there are any.
+#[tactic(auto, using(crate::proofs::SlackSteps::slack_steps))]
 fn put_sums(sums: Sums, out: &mut [u8], at: usize) -> usize
     requires { (sums.len ≤ 8) × (at < 4000000000) }
     ensures { Stored out.old out.new at (sums_bytes (sum_verdicts sums)) result }
 {
-    let len = sums.len;
-    if len == 0 {
+    if sums.len == 0 {
         return at;
     }
-    let next = put(out, at, len);
-    put_each(sums, out, next)
+    let next = put(out, at, sums.len);
+    put_each(&sums.items[..sums.len], out, next)
 }
 
 // Writes an entry with its slack.
-fn put_entry(
-    table: &[u16],
-    component: usize,
-    kind: usize,
-    found: Covering,
-    out: &mut [u8],
-    at: usize,
-) -> usize
-    requires { (component < 32) × (kind < 16) × (found.sums.len ≤ 8) × (at < 3000000000) }
+#[tactic(auto, using(crate::proofs::SlackSteps::slack_steps))]
+fn put_entry(entry: Entry, found: Covering, out: &mut [u8], at: usize) -> usize
+    requires { (found.sums.len ≤ 8) × (at < 3000000000) }
     ensures { Stored out.old out.new at
-        (head_then (entry_at table.now component kind) (sums_bytes (only on_group (verdicts_of found)))) result }
+        (head_then (entry_at entry.entry.table.now entry.entry.component entry.entry.kind) (sums_bytes (only on_group (verdicts_of found)))) result }
 {
+    let Entry {
+        table,
+        component,
+        kind,
+    } = entry;
     let groups = disclosed_groups(table, component, kind);
     let map = map_at(table, component, kind, groups);
     let next = put_head(table, component, kind, map, out, at);
     put_sums(found.sums, out, next)
 }
 
-// Writes the entry of a component and a kind, where there is one.
-fn put_kind(
-    c: &[u8],
-    nodes: &[u16],
-    trees: Trees,
-    table: &[u16],
-    sums: &[u32],
-    component: usize,
-    kind: usize,
-    out: &mut [u8],
-    at: usize,
-) -> usize
-    requires { (component < 32) × (kind < 16) × Bounded trees × (length nodes.now ≡ 384) × (at < 3000000000) }
-    ensures { Stored out.old out.new at
-        (slack_at c.now nodes.now trees table.now sums.now component kind) result }
-{
-    if !has_entry(table, component, kind) {
-        return at;
-    }
-    let found = entry_covering(c, nodes, trees, table, sums, component, kind);
-    put_entry(table, component, kind, found, out, at)
+// What the slack is told from: the policy, and the sums of what the classes of the components need.
+#[derive(Clone, Copy)]
+struct Case<'a> {
+    policy: Policy<'a>,
+    sums: &'a [u32],
 }
 
-// Writes the entries of a component.
-fn put_row(
-    c: &[u8],
-    nodes: &[u16],
-    trees: Trees,
-    table: &[u16],
-    sums: &[u32],
-    component: usize,
-    out: &mut [u8],
-    at: usize,
-) -> usize
-    requires { (component < 32) × Bounded trees × (length nodes.now ≡ 384) × (at < 2000000000) }
-    ensures { Stored out.old out.new at
-        (slack_row c.now nodes.now trees table.now sums.now component) result }
-{
-    let mut next = at;
-    let mut kind: usize = 0;
-    while kind < 16 {
-        next = put_kind(c, nodes, trees, table, sums, component, kind, out, next);
-        kind += 1;
+impl Case<'_> {
+    // Writes an entry, where there is one.
+    #[tactic(auto, using(crate::proofs::SlackSteps::slack_steps))]
+    fn put_kind(&self, entry: Entry, out: &mut [u8], at: usize) -> usize
+        requires { at < 3000000000 }
+        ensures { Stored out.old out.new at
+            (slack_at self.now.policy.charter.now self.now.policy.nodes.now self.now.policy.trees entry.entry.table.now self.now.sums.now entry.entry.component entry.entry.kind) result }
+    {
+        if !has_entry(entry.table, entry.component, entry.kind) {
+            return at;
+        }
+        let found = entry_covering(
+            self.policy.charter,
+            self.policy.nodes,
+            self.policy.trees,
+            entry.table,
+            self.sums,
+            entry.component,
+            entry.kind,
+        );
+        put_entry(entry, found, out, at)
     }
-    next
+
+    // Writes the entries of a component.
+    #[tactic(auto, using(crate::proofs::SlackSteps::slack_steps))]
+    fn put_row(&self, row: Row, out: &mut [u8], at: usize) -> usize
+        requires { at < 2000000000 }
+        ensures { Stored out.old out.new at
+            (slack_row self.now.policy.charter.now self.now.policy.nodes.now self.now.policy.trees row.entry.table.now self.now.sums.now row.entry.component) result }
+    {
+        let mut next = at;
+        for kind in 0..KINDS {
+            next = self.put_kind(row.entry(kind), out, next);
+        }
+        next
+    }
+
+    // Writes the slack of the components of a table from the output's first byte on; the number of bytes written.
+    #[tactic(auto, using(crate::proofs::SlackSteps::slack_steps))]
+    fn write(&self, table: &[u16], components: usize, out: &mut [u8]) -> usize
+        requires { components ≤ 32 }
+        ensures { Stored out.old out.new 0
+            (slack_rows self.now.policy.charter.now self.now.policy.nodes.now self.now.policy.trees table.now self.now.sums.now components) result }
+    {
+        let mut next = 0;
+        for component in 0..components {
+            next = self.put_row(Row::new(table, component), out, next);
+        }
+        next
+    }
+
+    // Question 19, and the slack.
+    #[tactic(auto, using(crate::proofs::LengthSteps::length_steps))]
+    fn deliver(&self, table: &[u16], components: usize, output: &mut [u8]) -> Answer
+        requires { components ≤ 32 }
+        ensures { Delivered
+            (slack_rows self.now.policy.charter.now self.now.policy.nodes.now self.now.policy.trees table.now self.now.sums.now components)
+            output.old output.new result }
+    {
+        let len = slack_len(table, components);
+        if output.len() < len {
+            return Answer::Refused(19);
+        }
+        self.write(table, components, output);
+        Answer::Accepted(len)
+    }
 }
 
-// Writes the slack from the output's first byte on; the number of bytes written.
-fn write_slack(
-    c: &[u8],
-    nodes: &[u16],
-    trees: Trees,
-    table: &[u16],
-    sums: &[u32],
-    components: usize,
-    out: &mut [u8],
-) -> usize
-    requires { (components ≤ 32) × Bounded trees × (length nodes.now ≡ 384) }
-    ensures { Stored out.old out.new 0
-        (slack_rows c.now nodes.now trees table.now sums.now components) result }
-{
-    let mut next: usize = 0;
-    let mut component: usize = 0;
-    while component < components {
-        next = put_row(c, nodes, trees, table, sums, component, out, next);
-        component += 1;
-    }
-    next
-}
-
-// Question 19, and the slack, by the sums of the classes.
-fn deliver(
-    c: &[u8],
-    nodes: &[u16],
-    trees: Trees,
-    table: &[u16],
-    sums: &[u32],
-    components: usize,
-    output: &mut [u8],
-) -> Answer
-    requires { (components ≤ 32) × Bounded trees × (length nodes.now ≡ 384) }
-    ensures { Delivered (slack_rows c.now nodes.now trees table.now sums.now components)
-        output.old output.new result }
-{
-    let len = slack_len(table, components);
-    if output.len() < len {
-        return Answer::Refused(19);
-    }
-    write_slack(c, nodes, trees, table, sums, components, output);
-    Answer::Accepted(len)
-}
-
-// The same with the sums made first, in clear memory.
-fn deliver_shared(
-    c: &[u8],
-    nodes: &[u16],
-    trees: Trees,
+// Question 19, and the slack by sums of the classes that are made first, in clear memory of so many numbers.
+fn deliver_summed<const N: usize>(
+    policy: Policy,
     table: &[u16],
     components: usize,
     output: &mut [u8],
 ) -> Answer
-    requires { (components ≤ 32) × Bounded trees × (length nodes.now ≡ 384) }
-    ensures { DeliveredSlack c.now nodes.now trees table.now components
+    requires { (components ≤ 32) × (N < 2 ^ 32) }
+    ensures { Delivered
+        (slack_rows policy.entry.charter.now policy.entry.nodes.now policy.entry.trees table.now (add_rows (replicate N 0) table.now 0 components) components)
         output.old output.new result }
 {
-    if components <= 4 {
-        let mut few = [0u32; 516];
-        sum_classes(table, components, &mut few);
-        return deliver(c, nodes, trees, table, &few, components, output);
-    }
-    let mut sums = [0u32; 4128];
+    let mut sums = [0u32; N];
     sum_classes(table, components, &mut sums);
-    deliver(c, nodes, trees, table, &sums, components, output)
+    let case = Case {
+        policy,
+        sums: &sums,
+    };
+    case.deliver(table, components, output)
 }
 
-// The same for any components. Where none of them share a count, no sums are made.
-fn deliver_slack(
-    c: &[u8],
-    nodes: &[u16],
-    trees: Trees,
-    table: &[u16],
-    components: usize,
-    output: &mut [u8],
-) -> Answer
-    requires { (components ≤ 32) × Bounded trees × (length nodes.now ≡ 384) }
-    ensures { DeliveredSlack c.now nodes.now trees table.now components
+// The slack of any components. Where none of them share a count, no sums are made; for four components or fewer, few.
+#[tactic(auto, using(crate::proofs::TellSteps::telling))]
+fn deliver_slack(policy: Policy, table: &[u16], components: usize, output: &mut [u8]) -> Answer
+    requires { components ≤ 32 }
+    ensures { DeliveredSlack policy.entry.charter.now policy.entry.nodes.now policy.entry.trees table.now components
         output.old output.new result }
 {
-    if any_shared(table, components) {
-        return deliver_shared(c, nodes, trees, table, components, output);
+    if !any_shared(table, components) {
+        let case = Case { policy, sums: &[] };
+        return case.deliver(table, components, output);
     }
-    let none = [0u32; 0];
-    deliver(c, nodes, trees, table, &none, components, output)
+    if components <= 4 {
+        return deliver_summed::<516>(policy, table, components, output);
+    }
+    deliver_summed::<4128>(policy, table, components, output)
 }
 
-// What `slack` answers, from what questions 1 to 18 came to and the tables that they left.
+/// What `slack` answers, from what questions 1 to 18 came to and the tables that they left.
+#[tactic(auto, using(crate::proofs::TellSteps::telling))]
 pub fn slack_judged(
     charter: &[u8],
     nodes: &[u16],
@@ -257,28 +236,30 @@ pub fn slack_judged(
     if judged.fault < 64 {
         return Answer::Refused(judged.fault);
     }
-    deliver_slack(
+    let policy = Policy {
         charter,
         nodes,
-        judged.trees,
-        table,
-        judged.components,
-        output,
-    )
+        trees: judged.trees,
+    };
+    deliver_slack(policy, table, judged.components, output)
 }
 
-// The slack of a sheet that reads, with a clear table for its components.
-fn slack_read(sheet: &[u8], charter: &[u8], table: &mut [u16], output: &mut [u8]) -> Answer
-    requires { Ready sheet.now charter.now table.old }
+// The slack of a sheet that reads, with a clear table of so many cells, which has a row for each of its components.
+#[tactic(auto, using(crate::proofs::TellSteps::telling))]
+fn slack_by<const N: usize>(sheet: &[u8], charter: &[u8], output: &mut [u8]) -> Answer
+    requires ready { Ready sheet.now charter.now (replicate N 0) }
+    requires size { N < 2 ^ 32 }
     ensures { Tells sheet.now charter.now output.old output.new result }
 {
+    let mut table = [0u16; N];
     let mut nodes = [0u16; 384];
-    let judged = judge_read(sheet, charter, table, &mut nodes);
-    slack_judged(charter, &nodes, table, judged, output)
+    let judged = judge_read(sheet, charter, &mut table, &mut nodes);
+    slack_judged(charter, &nodes, &table, judged, output)
 }
 
-// Tells the slack of a sheet under a charter. The answer and the output's final bytes are those of the definition `slack_told`, for any
-// bytes in all three slices. A sheet of at most four components has a small table to clear.
+/// Tells the slack of a sheet under a charter. The answer and the output's final bytes are those of the definition `slack_told`, for any
+/// bytes in all three slices. A sheet of at most four components has a small table to clear.
+#[tactic(auto, using(crate::proofs::TellSteps::telling))]
 pub fn slack(sheet: &[u8], charter: &[u8], output: &mut [u8]) -> Answer
     ensures { Tells sheet.now charter.now output.old output.new result }
 {
@@ -287,9 +268,7 @@ pub fn slack(sheet: &[u8], charter: &[u8], output: &mut [u8]) -> Answer
         return Answer::Refused(refusal(read).question);
     };
     if components.value <= 4 {
-        let mut few = [0u16; 844];
-        return slack_read(sheet, charter, &mut few, output);
+        return slack_by::<FEW_CELLS>(sheet, charter, output);
     }
-    let mut table = [0u16; 6752];
-    slack_read(sheet, charter, &mut table, output)
+    slack_by::<CELLS>(sheet, charter, output)
 }

@@ -16,6 +16,7 @@ use service::checking::check;
 use slack::slack;
 
 // An answer as one number. No length comes near the bound; one that did would be told as 63, which is no question's number.
+#[tactic(auto, using(crate::proofs::CodeSteps::code_steps))]
 fn code(answer: Answer) -> u64
     ensures { result ≡ code_of (told answer) }
 {
@@ -25,51 +26,58 @@ fn code(answer: Answer) -> u64
     }
 }
 
-// Checks a sheet against a charter, and writes the interface into the output.
+/// Checks a sheet against a charter, and writes the interface into the output.
+#[tactic(auto, using(crate::proofs::CodeSteps::code_steps))]
 pub fn velimhaw_check(sheet: &[u8], charter: &[u8], output: &mut [u8]) -> u64
     ensures { CheckedAs sheet.now charter.now output.old output.new result }
 {
     code(check(sheet, charter, output))
 }
 
-// Plays a script on a sheet that its charter accepts, and writes a record of eight bytes for each move into the log.
+/// Plays a script on a sheet that its charter accepts, and writes a record of eight bytes for each move into the log.
+#[tactic(auto, using(crate::proofs::CodeSteps::code_steps))]
 pub fn velimhaw_play(sheet: &[u8], charter: &[u8], script: &[u8], log: &mut [u8]) -> u64
     ensures { PlayedAs sheet.now charter.now script.now log.old log.new result }
 {
     code(play(sheet, charter, script, log))
 }
 
-// Writes the sentence for the first uncovered permission of a sheet that question 18 refuses into the line; 64 where the sheet passes
-// questions 1 to 18.
+/// Writes the sentence for the first uncovered permission of a sheet that question 18 refuses into the line; 64 where the sheet passes
+/// questions 1 to 18.
+#[tactic(auto, using(crate::proofs::CodeSteps::code_steps))]
 pub fn velimhaw_explain(sheet: &[u8], charter: &[u8], names: &[u8], line: &mut [u8]) -> u64
     ensures { ExplainedAs sheet.now charter.now names.now line.old line.new result }
 {
     code(explain(sheet, charter, names, line))
 }
 
-// Writes for each entry of a sheet that its charter accepts, and for each group that it discloses to, the granted sum beside the needed
-// one into the output.
+/// Writes for each entry of a sheet that its charter accepts, and for each group that it discloses to, the granted sum beside the needed
+/// one into the output.
+#[tactic(auto, using(crate::proofs::CodeSteps::code_steps))]
 pub fn velimhaw_slack(sheet: &[u8], charter: &[u8], output: &mut [u8]) -> u64
     ensures { ToldAs sheet.now charter.now output.old output.new result }
 {
     code(slack(sheet, charter, output))
 }
 
-// Writes the new form of an old sheet, purpose 0 at each component, into the output.
+/// Writes the new form of an old sheet, purpose 0 at each component, into the output.
+#[tactic(auto, using(crate::proofs::CodeSteps::code_steps))]
 pub fn velimhaw_upgrade(sheet: &[u8], output: &mut [u8]) -> u64
     ensures { UpgradedAs sheet.now output.old output.new result }
 {
     code(upgrade(sheet, output))
 }
 
-// Writes the old form of a sheet whose components all have purpose 0 into the output.
+/// Writes the old form of a sheet whose components all have purpose 0 into the output.
+#[tactic(auto, using(crate::proofs::CodeSteps::code_steps))]
 pub fn velimhaw_downgrade(sheet: &[u8], output: &mut [u8]) -> u64
     ensures { DowngradedAs sheet.now output.old output.new result }
 {
     code(downgrade(sheet, output))
 }
 
-// Is charter `a` no looser than charter `b`? 1 for yes, 0 for no.
+/// Is charter `a` no looser than charter `b`? 1 for yes, 0 for no.
+#[tactic(auto, using(crate::proofs::CodeSteps::code_steps))]
 pub fn velimhaw_no_looser(a: &[u8], b: &[u8]) -> u64
     ensures { ComparedAs a.now b.now result }
 {

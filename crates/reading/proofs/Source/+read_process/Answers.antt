@@ -29,4 +29,4 @@ pub overflow_add-spot : goal.overflow_add-spot
 overflow_add-spot t c = search process_steps
 
 pub returns-in-Group : goal.returns-in-Group
-returns-in-Group t c = search process_steps
+returns-in-Group t c = rw c.at.ensures (search process_steps)

@@ -35,4 +35,4 @@ pub returns-in-Component : goal.returns-in-Component
 returns-in-Component t c = search system_steps
 
 pub returns-in-Input : goal.returns-in-Input
-returns-in-Input t c = search system_steps
+returns-in-Input t c = rw c.at.ensures (search system_steps)

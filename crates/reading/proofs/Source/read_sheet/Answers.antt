@@ -13,4 +13,4 @@ pub returns-then-system-self : goal.returns-then-system-self
 returns-then-system-self c = search sheet_steps
 
 pub returns-else-system-self : goal.returns-else-system-self
-returns-else-system-self c = search sheet_steps
+returns-else-system-self c = rw c.at.ensures (search sheet_steps)

@@ -5,7 +5,7 @@ use Prim.Native.Nat.{◌-◌}
 use Rattle.script.proofs.moves.count_moves.Given as goal
 
 abbrev pub invariant-loop-at : goal.invariant-loop-at
-invariant-loop-at l = Turn l.s l.at l.n
+invariant-loop-at l = Turn l.s l.at l.count
 
 abbrev pub decreases-loop-at : goal.decreases-loop-at
-decreases-loop-at l = 1024 - l.n
+decreases-loop-at l = 1024 - l.count

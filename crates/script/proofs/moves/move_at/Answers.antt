@@ -23,6 +23,6 @@ pub returns-in-5 : goal.returns-in-5
 unfolding move_at
 returns-in-5 c = search move_steps
 
-pub returns-in_default-code : goal.returns-in_default-code
+pub returns-in_default-value : goal.returns-in_default-value
 unfolding move_at
-returns-in_default-code c = search move_steps
+returns-in_default-value c = search move_steps

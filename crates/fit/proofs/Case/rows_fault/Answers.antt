@@ -1,0 +1,12 @@
+-- The components done so far and those left give the whole (`RowsSoFar`); each component's answer is `row_fault`'s.
+use Rattle.fit.proofs.EntryLaws.{fault_steps}
+use Rattle.fit.proofs.Case.rows_fault.Goals as goal
+
+pub loop-component-init : goal.loop-component-init
+loop-component-init c = search fault_steps
+
+pub loop-component-preserved : goal.loop-component-preserved
+loop-component-preserved c = search fault_steps
+
+pub returns : goal.returns
+returns c = search fault_steps

@@ -1,0 +1,5 @@
+use Rattle.listing.proofs.ListingSteps.{listing_steps}
+use Rattle.listing.proofs.Text.put_flags.Goals as goal
+
+pub returns-clause-put : goal.returns-clause-put
+returns-clause-put c = search listing_steps

@@ -1,8 +1,0 @@
--- A mark and a count, stored one after the other, at most six bytes.
-use Rattle.listing.proofs.ListingSteps.{listing_steps}
-use borrow.Author.Rules.{rules}
-use Rattle.listing.proofs.put_marked.Statement.{statement}
-use Rattle.listing.proofs.put_marked.Tie as tie
-
-pub put_marked_spec : {M : Type 1} → statement M
-put_marked_spec = tie.close (tie.spec (λ c κs. search rules) (λ c κs. search rules) (λ c. search rules) (λ c. search listing_steps))

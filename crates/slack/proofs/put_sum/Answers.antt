@@ -1,0 +1,6 @@
+-- A group and two sums: five bytes stored one after the other.
+use Rattle.slack.proofs.SlackSteps.{slack_steps}
+use Rattle.slack.proofs.put_sum.Goals as goal
+
+pub returns : goal.returns
+returns c = search slack_steps

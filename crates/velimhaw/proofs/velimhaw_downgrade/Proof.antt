@@ -1,8 +1,0 @@
--- The contract of `downgrade`, its answer told as a number (CodeSteps.antt).
-use Rattle.velimhaw.proofs.CodeSteps.{code_steps}
-use borrow.Author.Rules.{rules}
-use Rattle.velimhaw.proofs.velimhaw_downgrade.Statement.{statement}
-use Rattle.velimhaw.proofs.velimhaw_downgrade.Tie as tie
-
-pub velimhaw_downgrade_spec : {M : Type 1} → statement M
-velimhaw_downgrade_spec = tie.close (tie.spec (λ c κs. search rules) (λ c κs. search rules) (λ c. search rules) (λ c. search code_steps))
