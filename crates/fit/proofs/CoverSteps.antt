@@ -30,9 +30,12 @@ use Rattle.fit.specs.Satisfies.{Verdict, flag, counts, holds}
 use Rattle.fit.proofs.GrantSteps.{one_left}
 use Rattle.std.specs.Prelude.{Option as Answer, Some, None, IfSome}
 use Rattle.std.specs.Option.{unwrap_or}
-use Rattle.fit.specs.Uncovered.{permission_of}
+use Rattle.fit.specs.Uncovered.{permission_of, first, or_none}
+use mathlib.Core.Option.{some}
+use Rattle.fit.specs.declared.Permission.{Permission as Told}
+use Rattle.fit.specs.declared.Permission.TheVariants.{Read, Write, Access, Disclose}
 use Rattle.fit.specs.Givers.{given_at, granting_rows, joined_at, givers_in, index_of}
-use Rattle.fit.specs.Covers.{flag_verdicts, is_lacking, flags_then, sum_verdict, sum_verdicts, verdicts_of, all_given, flag_given, flag_at, flags_at, place_verdict, places_from, verdicts_at, number_of, lacking_in, tree_rows_of, span_for, verdicts_for, CoveringIs}
+use Rattle.fit.specs.Covers.{flag_verdicts, is_lacking, flags_then, sum_verdict, sum_verdicts, verdicts_of, all_given, flag_given, flag_at, flags_at, place_verdict, places_from, verdicts_at, told_in, lacking_in, tree_rows_of, span_for, verdicts_for, CoveringIs}
 
 unset : (n : ℕ) → n ≡ 0 → is_set n ≡ false
 unfolding is_set
@@ -145,29 +148,29 @@ module _ (s : Sums) (items : List Sum) (is : items ≡ take s.len s.items) (i : 
   unfolding sum_verdicts
   all_of = ap (λ (l : List Sum). lacking_in (map sum_verdict l)) (sym is) ∙ so.same
 
-  pub short_end : length items ≤ i → 67 ≡ lacking_in (sum_verdicts s)
-  unfolding lacking_in
+  pub short_end : length items ≤ i → told_in None ≡ lacking_in (sum_verdicts s)
+  unfolding lacking_in first or_none
   short_end h = sym (rw (drop_of_length-le items {i = i} h) at all_of)
 
   module _ (here : i < length items) (d : Sum) (b : Bool)
       (e : b ≡ at_most (sum_count (get_or items i d).needed) (sum_count (get_or items i d).granted)) where
-    pub short_here : not b ≡ true → (get_or items i d).group ≡ lacking_in (sum_verdicts s)
-    unfolding lacking_in sum_verdict holds permission_of number_of
-    short_here f = sym (rw (one_left items i d here, ← e, not-true b f) at all_of)
+    pub short_here : not b ≡ true → told_in (Some (Disclose (get_or items i d).group)) ≡ lacking_in (sum_verdicts s)
+    unfolding lacking_in first or_none sum_verdict holds permission_of
+    short_here f = sym (rw (one_left items i d here, ← e, f) at all_of)
 
     pub short_next : not b ≡ false → ShortSoFar items (i + 1)
-    unfolding lacking_in sum_verdict holds
-    short_next f = record { same = rw (one_left items i d here, ← e, not-false b f) at so.same }
+    unfolding lacking_in first or_none sum_verdict holds
+    short_next f = record { same = rw (one_left items i d here, ← e, f) at so.same }
 
 -- flags before groups
 not_lacking : (flag : Flag) → is_lacking flag ≡ false → (p : Permission) (rest : List Verdict) → lacking_in (flag_verdicts p flag ++ rest) ≡ lacking_in rest
-unfolding is_lacking flag_verdicts lacking_in holds
+unfolding is_lacking flag_verdicts lacking_in first or_none holds
 not_lacking Unneeded e p rest = refl
 not_lacking Granted e p rest = refl
 not_lacking Lacking e p rest = let z : ◌≡◌ {A = ℕ} 0 1 = cc in absurd (omega arith)
 
-is_lacking_lem : (flag : Flag) → is_lacking flag ≡ true → (p : Permission) (rest : List Verdict) → number_of p ≡ lacking_in (flag_verdicts p flag ++ rest)
-unfolding is_lacking flag_verdicts lacking_in holds permission_of
+is_lacking_lem : (flag : Flag) → is_lacking flag ≡ true → (p : Permission) (rest : List Verdict) → some p ≡ lacking_in (flag_verdicts p flag ++ rest)
+unfolding is_lacking flag_verdicts lacking_in first or_none holds permission_of
 is_lacking_lem Unneeded e p rest = let z : ◌≡◌ {A = ℕ} 0 1 = cc in absurd (omega arith)
 is_lacking_lem Granted e p rest = let z : ◌≡◌ {A = ℕ} 0 1 = cc in absurd (omega arith)
 is_lacking_lem Lacking e p rest = refl
@@ -185,25 +188,25 @@ unfolding is_lacking
 lacking_is f e = rw e refl
 
 module _ (r : Covering) (a b d : Bool) where
-  pub read_first : a ≡ is_lacking r.flags.read → a ≡ true → 64 ≡ lacking_in (verdicts_of r)
-  unfolding verdicts_of flags_then number_of
+  pub read_first : a ≡ is_lacking r.flags.read → a ≡ true → told_in (Some Read) ≡ lacking_in (verdicts_of r)
+  unfolding verdicts_of flags_then
   read_first e h = is_lacking_lem r.flags.read (sym e ∙ h) reading _
 
   module _ (e : a ≡ is_lacking r.flags.read) (h : a ≡ false) (e' : b ≡ is_lacking r.flags.write) where
-    pub write_first : b ≡ true → 65 ≡ lacking_in (verdicts_of r)
-    unfolding verdicts_of flags_then number_of
+    pub write_first : b ≡ true → told_in (Some Write) ≡ lacking_in (verdicts_of r)
+    unfolding verdicts_of flags_then
     write_first h' = is_lacking_lem r.flags.write (sym e' ∙ h') writing _ ∙ sym (not_lacking r.flags.read (sym e ∙ h) reading _)
 
     module _ (h' : b ≡ false) (e'' : d ≡ is_lacking r.flags.access) where
-      pub access_first : d ≡ true → 66 ≡ lacking_in (verdicts_of r)
-      unfolding verdicts_of flags_then number_of
+      pub access_first : d ≡ true → told_in (Some Access) ≡ lacking_in (verdicts_of r)
+      unfolding verdicts_of flags_then
       access_first h'' =
           is_lacking_lem r.flags.access (sym e'' ∙ h'') accessing _ ∙ sym (not_lacking r.flags.write (sym e' ∙ h') writing _)
           ∙ sym (not_lacking r.flags.read (sym e ∙ h) reading _)
 
-      pub groups_then : (n : ℕ) → d ≡ false → n ≡ lacking_in (sum_verdicts r.sums) → n ≡ lacking_in (verdicts_of r)
+      pub groups_then : (p : Answer Told) → d ≡ false → told_in p ≡ lacking_in (sum_verdicts r.sums) → told_in p ≡ lacking_in (verdicts_of r)
       unfolding verdicts_of flags_then
-      groups_then n h'' g =
+      groups_then p h'' g =
           g ∙ sym (not_lacking r.flags.access (sym e'' ∙ h'') accessing _) ∙ sym (not_lacking r.flags.write (sym e' ∙ h') writing _)
           ∙ sym (not_lacking r.flags.read (sym e ∙ h) reading _)
 

@@ -45,29 +45,20 @@ use Rattle.policy.specs.declared.Trees.{Trees}
 use Rattle.policy.specs.Loads.{AllHeld, Bounded, start_of}
 use Rattle.fit.specs.Givers.{granting_rows, joined_at, givers_in, index_of}
 use Rattle.fit.specs.Uncovered.{first, permission_of, or_none, first_missing}
-use Rattle.fit.specs.Covers.{verdicts_for, all_given, flag_given, flag_at, flags_at, place_verdict, places_from, verdicts_at, number_of, lacking_in, missing_at, permission_at, missing_of, rows_fault, tree_rows_of}
+use Rattle.reading.specs.Told.{numbered, failed_below}
+use Rattle.reading.specs.declared.Question.{Question}
+use Rattle.reading.specs.declared.Question.TheVariants as question
+pub use Rattle.fit.proofs.EntrySteps.{is_none}
+use Rattle.fit.proofs.EntrySteps.{every_first, failed_past}
+use Rattle.fit.specs.Covers.{verdicts_for, all_given, flag_given, flag_at, flags_at, place_verdict, places_from, verdicts_at, lacking_in, rows_fault, tree_rows_of}
 use Rattle.fit.specs.Search.{Gives}
 use Rattle.fit.specs.Faults.{entry_fault, entries_fault}
 use Rattle.fit.proofs.GrantLaws.{every_map}
 use Rattle.fit.proofs.GrantTrees.{TreeRows, tree_gives, span_gives, entry_tree, tree_rows, entry_reached, on_reading, on_writing, on_accessing, on_disclosing}
 
 -- What an entry lacks is the first permission that is not granted, so it is covered where it lacks nothing.
-unfoldable pub is_none : {A : Type 0} → Option A → Bool
-is_none none = true
-is_none (some a) = false
-
-every_first : (vs : List Verdict) → every holds vs ≡ is_none (or_none (first (λ v. not (holds v)) vs))
-unfolding every first is_none or_none
-every_first [] = refl
-every_first (v ∷ vs) = go (holds v) (every_first vs)
-  where
-    go : (b : Bool) → every holds vs ≡ is_none (or_none (first (λ w. not (holds w)) vs))
-        → (b && every holds vs) ≡ is_none (or_none (cond (not b) (some v) (first (λ w. not (holds w)) vs)))
-    go true e = e
-    go false e = unfold is_none or_none in refl
-
 pub covered_first : (policy : List Tree) (required : Required) (e : Entry) → covered policy required e ≡ is_none (first_missing policy required e)
-unfolding covered first_missing
+unfolding covered first_missing lacking_in
 covered_first policy required e = every_first (covering policy required e)
 
 -- Question 18 of an entry, permission by permission.
@@ -98,42 +89,6 @@ missing_first policy required e = go (permissions e)
         here true later = unfold or_none in ap some (verdict_on policy required e p)
         here false later = later
 
--- Verdicts whose permissions have a number of their own, as all but those on groups from 64 on have: the number of the first that does not
--- hold tells its permission.
-abbrev Told : Verdict → Type 0
-Told v = missing_of (number_of (permission_of v)) ≡ some (permission_of v)
-
-data AllTold : List Verdict → Type 0 where
-  told_none : AllTold []
-  told_more : {v : Verdict} {rest : List Verdict} → Told v → AllTold rest → AllTold (v ∷ rest)
-
-lacking_told : {vs : List Verdict} → AllTold vs → or_none (first (λ v. not (holds v)) vs) ≡ missing_of (lacking_in vs)
-unfolding first lacking_in or_none
-lacking_told told_none = unfold missing_of in refl
-lacking_told (told_more {v} {rest} here later) = go (holds v) (lacking_told later)
-  where
-    go : (b : Bool) → or_none (first (λ w. not (holds w)) rest) ≡ missing_of (lacking_in rest)
-        → or_none (cond (not b) (some v) (first (λ w. not (holds w)) rest)) ≡ missing_of (cond b (lacking_in rest) (number_of (permission_of v)))
-    go true e = e
-    go false e = unfold or_none in sym here
-
-group_told : (g : ℕ) (needed granted : Count) → g < 64 → Told (counts g needed granted)
-unfolding missing_of permission_at permission_of number_of
-group_told g needed granted h =
-    rw (lt-ltb g 67 (omega arith), ne_eqb g 64 (λ e. absurd (omega arith)), ne_eqb g 65 (λ e. absurd (omega arith)), ne_eqb g 66 (λ e. absurd (omega arith))) refl
-
-flag_told : (p : Permission) (x b : Bool) (rest : List Verdict) → Told (flag p x) → AllTold rest → AllTold (cond b (flag p x ∷ []) [] ++ rest)
-flag_told p x true rest here later = told_more here later
-flag_told p x false rest here later = later
-
-none_missing : (column : ℕ) → is_none (missing_of column) ≡ not (ltb column 67)
-unfolding is_none missing_of
-none_missing column = go (ltb column 67)
-  where
-    go : (b : Bool) → is_none (cond b (some (permission_at column)) none) ≡ not b
-    go true = refl
-    go false = refl
-
 -- the verdicts on a list that begins with a flag
 map_flagged : (f : Permission → Verdict) (b : Bool) (p : Permission) (rest : List Permission) → map f (flagged b p ++ rest) ≡ cond b (f p ∷ []) [] ++ map f rest
 unfolding flagged
@@ -162,34 +117,6 @@ module _ (policy : List Tree) (required : Required) (table : List ℕ) (n k : �
       (map_flagged verdict (is_set (cell table n k 9)) writing _
       ∙ ap (λ (vs : List Verdict). cond (is_set (cell table n k 9)) (verdict writing ∷ []) [] ++ vs)
       (map_flagged verdict (is_set (cell table n k 10)) accessing _))
-
-  module _ (up : Orderly table n) where
-    groups_told : (from m : ℕ) → from + m ≤ group_count table n → AllTold (groups_of (rising from m))
-    unfolding rising groups_of only item verdict verdict_of
-    groups_told from zero l = told_none
-    groups_told from (suc m) l = go (not (is_zero (count_of (cell table n k from)))) (groups_told (suc from) m (omega arith))
-      where
-        later : List Disclosure
-        later = only (λ d. not (is_zero d.count)) (map item (rising (suc from) m))
-
-        go : (b : Bool) → AllTold (map verdict (map (λ d. disclosing d.group) later))
-            → AllTold (map verdict (map (λ d. disclosing d.group) (cond b (item from ∷ later) later)))
-        go false rest = rest
-        go true rest = told_more (group_told (group_at table n from) _ _ (up.low from (omega arith))) rest
-
-    all_told : AllTold (covering policy required (entry_at table n k))
-    unfolding verdict verdict_of
-    all_told =
-        rw covering_parts
-        (flag_told reading _ (is_set (cell table n k 8)) _ (unfold missing_of permission_at permission_of number_of in refl)
-        (flag_told writing _ (is_set (cell table n k 9)) _ (unfold missing_of permission_at permission_of number_of in refl)
-        (flag_told accessing _ (is_set (cell table n k 10)) _ (unfold missing_of permission_at permission_of number_of in refl)
-        (groups_told 0 (group_count table n) (omega arith)))))
-
-    -- the first permission that an entry lacks, by its number
-    pub missing_number : first_missing policy required (entry_at table n k) ≡ missing_of (lacking_in (covering policy required (entry_at table n k)))
-    unfolding first_missing
-    missing_number = lacking_told all_told
 
   module _ (c nodes rows : List ℕ) (gives : Gives c nodes policy k (path_at table n) (purpose_at table n) rows) (up : Orderly table n)
       (sums : List ℕ) (sum : Summed table sums required n k) where
@@ -231,30 +158,16 @@ module _ (policy : List Tree) (required : Required) (table : List ℕ) (n k : �
           groups_rows 0 (group_count table n) (omega arith),
         ) refl
 
-    covered_rows : covered policy required (entry_at table n k) ≡ not (ltb (missing_at c nodes rows table sums n k) 67)
-    unfolding missing_at
-    covered_rows =
-        covered_first policy required (entry_at table n k) ∙ ap is_none (missing_number up)
-        ∙ none_missing (lacking_in (covering policy required (entry_at table n k)))
-        ∙ ap (λ (vs : List Verdict). not (ltb (lacking_in vs) 67)) covering_rows
-
-  -- questions 17 and 18 of an entry, asked of the rows that give to its path
   module _ (c nodes : List ℕ) (start end : ℕ) (tree : TreeRows c nodes policy k start end)
       (rows : List ℕ) (given : rows ≡ givers_in c nodes (path_at table n) start (end - start)) (up : Orderly table n)
       (sums : List ℕ) (sum : Summed table sums required n k) where
     pub fault_rows : cond (path_reached policy (entry_at table n k)) (cond (covered policy required (entry_at table n k)) 19 18) 17 ≡ rows_fault c nodes rows table sums n k
-    unfolding rows_fault all_given
+    unfolding rows_fault all_given covered
     fault_rows =
         ap₂ (λ (a b : Bool). cond a (cond b 19 18) 17)
         (entry_reached c nodes policy k start end tree (path_at table n) rows given (entry_at table n k) (unfold entry_at in refl) (unfold entry_at in refl))
-        (covered_rows c nodes (granting_rows (purpose_at table n) nodes rows) (tree_gives c nodes policy k start end tree (path_at table n) rows given (purpose_at table n))
-        up sums sum)
-        ∙ split (every (λ row. ltb row 64) rows) (ltb (missing_at c nodes (granting_rows (purpose_at table n) nodes rows) table sums n k) 67)
-      where
-        split : (a b : Bool) → ◌≡◌ {A = ℕ} (cond a (cond (not b) 19 18) 17) (cond a (cond b 18 19) 17)
-        split true true = refl
-        split true false = refl
-        split false b = refl
+        (ap (every holds) (covering_rows c nodes (granting_rows (purpose_at table n) nodes rows)
+        (tree_gives c nodes policy k start end tree (path_at table n) rows given (purpose_at table n)) up sums sum))
 
 -- The verdicts that the tree of the kind gives are the covering.
 pub verdicts_for_lem : (c nodes : List ℕ) (trees : Trees) (policy : List Tree) → AllHeld c nodes trees 0 policy → trees.len ≤ 16 → length trees.kinds ≡ 16
@@ -314,14 +227,18 @@ module _ (table : List ℕ) (n k : ℕ) (u : Bool) (is : u ≡ is_set (cell tabl
       go (no f) = rw (ne_eqb m 0 f) (sym (map_some (entry_at table n k) (λ e. f (map ∙ e))))
 
 module _ (c nodes : List ℕ) (trees : Trees) (table sums : List ℕ) (n k : ℕ) (u : Bool) (is : u ≡ is_entry table n k) where
-  pub no_entry : not u ≡ true → (policy : List Tree) → AllHeld c nodes trees 0 policy → Orderly table n → (required : Required) → Summed table sums required n k
-      → 19 ≡ kind_fault policy required table n k
-  no_entry h policy held up required sum = go (is_set (cell table n k 11)) (holds_any (entry_at table n k)) refl (sym is ∙ not-true u h)
+  none_failed : not u ≡ true → (policy : List Tree) (required : Required) → 19 ≡ kind_fault policy required table n k
+  none_failed h policy required = go (is_set (cell table n k 11)) (holds_any (entry_at table n k)) refl (sym is ∙ not-true u h)
     where
       go : (a b : Bool) → holds_any (entry_at table n k) ≡ b → (a && b) ≡ false → 19 ≡ cond a (entry_fault policy required (entry_at table n k)) 19
       go true true e f = let z : ◌≡◌ {A = ℕ} 0 1 = cc in absurd (omega arith)
       go true false e f = no_fault policy required (entry_at table n k) e
       go false b e f = refl
+
+  pub no_entry : not u ≡ true → (policy : List Tree) → AllHeld c nodes trees 0 policy → Orderly table n → (required : Required) → Summed table sums required n k
+      → numbered None ≡ failed_below 19 (kind_fault policy required table n k)
+  unfolding failed_below
+  no_entry h policy held up required sum = rw (← none_failed h policy required) refl
 
   module _ (entry : not u ≡ false) where
     both : is_entry table n k ≡ true
@@ -336,8 +253,8 @@ module _ (c nodes : List ℕ) (trees : Trees) (table sums : List ℕ) (n k : ℕ
     -- by the tree of the kind
     module _ (bounded : Bounded trees) (kinds : length trees.kinds ≡ 16) where
       pub no_tree : None ≡ tree_rows_of trees k → (policy : List Tree) → AllHeld c nodes trees 0 policy → Orderly table n
-          → (required : Required) → Summed table sums required n k → 16 ≡ kind_fault policy required table n k
-      unfolding entry_fault
+          → (required : Required) → Summed table sums required n k → numbered (Some question.Tree) ≡ failed_below 19 (kind_fault policy required table n k)
+      unfolding entry_fault failed_below
       no_tree e policy held up required sum =
           rw (
             marks,
@@ -346,9 +263,9 @@ module _ (c nodes : List ℕ) (trees : Trees) (table sums : List ℕ) (n k : ℕ
             le-ltb (index_of k (take trees.len trees.kinds)) trees.len (rows_none trees k e),
           ) refl
 
-      pub in_tree : (s : Span) → Some s ≡ tree_rows_of trees k → (r : ℕ)
-          → r ≡ rows_fault c nodes (givers_in c nodes (path_at table n) s.from (s.to - s.from)) table sums n k
-          → (policy : List Tree) → AllHeld c nodes trees 0 policy → Orderly table n → (required : Required) → Summed table sums required n k → r ≡ kind_fault policy required table n k
+      pub in_tree : (s : Span) → Some s ≡ tree_rows_of trees k → (r : Answer Question)
+          → numbered r ≡ failed_below 19 (rows_fault c nodes (givers_in c nodes (path_at table n) s.from (s.to - s.from)) table sums n k)
+          → (policy : List Tree) → AllHeld c nodes trees 0 policy → Orderly table n → (required : Required) → Summed table sums required n k → numbered r ≡ failed_below 19 (kind_fault policy required table n k)
       unfolding entry_fault
       in_tree s found r e policy held up required sum =
           let is : RowsOf trees k s = rows_some trees k s found in
@@ -358,9 +275,9 @@ module _ (c nodes : List ℕ) (trees : Trees) (table sums : List ℕ) (n k : ℕ
             entry_tree c nodes trees policy held bounded.few kinds k (index_of k (take trees.len trees.kinds)) refl (entry_at table n k) (unfold entry_at in refl),
             lt-ltb (index_of k (take trees.len trees.kinds)) trees.len is.here,
           )
-          (e ∙ sym (fault_rows policy required table n k c nodes s.from s.to
+          (e ∙ ap (failed_below 19) (sym (fault_rows policy required table n k c nodes s.from s.to
           (tree_rows c nodes trees policy held bounded.few kinds k (index_of k (take trees.len trees.kinds)) refl is.here s.from s.to is.starts is.ends)
-          (givers_in c nodes (path_at table n) s.from (s.to - s.from)) refl up sums sum))
+          (givers_in c nodes (path_at table n) s.from (s.to - s.from)) refl up sums sum)))
 
 -- The least of what entries fail.
 faults_most : (policy : List Tree) (required : Required) (es : List Entry) → entries_fault policy required es ≤ 19
@@ -394,10 +311,6 @@ row_all : (policy : List Tree) (required : Required) (table : List ℕ) (n : ℕ
 unfolding row_entries used_kinds
 row_all policy required table n = faults_only policy required (map (entry_at table n) (used_kinds table n))
 
--- One step of a loop over what is left.
-least_next : (first fault next left rest all : ℕ) → min first left ≡ all → left ≡ min fault rest → next ≡ min first fault → min next rest ≡ all
-least_next first fault next left rest all e f g = omega arith
-
 kind_first : (policy : List Tree) (required : Required) (table : List ℕ) (n kind : ℕ) → kind < 16
     → kinds_fault policy required table n kind (16 - kind) ≡ min (kind_fault policy required table n kind) (kinds_fault policy required table n (kind + 1) (16 - (kind + 1)))
 unfolding only
@@ -417,75 +330,93 @@ row_first policy required table i m here =
     ap (λ (l : List ℕ). entries_fault policy required (gather (row_entries table) l)) (rising_next i m here)
     ∙ faults_append policy required (row_entries table i) (gather (row_entries table) (rising (i + 1) (m - (i + 1))))
 
--- The kinds done so far and those left give the whole.
-pub record KindsSoFar (c nodes : List ℕ) (trees : Trees) (table sums : List ℕ) (n first kind : ℕ) : Type 0 where
-  pub within : kind ≤ 16
-  pub most : first ≤ 19
-  pub whole : (policy : List Tree) → AllHeld c nodes trees 0 policy → Orderly table n → (required : Required) → ((k : ℕ) → k < 16 → Summed table sums required n k)
-      → min first (kinds_fault policy required table n kind (16 - kind)) ≡ kinds_fault policy required table n 0 16
+-- What was found among what is done, with what is left, gives the whole.
+pub record Found (first : Answer Question) (left all : ℕ) : Type 0 where
+  pub number : ℕ
+  pub told : numbered first ≡ failed_below 19 number
+  pub whole : min number left ≡ all
 
-pub kinds_start : (c nodes : List ℕ) (trees : Trees) (table sums : List ℕ) (n : ℕ) → KindsSoFar c nodes trees table sums n 19 0
-kinds_start c nodes trees table sums n = record {
-  within = omega arith;
-  most = omega arith;
-  whole = λ policy held up required sum. omega (arith, faults_most policy required (map (entry_at table n) (only (λ k. is_set (cell table n k 11)) (rising 0 16))));
+found_start : (all : ℕ) → all ≤ 19 → Found None all all
+unfolding failed_below
+found_start all h = record { number = 19; told = refl; whole = omega arith }
+
+found_next : (first fault next : Answer Question) (one left rest all : ℕ) → Found first left all → left ≡ min one rest → numbered fault ≡ failed_below 19 one
+    → ((bound n m : ℕ) → numbered first ≡ failed_below bound n → numbered fault ≡ failed_below bound m → numbered next ≡ failed_below bound (min n m)) → Found next rest all
+found_next first fault next one left rest all so e f g = record {
+  number = min so.number one;
+  told = g 19 so.number one so.told f;
+  whole = omega (arith, so.whole);
 }
 
-module _ (c nodes : List ℕ) (trees : Trees) (table sums : List ℕ) (n first kind : ℕ) (so : KindsSoFar c nodes trees table sums n first kind) where
-  pub kinds_next : kind < 16 → (fault next : ℕ)
-      → ((policy : List Tree) → AllHeld c nodes trees 0 policy → Orderly table n → (required : Required) → Summed table sums required n kind → fault ≡ kind_fault policy required table n kind)
-      → next ≡ min first fault → KindsSoFar c nodes trees table sums n next (kind + 1)
+found_end : (first : Answer Question) (all : ℕ) → Found first 19 all → numbered first ≡ failed_below 19 all
+found_end first all so = so.told ∙ sym (failed_past 19 so.number 19 (omega arith)) ∙ ap (failed_below 19) so.whole
+
+-- The kinds done so far and those left give the whole.
+pub record KindsSoFar (c nodes : List ℕ) (trees : Trees) (table sums : List ℕ) (n : ℕ) (first : Answer Question) (kind : ℕ) : Type 0 where
+  pub within : kind ≤ 16
+  pub found : (policy : List Tree) → AllHeld c nodes trees 0 policy → Orderly table n → (required : Required) → ((k : ℕ) → k < 16 → Summed table sums required n k)
+      → Found first (kinds_fault policy required table n kind (16 - kind)) (kinds_fault policy required table n 0 16)
+
+pub kinds_start : (c nodes : List ℕ) (trees : Trees) (table sums : List ℕ) (n : ℕ) → KindsSoFar c nodes trees table sums n None 0
+kinds_start c nodes trees table sums n = record {
+  within = omega arith;
+  found = λ policy held up required sum. found_start _ (faults_most policy required (map (entry_at table n) (only (λ k. is_set (cell table n k 11)) (rising 0 16))));
+}
+
+module _ (c nodes : List ℕ) (trees : Trees) (table sums : List ℕ) (n : ℕ) (first : Answer Question) (kind : ℕ) (so : KindsSoFar c nodes trees table sums n first kind) where
+  pub kinds_next : kind < 16 → (fault next : Answer Question)
+      → ((policy : List Tree) → AllHeld c nodes trees 0 policy → Orderly table n → (required : Required) → Summed table sums required n kind
+      → numbered fault ≡ failed_below 19 (kind_fault policy required table n kind))
+      → ((bound n m : ℕ) → numbered first ≡ failed_below bound n → numbered fault ≡ failed_below bound m → numbered next ≡ failed_below bound (min n m))
+      → KindsSoFar c nodes trees table sums n next (kind + 1)
   kinds_next here fault next e f = record {
     within = omega arith;
-    most = omega (arith, so.most);
-    whole = λ policy held up required sum. least_next first fault next _ _ _ (so.whole policy held up required sum)
-        (kind_first policy required table n kind here ∙ ap (λ (v : ℕ). min v (kinds_fault policy required table n (kind + 1) (16 - (kind + 1)))) (sym (e policy held up required (sum kind here)))) f;
+    found = λ policy held up required sum. found_next first fault next _ _ _ _ (so.found policy held up required sum)
+        (kind_first policy required table n kind here) (e policy held up required (sum kind here)) f;
   }
 
   pub kinds_end : 16 ≤ kind → (policy : List Tree) → AllHeld c nodes trees 0 policy → Orderly table n → (required : Required) → ((k : ℕ) → k < 16 → Summed table sums required n k)
-      → first ≡ entries_fault policy required (row_entries table n)
+      → numbered first ≡ failed_below 19 (entries_fault policy required (row_entries table n))
   unfolding entries_fault only
   kinds_end done policy held up required sum =
       let u : kinds_fault policy required table n kind (16 - kind) ≡ 19 =
       ap (λ (l : List ℕ). entries_fault policy required (map (entry_at table n) (only (λ k. is_set (cell table n k 11)) l))) (rising_done kind 16 done) in
-      omega (arith, so.most, so.whole policy held up required sum, u, row_all policy required table n)
+      rw (row_all policy required table n) (found_end first _ (rw u at (so.found policy held up required sum)))
 
 -- The same of components.
-pub record RowsSoFar (c nodes : List ℕ) (trees : Trees) (table sums : List ℕ) (m first i : ℕ) : Type 0 where
+pub record RowsSoFar (c nodes : List ℕ) (trees : Trees) (table sums : List ℕ) (m : ℕ) (first : Answer Question) (i : ℕ) : Type 0 where
   pub within : i ≤ m
-  pub most : first ≤ 19
-  pub whole : (policy : List Tree) → AllHeld c nodes trees 0 policy → ((n : ℕ) → n < m → Orderly table n)
+  pub found : (policy : List Tree) → AllHeld c nodes trees 0 policy → ((n : ℕ) → n < m → Orderly table n)
       → (required : Required) → ((n k : ℕ) → n < m → k < 16 → Summed table sums required n k)
-      → min first (rows_from policy required table i (m - i)) ≡ rows_from policy required table 0 m
+      → Found first (rows_from policy required table i (m - i)) (rows_from policy required table 0 m)
 
-pub rows_start : (c nodes : List ℕ) (trees : Trees) (table sums : List ℕ) (m : ℕ) → RowsSoFar c nodes trees table sums m 19 0
+pub rows_start : (c nodes : List ℕ) (trees : Trees) (table sums : List ℕ) (m : ℕ) → RowsSoFar c nodes trees table sums m None 0
 rows_start c nodes trees table sums m =
     let z : m - 0 ≡ m = omega arith in
     record {
       within = omega arith;
-      most = omega arith;
-      whole = λ policy held up required sum. rw z (omega (arith, faults_most policy required (gather (row_entries table) (rising 0 m))));
+      found = λ policy held up required sum. rw z (found_start _ (faults_most policy required (gather (row_entries table) (rising 0 m))));
     }
 
-module _ (c nodes : List ℕ) (trees : Trees) (table sums : List ℕ) (m first i : ℕ) (so : RowsSoFar c nodes trees table sums m first i) where
-  pub rows_next : i < m → (fault next : ℕ)
-      → ((policy : List Tree) → AllHeld c nodes trees 0 policy → Orderly table i → (required : Required) → ((k : ℕ) → k < 16 → Summed table sums required i k) → fault ≡ entries_fault policy required (row_entries table i))
-      → next ≡ min first fault → RowsSoFar c nodes trees table sums m next (i + 1)
+module _ (c nodes : List ℕ) (trees : Trees) (table sums : List ℕ) (m : ℕ) (first : Answer Question) (i : ℕ) (so : RowsSoFar c nodes trees table sums m first i) where
+  pub rows_next : i < m → (fault next : Answer Question)
+      → ((policy : List Tree) → AllHeld c nodes trees 0 policy → Orderly table i → (required : Required) → ((k : ℕ) → k < 16 → Summed table sums required i k)
+      → numbered fault ≡ failed_below 19 (entries_fault policy required (row_entries table i)))
+      → ((bound n m : ℕ) → numbered first ≡ failed_below bound n → numbered fault ≡ failed_below bound m → numbered next ≡ failed_below bound (min n m))
+      → RowsSoFar c nodes trees table sums m next (i + 1)
   rows_next here fault next e f = record {
     within = omega arith;
-    most = omega (arith, so.most);
-    whole = λ policy held up required sum. least_next first fault next _ _ _ (so.whole policy held up required sum)
-        (row_first policy required table i m here
-        ∙ ap (λ (v : ℕ). min v (rows_from policy required table (i + 1) (m - (i + 1)))) (sym (e policy held (up i here) required (λ k l. sum i k here l)))) f;
+    found = λ policy held up required sum. found_next first fault next _ _ _ _ (so.found policy held up required sum)
+        (row_first policy required table i m here) (e policy held (up i here) required (λ k l. sum i k here l)) f;
   }
 
   pub rows_end : m ≤ i → (policy : List Tree) → AllHeld c nodes trees 0 policy → ((n : ℕ) → n < m → Orderly table n)
       → (required : Required) → ((n k : ℕ) → n < m → k < 16 → Summed table sums required n k)
-      → first ≡ entries_fault policy required (table_entries table m)
+      → numbered first ≡ failed_below 19 (entries_fault policy required (table_entries table m))
   unfolding entries_fault gather table_entries
   rows_end done policy held up required sum =
       let u : rows_from policy required table i (m - i) ≡ 19 = ap (λ (l : List ℕ). entries_fault policy required (gather (row_entries table) l)) (rising_done i m done) in
-      omega (arith, so.most, so.whole policy held up required sum, u)
+      found_end first _ (rw u at (so.found policy held up required sum))
 
 -- With the sums that were made in clear memory.
 made_sums : (table sums : List ℕ) (components rows n : ℕ) → n ≡ rows * 129 → components ≤ rows → rows ≤ 32 → sums ≡ add_rows (replicate n 0) table 0 components
@@ -502,23 +433,23 @@ pub all_sums : (table sums : List ℕ) (components : ℕ) → components ≤ 32 
 all_sums table sums components h is up m k = made_sums table sums components 32 4128 refl h (omega arith) is up m k
 
 -- With a row of sums for each component.
-pub fit_shared : (c nodes : List ℕ) (trees : Trees) (table sums : List ℕ) (components size r : ℕ)
+pub fit_shared : (c nodes : List ℕ) (trees : Trees) (table sums : List ℕ) (components size : ℕ) (r : Answer Question)
     → ((policy : List Tree) → AllHeld c nodes trees 0 policy → ((n : ℕ) → n < components → Orderly table n)
     → (required : Required) → ((n k : ℕ) → n < components → k < 16 → Summed table sums required n k)
-    → r ≡ entries_fault policy required (table_entries table components))
+    → numbered r ≡ failed_below 19 (entries_fault policy required (table_entries table components)))
     → components ≤ size / 129 → size / 129 ≤ 32 → size % 129 ≡ 0 → sums ≡ add_rows (replicate size 0) table 0 components
     → (policy : List Tree) → AllHeld c nodes trees 0 policy → ((n : ℕ) → n < components → Orderly table n)
-    → r ≡ entries_fault policy (table_required table components) (table_entries table components)
+    → numbered r ≡ failed_below 19 (entries_fault policy (table_required table components) (table_entries table components))
 fit_shared c nodes trees table sums components size r told room few whole is policy held up =
     told policy held up (table_required table components) (made_sums table sums components (size / 129) size (omega arith) room few is up)
 
 -- Without sums, where no components share.
-pub fit_lone : (c nodes : List ℕ) (trees : Trees) (table : List ℕ) (components r : ℕ) (u : Bool) → u ≡ any_shared table 0 components → not u ≡ true → components ≤ 32
+pub fit_lone : (c nodes : List ℕ) (trees : Trees) (table : List ℕ) (components : ℕ) (r : Answer Question) (u : Bool) → u ≡ any_shared table 0 components → not u ≡ true → components ≤ 32
     → ((policy : List Tree) → AllHeld c nodes trees 0 policy → ((n : ℕ) → n < components → Orderly table n)
     → (required : Required) → ((n k : ℕ) → n < components → k < 16 → Summed table [] required n k)
-    → r ≡ entries_fault policy required (table_entries table components))
+    → numbered r ≡ failed_below 19 (entries_fault policy required (table_entries table components)))
     → (policy : List Tree) → AllHeld c nodes trees 0 policy → ((n : ℕ) → n < components → Orderly table n)
-    → r ≡ entries_fault policy (table_required table components) (table_entries table components)
+    → numbered r ≡ failed_below 19 (entries_fault policy (table_required table components) (table_entries table components))
 fit_lone c nodes trees table components r u is off few told policy held up =
     told policy held up (table_required table components) (lone_sums table components few (sym is ∙ not-true u off) up)
 

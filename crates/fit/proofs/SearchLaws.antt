@@ -18,12 +18,15 @@ use Rattle.policy.specs.Syntax.{Tree}
 use Rattle.policy.specs.Loads.{AllHeld, Bounded}
 use Rattle.policy.specs.declared.Trees.{Trees}
 use Rattle.fit.specs.Satisfies.{covering, covered}
-use Rattle.fit.specs.Covers.{verdicts_of, verdicts_for, lacking_in, missing_of}
+use Rattle.fit.specs.Covers.{verdicts_of, lacking_in, told_in}
+use Rattle.std.specs.Prelude.{Option as Answer, Some, None}
+use Rattle.fit.specs.declared.Permission.{Permission as Told}
 use Rattle.fit.specs.Uncovered.{first, or_none, first_missing, Uncovered, or_further, first_uncovered}
 use Rattle.fit.specs.Search.{uncovered_at}
 use Rattle.fit.specs.declared.Covering.{Covering}
 use Rattle.fit.specs.declared.Missing.{Missing}
-use Rattle.fit.proofs.EntryLaws.{is_none, covered_first, missing_number, verdicts_for_lem, all_sums}
+use Rattle.fit.proofs.EntrySteps.{is_none}
+use Rattle.fit.proofs.EntryLaws.{covered_first, all_sums}
 
 -- Question 18 of some entries fails exactly where one of them lacks a permission.
 pub uncovered_none : (policy : List Tree) (required : Required) (es : List Entry)
@@ -81,34 +84,23 @@ uncovered_append policy required (e ∷ xs) ys =
     go (some p) = unfold or_further or_else in refl
     go none = unfold or_further in refl
 
--- A column is a permission, or none.
-module _ (table : List ℕ) (m : Missing) where
-  none_at : 67 ≤ m.column → none ≡ uncovered_at table m
-  unfolding uncovered_at
-  none_at h = rw (le-ltb m.column 67 h) refl
-
-  some_at : (rest : Option Uncovered) → m.column < 67 → or_else (uncovered_at table m) rest ≡ uncovered_at table m
-  unfolding uncovered_at or_else
-  some_at rest h = rw (lt-ltb m.column 67 h) refl
-
 -- What an entry lacks; a kind that is not marked has no entry.
 abbrev pub kind_missing : List Tree → Required → List ℕ → ℕ → ℕ → Option Permission
 kind_missing policy required table n k = cond (is_set (cell table n k 11)) (first_missing policy required (entry_at table n k)) none
 
 module _ (c nodes : List ℕ) (trees : Trees) (table sums : List ℕ) (n k : ℕ) (u : Bool) (is : u ≡ is_set (cell table n k 11)) where
   pub none_marked : not u ≡ true → (policy : List Tree) → AllHeld c nodes trees 0 policy → Orderly table n → (required : Required) → Summed table sums required n k
-      → kind_missing policy required table n k ≡ missing_of 67
-  unfolding missing_of
+      → kind_missing policy required table n k ≡ told_in None
   none_marked h policy held up required sum = rw (← is, not-true u h) refl
 
   -- what `covering` finds for an entry
-  pub lacks_at : not u ≡ false → (r : Covering) (column : ℕ)
+  pub lacks_at : not u ≡ false → (r : Covering) (p : Answer Told)
       → ((policy : List Tree) → AllHeld c nodes trees 0 policy → Orderly table n → (required : Required) → Summed table sums required n k
-      → verdicts_of r ≡ covering policy required (entry_at table n k)) → column ≡ lacking_in (verdicts_of r)
+      → verdicts_of r ≡ covering policy required (entry_at table n k)) → told_in p ≡ lacking_in (verdicts_of r)
       → (policy : List Tree) → AllHeld c nodes trees 0 policy → Orderly table n → (required : Required) → Summed table sums required n k
-      → kind_missing policy required table n k ≡ missing_of column
-  lacks_at h r column told e policy held up required sum =
-      rw (← is, not-false u h, e, told policy held up required sum) (missing_number policy required table n k up)
+      → kind_missing policy required table n k ≡ told_in p
+  unfolding first_missing lacking_in
+  lacks_at h r p told e policy held up required sum = rw (← is, not-false u h, e, told policy held up required sum) refl
 
 -- The kinds passed so far lack nothing, so that those left decide, of which those that are marked count.
 abbrev kinds_from : List ℕ → ℕ → ℕ → ℕ → List Entry
@@ -139,41 +131,39 @@ kind_then policy required table n kind here =
     go true rest = unfold first_uncovered in refl
     go false rest = unfold or_further in refl
 
-module _ (c nodes : List ℕ) (trees : Trees) (table sums : List ℕ) (n kind column : ℕ) (left : KindsLeft c nodes trees table sums n kind) where
-  abbrev Lacks : Type 0
-  Lacks = (policy : List Tree) → AllHeld c nodes trees 0 policy → Orderly table n → (required : Required) → Summed table sums required n kind
-      → kind_missing policy required table n kind ≡ missing_of column
+module _ (c nodes : List ℕ) (trees : Trees) (table sums : List ℕ) (n kind : ℕ) (left : KindsLeft c nodes trees table sums n kind) where
+  abbrev Lacks : Answer Told → Type 0
+  Lacks p = (policy : List Tree) → AllHeld c nodes trees 0 policy → Orderly table n → (required : Required) → Summed table sums required n kind
+      → kind_missing policy required table n kind ≡ told_in p
 
-  kind_turn : kind < 16 → Lacks → (policy : List Tree) → AllHeld c nodes trees 0 policy → Orderly table n → (required : Required) → ((k : ℕ) → k < 16 → Summed table sums required n k)
+  kind_turn : kind < 16 → (p : Answer Told) → Lacks p → (policy : List Tree) → AllHeld c nodes trees 0 policy → Orderly table n → (required : Required) → ((k : ℕ) → k < 16 → Summed table sums required n k)
       → first_uncovered policy required (row_entries table n)
-      ≡ or_further (entry_at table n kind) (missing_of column) (first_uncovered policy required (kinds_from table n (kind + 1) (16 - (kind + 1))))
-  kind_turn here lacks policy held up required sum =
+      ≡ or_further (entry_at table n kind) (told_in p) (first_uncovered policy required (kinds_from table n (kind + 1) (16 - (kind + 1))))
+  kind_turn here p lacks policy held up required sum =
       left.same policy held up required sum
       ∙ kind_then policy required table n kind here
       ∙ ap (λ (m : Option Permission). or_further (entry_at table n kind) m (first_uncovered policy required (kinds_from table n (kind + 1) (16 - (kind + 1)))))
       (lacks policy held up required (sum kind here))
 
-  pub kind_lacks : kind < 16 → Lacks → column < 67 → (policy : List Tree) → AllHeld c nodes trees 0 policy → Orderly table n → (required : Required) → ((k : ℕ) → k < 16 → Summed table sums required n k)
-      → first_uncovered policy required (row_entries table n) ≡ uncovered_at table (record { component = n; kind = kind; column = column })
-  unfolding missing_of uncovered_at
-  kind_lacks here lacks h policy held up required sum =
-      kind_turn here lacks policy held up required sum ∙ rw (lt-ltb column 67 h) (unfold or_further entry_at in refl)
+  pub kind_lacks : kind < 16 → (p : Told) → Lacks (Some p) → (policy : List Tree) → AllHeld c nodes trees 0 policy → Orderly table n → (required : Required) → ((k : ℕ) → k < 16 → Summed table sums required n k)
+      → first_uncovered policy required (row_entries table n) ≡ uncovered_at table (Some (record { component = n; kind = kind; permission = p }))
+  unfolding uncovered_at or_further entry_at
+  kind_lacks here p lacks policy held up required sum = kind_turn here (Some p) lacks policy held up required sum
 
-  pub kind_covered : kind < 16 → Lacks → 67 ≤ column → KindsLeft c nodes trees table sums n (kind + 1)
-  unfolding missing_of
-  kind_covered here lacks h = record {
+  pub kind_covered : kind < 16 → Lacks None → KindsLeft c nodes trees table sums n (kind + 1)
+  unfolding or_further
+  kind_covered here lacks = record {
     within = omega arith;
-    same = λ policy held up required sum. kind_turn here lacks policy held up required sum ∙ rw (le-ltb column 67 h) (unfold or_further in refl);
+    same = λ policy held up required sum. kind_turn here None lacks policy held up required sum;
   }
 
 pub kinds_covered : (c nodes : List ℕ) (trees : Trees) (table sums : List ℕ) (n kind : ℕ) → KindsLeft c nodes trees table sums n kind → 16 ≤ kind
     → (policy : List Tree) → AllHeld c nodes trees 0 policy → Orderly table n → (required : Required) → ((k : ℕ) → k < 16 → Summed table sums required n k)
-    → first_uncovered policy required (row_entries table n) ≡ uncovered_at table (record { component = n; kind = 0; column = 67 })
-unfolding first_uncovered only
+    → first_uncovered policy required (row_entries table n) ≡ uncovered_at table None
+unfolding first_uncovered only uncovered_at
 kinds_covered c nodes trees table sums n kind left done policy held up required sum =
     left.same policy held up required sum
     ∙ ap (λ (l : List ℕ). first_uncovered policy required (map (entry_at table n) (only (λ k. is_set (cell table n k 11)) l))) (rising_done kind 16 done)
-    ∙ none_at table (record { component = n; kind = 0; column = 67 }) (omega arith)
 
 -- The same of components.
 pub record RowsLeft (c nodes : List ℕ) (trees : Trees) (table sums : List ℕ) (m i : ℕ) : Type 0 where
@@ -190,7 +180,7 @@ rows_left c nodes trees table sums m = record {
   same = λ policy held up required sum. ap (λ (k : ℕ). first_uncovered policy required (gather (row_entries table) (rising 0 k))) (omega arith);
 }
 
-module _ (c nodes : List ℕ) (trees : Trees) (table sums : List ℕ) (m i : ℕ) (left : RowsLeft c nodes trees table sums m i) (found : Missing) where
+module _ (c nodes : List ℕ) (trees : Trees) (table sums : List ℕ) (m i : ℕ) (left : RowsLeft c nodes trees table sums m i) (found : Answer Missing) where
   abbrev Finds : Type 0
   Finds = (policy : List Tree) → AllHeld c nodes trees 0 policy → Orderly table i → (required : Required) → ((k : ℕ) → k < 16 → Summed table sums required i k)
       → first_uncovered policy required (row_entries table i) ≡ uncovered_at table found
@@ -207,29 +197,30 @@ module _ (c nodes : List ℕ) (trees : Trees) (table sums : List ℕ) (m i : ℕ
       ∙ ap (λ (u : Option Uncovered). or_else u (first_uncovered policy required (gather (row_entries table) (rising (i + 1) (m - (i + 1))))))
       (finds policy held (up i here) required (λ k l. sum i k here l))
 
-  pub row_lacks : i < m → Finds → found.column < 67 → (policy : List Tree) → AllHeld c nodes trees 0 policy → ((n : ℕ) → n < m → Orderly table n)
+  pub row_lacks : i < m → Finds → (f : Missing) → found ≡ Some f → (policy : List Tree) → AllHeld c nodes trees 0 policy → ((n : ℕ) → n < m → Orderly table n)
       → (required : Required) → ((n k : ℕ) → n < m → k < 16 → Summed table sums required n k)
-      → first_uncovered policy required (table_entries table m) ≡ uncovered_at table found
-  row_lacks here finds h policy held up required sum = row_turn here finds policy held up required sum ∙ some_at table found _ h
+      → first_uncovered policy required (table_entries table m) ≡ uncovered_at table (Some f)
+  unfolding uncovered_at or_else
+  row_lacks here finds f e policy held up required sum = row_turn here finds policy held up required sum ∙ rw e refl
 
-  pub row_covered : i < m → Finds → 67 ≤ found.column → RowsLeft c nodes trees table sums m (i + 1)
-  row_covered here finds h = record {
+  pub row_covered : i < m → Finds → found ≡ None → RowsLeft c nodes trees table sums m (i + 1)
+  unfolding uncovered_at or_else
+  row_covered here finds e = record {
     within = omega arith;
-    same = λ policy held up required sum. row_turn here finds policy held up required sum ∙ rw (← none_at table found h) (unfold or_else in refl);
+    same = λ policy held up required sum. row_turn here finds policy held up required sum ∙ rw e refl;
   }
 
 pub rows_covered : (c nodes : List ℕ) (trees : Trees) (table sums : List ℕ) (m i : ℕ) → RowsLeft c nodes trees table sums m i → m ≤ i
     → (policy : List Tree) → AllHeld c nodes trees 0 policy → ((n : ℕ) → n < m → Orderly table n)
     → (required : Required) → ((n k : ℕ) → n < m → k < 16 → Summed table sums required n k)
-    → first_uncovered policy required (table_entries table m) ≡ uncovered_at table (record { component = 0; kind = 0; column = 67 })
-unfolding first_uncovered gather
+    → first_uncovered policy required (table_entries table m) ≡ uncovered_at table None
+unfolding first_uncovered gather uncovered_at
 rows_covered c nodes trees table sums m i left done policy held up required sum =
     left.same policy held up required sum
     ∙ ap (λ (l : List ℕ). first_uncovered policy required (gather (row_entries table) l)) (rising_done i m done)
-    ∙ none_at table (record { component = 0; kind = 0; column = 67 }) (omega arith)
 
 -- With the sums that were made in clear memory.
-pub found_all : (c nodes : List ℕ) (trees : Trees) (table sums : List ℕ) (components : ℕ) (r : Missing)
+pub found_all : (c nodes : List ℕ) (trees : Trees) (table sums : List ℕ) (components : ℕ) (r : Answer Missing)
     → ((policy : List Tree) → AllHeld c nodes trees 0 policy → ((n : ℕ) → n < components → Orderly table n)
     → (required : Required) → ((n k : ℕ) → n < components → k < 16 → Summed table sums required n k)
     → first_uncovered policy required (table_entries table components) ≡ uncovered_at table r)

@@ -1,6 +1,6 @@
 -- The covering of an entry of a table as the code finds it, in the rows that give to its path; and questions 17 and 18 as the code asks
 -- them. (`covering_rows` of proofs/EntryLaws.antt: it is the definition's.)
-use Rattle.std.specs.Prelude.{ℕ, ◌-◌, ◌≡◌, List, [], ◌∷◌, ◌++◌, map, Bool, true, false, cond, take, get_or, ltb, eqb}
+use Rattle.std.specs.Prelude.{ℕ, ◌-◌, ◌≡◌, List, [], ◌∷◌, ◌++◌, map, Bool, true, false, cond, not, take, get_or, ltb}
 use Rattle.std.proofs.Math.Option.{Option, some, none}
 use Rattle.std.specs.Prelude.{Option as Answer, Some, None}
 use Rattle.inference.specs.Lists.{every, any, only, rising}
@@ -12,7 +12,9 @@ use Rattle.policy.specs.Loads.{start_of}
 use Rattle.policy.specs.declared.Trees.{Trees}
 use Rattle.policy.specs.declared.Span.{Span}
 use Rattle.fit.specs.Satisfies.{Verdict, flag, counts, holds}
-use Rattle.fit.specs.Uncovered.{permission_of}
+use Rattle.fit.specs.Uncovered.{first, or_none}
+use Rattle.fit.specs.declared.Permission.{Permission as Told}
+use Rattle.fit.specs.declared.Permission.TheVariants.{Read, Write, Access, Disclose}
 use Rattle.fit.specs.Givers.{given_at, joined_at, granting_rows, givers_in, index_of}
 use Rattle.fit.specs.declared.Flag.{Flag}
 use Rattle.fit.specs.declared.Flag.TheVariants.{Unneeded, Granted, Lacking}
@@ -109,30 +111,24 @@ pub record CoveringIs (c nodes rows table sums : List ℕ) (component kind : ℕ
   pub reached : r.reached ≡ all_given rows
   pub verdicts : verdicts_of r ≡ verdicts_at c nodes (granting_rows (purpose_at table component) nodes rows) table sums component kind
 
--- the number of a permission: 64 read, 65 write, 66 access, below 64 the group disclosed to
-unfoldable pub number_of : Permission → ℕ
-number_of reading = 64
-number_of writing = 65
-number_of accessing = 66
-number_of (disclosing h) = h
+-- the permission that the code's value is
+abbrev pub permission_in : Told → Permission
+permission_in Read = reading
+permission_in Write = writing
+permission_in Access = accessing
+permission_in (Disclose h) = disclosing h
 
--- the number of the first permission that is not covered, or 67
-unfoldable pub lacking_in : List Verdict → ℕ
-lacking_in [] = 67
-lacking_in (v ∷ rest) = cond (holds v) (lacking_in rest) (number_of (permission_of v))
+-- what the code tells of a permission that is not covered
+abbrev pub told_in : Answer Told → Option Permission
+told_in None = none
+told_in (Some p) = some (permission_in p)
 
-unfoldable pub missing_at : List ℕ → List ℕ → List ℕ → List ℕ → List ℕ → ℕ → ℕ → ℕ
-missing_at c nodes rows table sums component kind = lacking_in (verdicts_at c nodes rows table sums component kind)
-
--- the permission of a number, none at 67
-unfoldable pub permission_at : ℕ → Permission
-permission_at column = cond (eqb column 64) reading (cond (eqb column 65) writing (cond (eqb column 66) accessing (disclosing column)))
-
-unfoldable pub missing_of : ℕ → Option Permission
-missing_of column = cond (ltb column 67) (some (permission_at column)) none
+-- the first permission of some verdicts that is not covered
+unfoldable pub lacking_in : List Verdict → Option Permission
+lacking_in vs = or_none (first (λ v. not (holds v)) vs)
 
 -- the first of questions 17 and 18 that an entry fails, or 19
 unfoldable pub rows_fault : List ℕ → List ℕ → List ℕ → List ℕ → List ℕ → ℕ → ℕ → ℕ
 rows_fault c nodes rows table sums component kind =
     cond (all_given rows)
-    (cond (ltb (missing_at c nodes (granting_rows (purpose_at table component) nodes rows) table sums component kind) 67) 18 19) 17
+    (cond (every holds (verdicts_at c nodes (granting_rows (purpose_at table component) nodes rows) table sums component kind)) 19 18) 17

@@ -2,11 +2,11 @@
 // granted sum beside the needed one; and the first of them that is not covered.
 ghost use Rattle.std.specs.Prelude.{◌≡◌, List, ℕ, ◌<◌, ◌≤◌, ◌-◌, length, take};
 ghost use Rattle.inference.specs.Counts.{at_most};
-ghost use Rattle.inference.specs.Interface.{Permission, Required};
+ghost use Rattle.inference.specs.Interface.{Permission as Needed, Required};
 ghost use Rattle.inference.specs.Rows.{Orderly, entry_at, group_count, path_at};
 ghost use Rattle.sharing.specs.Sums.{sum_count, Summed};
 ghost use Rattle.policy.specs.Syntax.{Tree};
-ghost use Rattle.policy.specs.Loads.{Bounded, AllHeld};
+ghost use Rattle.policy.specs.Loads.{AllHeld};
 ghost use Rattle.fit.specs.Satisfies.{Verdict, covering};
 ghost use Rattle.fit.specs.Givers.{given_rows, joined_at, givers_in};
 ghost use Rattle.fit.specs.Covers.{
@@ -19,25 +19,23 @@ ghost use Rattle.fit.specs.Covers.{
   sum_verdicts,
   places_from,
   lacking_in,
+  told_in,
   verdicts_for,
   verdicts_of,
   CoveringIs,
 };
 
 use crate::grants::{givers, tree_of};
-use crate::{Case, Covering, Flag, Flags, Grant, Sum, Sums};
-use inference::rows::{group_at, group_count};
+use crate::{Case, Covering, Flag, Flags, Grant, Permission, Sum, Sums};
 use inference::table::{ACCESSES, Entry, READS, Row, WRITES};
-use interface::count_at;
-use policy::{Policy, Span, Trees};
-use sharing::needed_at;
+use policy::Span;
 
 impl Grant<'_> {
     // What is granted of a flag of which an entry needs so many.
     #[tactic(auto, using(crate::proofs::CoverSteps::cover_steps))]
     fn flag(&self, needed: usize, value: usize) -> Flag
         requires { 0 < value }
-        ensures { (c : List ℕ) (p : Permission) → flag_verdicts p result
+        ensures { (c : List ℕ) (p : Needed) → flag_verdicts p result
             ≡ flag_at p value c self.now.policy.nodes.now (given_rows self.now.givers) needed }
     {
         if needed == 0 {
@@ -76,15 +74,16 @@ impl Grant<'_> {
         let Entry {
             table,
             component,
-            kind,
+            ..
         } = entry;
-        let count = group_count(table, component);
+        let row = Row { table, component };
+        let count = row.group_count();
         let mut items = [NO_SUM; 8];
         let mut len: usize = 0;
         for place in 0..count {
-            if count_at(table, component, kind, place) != 0 {
-                let group = group_at(table, component, place);
-                let needed = needed_at(sums, table, component, kind, place);
+            if entry.count(place) != 0 {
+                let group = row.group_at(place);
+                let needed = sharing::needed(sums, entry, place);
                 let granted = self.count(group);
                 items[len] = Sum {
                     group,
@@ -169,33 +168,6 @@ impl<'a> Case<'a> {
     }
 }
 
-/// What the entry of a component and a kind comes to in the policy.
-pub fn entry_covering<'a>(
-    c: &'a [u8],
-    nodes: &'a [u16],
-    trees: Trees,
-    table: &'a [u16],
-    sums: &'a [u32],
-    component: usize,
-    kind: usize,
-) -> Covering
-    requires { (component < 32) × (kind < 16) × Bounded trees × (length nodes.now ≡ 384) }
-    ensures result_value { verdicts_of result ≡ verdicts_for c.now nodes.now trees table.now sums.now component kind }
-    ensures few { result.sums.len ≤ 8 }
-{
-    let policy = Policy {
-        charter: c,
-        nodes,
-        trees,
-    };
-    let entry = Entry {
-        table,
-        component,
-        kind,
-    };
-    Case { policy, sums }.covering(entry)
-}
-
 impl Sum {
     // Is the needed sum at most the granted one? One from 4,000,000 on is unlimited.
     #[tactic(auto, using(crate::proofs::CoverSteps::cover_steps))]
@@ -214,39 +186,41 @@ impl Sums {
         &self.items[..self.len.min(8)]
     }
 
-    // The first group of which more is needed than is granted, or 67.
+    // The first group of which more is needed than is granted.
     #[tactic(auto, using(crate::proofs::CoverSteps::cover_steps))]
-    fn first_short(&self) -> usize
-        ensures { result ≡ lacking_in (sum_verdicts self.now) }
+    fn lacking(&self) -> Option<Permission>
+        ensures { told_in result ≡ lacking_in (sum_verdicts self.now) }
     {
         let items = self.items();
         for sum in items {
             if !sum.is_covered() {
-                return sum.group;
+                return Some(Permission::Disclose(sum.group));
             }
         }
-        67
+        None
     }
 }
 
-/// The number of the first permission that is not covered, in the order read (64), write (65), access (66), then groups; or 67.
-#[tactic(auto, using(crate::proofs::CoverSteps::cover_steps))]
-pub fn first_lacking(found: Covering) -> usize
-    ensures { result ≡ lacking_in (verdicts_of found) }
-{
-    let Flags {
-        read,
-        write,
-        access,
-    } = found.flags;
-    if read == Flag::Lacking {
-        return 64;
+impl Covering {
+    /// The first permission that is not covered, in the order read, write, access, then groups.
+    #[tactic(auto, using(crate::proofs::CoverSteps::cover_steps))]
+    pub fn lacking(&self) -> Option<Permission>
+        ensures { told_in result ≡ lacking_in (verdicts_of self.now) }
+    {
+        let Flags {
+            read,
+            write,
+            access,
+        } = self.flags;
+        if read == Flag::Lacking {
+            return Some(Permission::Read);
+        }
+        if write == Flag::Lacking {
+            return Some(Permission::Write);
+        }
+        if access == Flag::Lacking {
+            return Some(Permission::Access);
+        }
+        self.sums.lacking()
     }
-    if write == Flag::Lacking {
-        return 65;
-    }
-    if access == Flag::Lacking {
-        return 66;
-    }
-    found.sums.first_short()
 }

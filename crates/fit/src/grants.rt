@@ -219,14 +219,14 @@ fn flag_at(nodes: &[u16], row: usize, value: usize) -> bool
 
 // The stored count for a group in a list, 0 where it is absent.
 #[tactic(auto, using(crate::proofs::GrantSteps::item_steps))]
-fn listed(c: &[u8], p: Permissions, group: usize) -> usize
+fn listed(charter: &[u8], p: Permissions, group: usize) -> usize
     requires { (p.list < 8192) × (p.count < 128) }
-    ensures result_value { stored_count result ≡ listed_in group (items_at p.count c.now p.list) }
+    ensures result_value { stored_count result ≡ listed_in group (items_at p.count charter.now p.list) }
     ensures upper_bound { result < 65536 }
 {
     for i in 0..p.count {
-        if byte_in(c, p.list + 3 * i) == group {
-            return word_in(c, p.list + 3 * i + 1);
+        if byte_in(charter, p.list + 3 * i) == group {
+            return word_in(charter, p.list + 3 * i + 1);
         }
     }
     0
@@ -234,11 +234,11 @@ fn listed(c: &[u8], p: Permissions, group: usize) -> usize
 
 // The stored count for a group that a row gives.
 #[tactic(auto, using(crate::proofs::GrantSteps::given_steps))]
-fn count_at(c: &[u8], nodes: &[u16], row: usize, group: usize) -> usize
-    ensures result_value { stored_count result ≡ listed_in group (given_at c.now nodes.now row).list }
+fn count_at(charter: &[u8], nodes: &[u16], row: usize, group: usize) -> usize
+    ensures result_value { stored_count result ≡ listed_in group (given_at charter.now nodes.now row).list }
     ensures upper_bound { result < 65536 }
 {
-    listed(c, given_at(nodes, row), group)
+    listed(charter, given_at(nodes, row), group)
 }
 
 impl Grant<'_> {

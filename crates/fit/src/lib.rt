@@ -68,11 +68,19 @@ pub struct Covering {
     pub sums: Sums,
 }
 
-// A permission of the entry of a component and a kind by its number: 64 read, 65 write, 66 access, below 64 the group disclosed to;
-// 67 is none.
+/// A permission of an entry: to read, write or access data of its kind, or to disclose it to a group.
+#[derive(Clone, Copy, PartialEq, Eq, Debug)]
+pub enum Permission {
+    Read,
+    Write,
+    Access,
+    Disclose(usize),
+}
+
+/// A permission of the entry of a component and a kind that the policy does not cover.
 #[derive(Clone, Copy)]
 pub struct Missing {
     pub component: usize,
     pub kind: usize,
-    pub column: usize,
+    pub permission: Permission,
 }

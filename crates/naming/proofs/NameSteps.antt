@@ -11,8 +11,8 @@ use lib.Seq.{drop-cons, take-suc-set, take_all}
 use borrow.Author.Rules.{rules}
 use borrow.Author.Tests.{lt-ltb, eq-eqb, ne_eqb}
 use Rattle.reading.specs.Read.{Read, got, refused, and_then}
-use Rattle.reading.specs.declared.End.{End}
-use Rattle.reading.specs.declared.End.TheVariants as end_case
+use Rattle.std.specs.Prelude.{Result, Ok, Err}
+use Rattle.reading.specs.declared.Question.TheVariants as question
 use Rattle.reading.specs.declared.Refusal.{Refusal}
 use Rattle.inference.specs.Lists.{any}
 use Rattle.std.specs.List.{list_any}
@@ -20,18 +20,18 @@ use Rattle.naming.specs.Names.{letters_at, ended_at, name_at, names_at, same, di
 use Rattle.naming.specs.Told.{ends, after, words_at, names_at_places}
 
 -- Question 40 fails.
-abbrev Broken : ℕ → End → Type 0
-Broken at r = r ≡ end_case.Refused (record { question = 40; at = at })
+abbrev Broken : ℕ → Result ℕ Refusal → Type 0
+Broken at r = r ≡ Err (record { question = question.Names; at = at })
 
 -- nothing was read, so nothing is far
-pub refused_near : (r : End) (q : Refusal) (far : ℕ) → r ≡ end_case.Refused q → after r ≤ far
+pub refused_near : (r : Result ℕ Refusal) (q : Refusal) (far : ℕ) → r ≡ Err q → after r ≤ far
 refused_near r q far e = rw e (omega arith)
 
-pub read_near : (r : End) (k far : ℕ) → r ≡ end_case.At k → after r ≤ far → k ≤ far
+pub read_near : (r : Result ℕ Refusal) (k far : ℕ) → r ≡ Ok k → after r ≤ far → k ≤ far
 read_near r k far e h = rw e at h
 
 -- One name.
-module _ (s : List ℕ) (at len : ℕ) (is : len ≡ length (letters_at 20 s at)) (r : End) where
+module _ (s : List ℕ) (at len : ℕ) (is : len ≡ length (letters_at 20 s at)) (r : Result ℕ Refusal) where
   pub no_letters : len ≡ 0 → Broken at r → ends r (letters_at 20 s at) ≡ name_at s at
   unfolding name_at ended_at
   no_letters h e = rw (e, ← is, h) refl
@@ -41,7 +41,7 @@ module _ (s : List ℕ) (at len : ℕ) (is : len ≡ length (letters_at 20 s at)
   not_ended h b f g e = rw (e, ← is, lt-ltb 0 len (omega (arith, h)), ← f, ne_eqb b 10 g) refl
 
 pub ended_well : (s : List ℕ) (at len : ℕ) → len ≡ length (letters_at 20 s at) → (len ≡ 0 → ⊥) → (b : ℕ) → b ≡ get_or s (at + len) 0 → b ≡ 10
-    → ends (end_case.At (at + len + 1)) (letters_at 20 s at) ≡ name_at s at
+    → ends (Ok (at + len + 1)) (letters_at 20 s at) ≡ name_at s at
 unfolding name_at ended_at
 ended_well s at len is h b f g = rw (← is, lt-ltb 0 len (omega (arith, h)), ← f, eq-eqb b 10 g) refl
 
@@ -77,7 +77,7 @@ names_start s at places few = record {
     go (got a k) = unfold and_then in refl
     go (refused q k) = unfold and_then in refl
 
-module _ (s : List ℕ) (at : ℕ) (places₀ places : List ℕ) (next i : ℕ) (so : NamesSoFar s at places₀ places next i) (here : i < length places) (read : End)
+module _ (s : List ℕ) (at : ℕ) (places₀ places : List ℕ) (next i : ℕ) (so : NamesSoFar s at places₀ places next i) (here : i < length places) (read : Result ℕ Refusal)
     (told : ends read (letters_at 20 s next) ≡ name_at s next) where
   name_turn : names_at (length places₀) s at
       ≡ prefixed (words_at s (take i places)) (and_then (ends read (letters_at 20 s next)) (λ word k. and_then (names_at (length places₀ - (i + 1)) s k) (λ words end. got (word ∷ words) end)))
@@ -86,7 +86,7 @@ module _ (s : List ℕ) (at : ℕ) (places₀ places : List ℕ) (next i : ℕ) 
       let z : length places₀ - i ≡ suc (length places₀ - (i + 1)) = omega (arith, so.long) in
       so.whole ∙ rw (z, ← told) refl
 
-  pub name_next : (k : ℕ) → read ≡ end_case.At k → after read ≤ next + 21 → NamesSoFar s at places₀ (set places i next) k (i + 1)
+  pub name_next : (k : ℕ) → read ≡ Ok k → after read ≤ next + 21 → NamesSoFar s at places₀ (set places i next) k (i + 1)
   unfolding and_then words_at
   name_next k e n = record {
     within = omega (arith, length-set places i next);
@@ -98,18 +98,18 @@ module _ (s : List ℕ) (at : ℕ) (places₀ places : List ℕ) (next i : ℕ) 
         ∙ ap (λ (l : List (List ℕ)). prefixed l (names_at (length places₀ - (suc i)) s k)) (sym (map-append (letters_at 20 s) (take i places) (next ∷ []))));
   }
 
-  pub name_broken : (q : Refusal) → read ≡ end_case.Refused q → ends read (words_at s (set places i next)) ≡ names_at (length places₀) s at
+  pub name_broken : (q : Refusal) → read ≡ Err q → ends read (words_at s (set places i next)) ≡ names_at (length places₀) s at
   unfolding and_then prefixed
   name_broken q e = rw e (sym (name_turn ∙ rw e refl))
 
 module _ (s : List ℕ) (at : ℕ) (places₀ places : List ℕ) (next i : ℕ) (so : NamesSoFar s at places₀ places next i) (done : length places ≤ i) where
-  pub names_end : ends (end_case.At next) (words_at s places) ≡ names_at (length places₀) s at
+  pub names_end : ends (Ok next) (words_at s places) ≡ names_at (length places₀) s at
   unfolding names_at prefixed and_then words_at
   names_end =
       let z : length places₀ - i ≡ 0 = omega (arith, so.long) in
       sym (so.whole ∙ rw (z, take_all i places done) (ap (λ (l : List (List ℕ)). got l next) (append-nil (map (letters_at 20 s) places))))
 
-  pub names_near : after (end_case.At next) ≤ at + 21 * length places₀
+  pub names_near : after (Ok next) ≤ at + 21 * length places₀
   names_near = let m : i ≡ length places₀ = omega (arith, so.within, so.long) in rw (← m) so.near
 
 -- A slice from a place on.
@@ -148,37 +148,37 @@ module _ (s places : List ℕ) (i : ℕ) (so : ApartSoFar s places i) where
   all_apart h = sym (so.so_far ∙ rw (drop_of_length-le places {i = i} h) refl)
 
 -- A list of names.
-module _ (s : List ℕ) (at n : ℕ) (places : List ℕ) (read : End) (told : ends read (words_at s places) ≡ names_at n s at) where
-  pub list_broken : (q : Refusal) → read ≡ end_case.Refused q → ends read (words_at s places) ≡ list_at n s at
+module _ (s : List ℕ) (at n : ℕ) (places : List ℕ) (read : Result ℕ Refusal) (told : ends read (words_at s places) ≡ names_at n s at) where
+  pub list_broken : (q : Refusal) → read ≡ Err q → ends read (words_at s places) ≡ list_at n s at
   unfolding list_at and_then
   list_broken q e = rw (← told, e) refl
 
-  module _ (k : ℕ) (e : read ≡ end_case.At k) (b : Bool) (d : b ≡ distinct (words_at s places)) where
+  module _ (k : ℕ) (e : read ≡ Ok k) (b : Bool) (d : b ≡ distinct (words_at s places)) where
     pub list_read : b ≡ true → ends read (words_at s places) ≡ list_at n s at
     unfolding list_at and_then
     list_read g = rw (← told, e, ← d, g) refl
 
-    pub list_repeats : b ≡ false → (r : End) → Broken at r → ends r (words_at s places) ≡ list_at n s at
+    pub list_repeats : b ≡ false → (r : Result ℕ Refusal) → Broken at r → ends r (words_at s places) ≡ list_at n s at
     unfolding list_at and_then
     list_repeats g r f = rw (← told, e, ← d, g, f) refl
 
 -- The whole file.
-module _ (s groups kinds : List ℕ) (m n : ℕ) (of_groups : m ≡ 64) (of_kinds : n ≡ 16) (first : End) (told : ends first (words_at s groups) ≡ list_at m s 0) where
-  pub groups_broken : (q : Refusal) → first ≡ end_case.Refused q → ends first (names_at_places s groups kinds) ≡ read_names s
+module _ (s groups kinds : List ℕ) (m n : ℕ) (of_groups : m ≡ 64) (of_kinds : n ≡ 16) (first : Result ℕ Refusal) (told : ends first (words_at s groups) ≡ list_at m s 0) where
+  pub groups_broken : (q : Refusal) → first ≡ Err q → ends first (names_at_places s groups kinds) ≡ read_names s
   unfolding read_names and_then
   groups_broken q e = rw (← of_groups, ← told, e) refl
 
-  module _ (k : ℕ) (e : first ≡ end_case.At k) (second : End) (more : ends second (words_at s kinds) ≡ list_at n s k) where
-    pub kinds_broken : (q : Refusal) → second ≡ end_case.Refused q → ends second (names_at_places s groups kinds) ≡ read_names s
+  module _ (k : ℕ) (e : first ≡ Ok k) (second : Result ℕ Refusal) (more : ends second (words_at s kinds) ≡ list_at n s k) where
+    pub kinds_broken : (q : Refusal) → second ≡ Err q → ends second (names_at_places s groups kinds) ≡ read_names s
     unfolding read_names and_then
     kinds_broken q f = rw (← of_groups, ← told, e, ← of_kinds, ← more, f) refl
 
-    module _ (l : ℕ) (f : second ≡ end_case.At l) where
-      pub names_whole : l ≡ length s → ends (end_case.At l) (names_at_places s groups kinds) ≡ read_names s
+    module _ (l : ℕ) (f : second ≡ Ok l) where
+      pub names_whole : l ≡ length s → ends (Ok l) (names_at_places s groups kinds) ≡ read_names s
       unfolding read_names and_then whole_at names_at_places
       names_whole g = rw (← of_groups, ← told, e, ← of_kinds, ← more, f, eq-eqb l (length s) g) refl
 
-      pub names_over : (l ≡ length s → ⊥) → (r : End) → Broken l r → ends r (names_at_places s groups kinds) ≡ read_names s
+      pub names_over : (l ≡ length s → ⊥) → (r : Result ℕ Refusal) → Broken l r → ends r (names_at_places s groups kinds) ≡ read_names s
       unfolding read_names and_then whole_at
       names_over g r h = rw (← of_groups, ← told, e, ← of_kinds, ← more, f, ne_eqb l (length s) g, h) refl
 

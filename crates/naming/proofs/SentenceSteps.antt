@@ -21,7 +21,9 @@ use Rattle.naming.specs.Line.{Put}
 use Rattle.naming.specs.declared.sentence.Line.{Line}
 use Rattle.interface.proofs.WriteLaws.{parts_from, stored_more, Writing, write_first, write_next, write_last}
 use Rattle.interface.proofs.InterfaceLaws.{one_at, ones_are}
-use Rattle.fit.specs.Covers.{permission_at}
+use Rattle.fit.specs.Covers.{permission_in}
+use Rattle.fit.specs.declared.Permission.{Permission as Told}
+use Rattle.fit.specs.declared.Permission.TheVariants.{Read, Write, Access, Disclose}
 use Rattle.naming.specs.Names.{letters_at}
 use Rattle.naming.specs.Sentence.{name_of, slashed, path_names, may_not, read_verb, write_verb, access_verb, disclose_verb, verb, of_kind, sentence}
 use Rattle.naming.specs.Told.{words_at, step_text, names_at_places}
@@ -159,24 +161,24 @@ module _ (s places groups : List ℕ) where
 pub path_few : (p : Path) (xs : List ℕ) → length p.groups ≡ 8 → xs ≡ path_of p → length xs ≤ 8
 path_few p xs h e = omega (arith, ap length e, length-take p.len p.groups)
 
--- Verbs, by column.
-module _ (names : List (List ℕ)) (column : ℕ) (a b c : Line) where
-  pub read_said : column ≡ 64 → Put a b read_verb → Put a b (verb names (permission_at column))
-  unfolding permission_at verb
-  read_said e p = rw e p
+-- Verbs.
+module _ (names : List (List ℕ)) (p : Told) (a b c : Line) where
+  pub read_said : p ≡ Read → Put a b read_verb → Put a b (verb names (permission_in p))
+  unfolding verb
+  read_said e r = rw e r
 
-  pub write_said : column ≡ 65 → Put a b write_verb → Put a b (verb names (permission_at column))
-  unfolding permission_at verb
-  write_said e p = rw e p
+  pub write_said : p ≡ Write → Put a b write_verb → Put a b (verb names (permission_in p))
+  unfolding verb
+  write_said e r = rw e r
 
-  pub access_said : column ≡ 66 → Put a b access_verb → Put a b (verb names (permission_at column))
-  unfolding permission_at verb
-  access_said e p = rw e p
+  pub access_said : p ≡ Access → Put a b access_verb → Put a b (verb names (permission_in p))
+  unfolding verb
+  access_said e r = rw e r
 
-  pub disclose_said : (column ≡ 64 → ⊥) → (column ≡ 65 → ⊥) → (column ≡ 66 → ⊥) → (word : List ℕ) → word ≡ name_of names column
-      → Put a b disclose_verb → Put b c word → Put a c (verb names (permission_at column))
-  unfolding permission_at verb
-  disclose_said e f g word is p q = rw (ne_eqb column 64 e, ne_eqb column 65 f, ne_eqb column 66 g, ← is) (put_more p q)
+  pub disclose_said : (group : ℕ) → p ≡ Disclose group → (word : List ℕ) → word ≡ name_of names group
+      → Put a b disclose_verb → Put b c word → Put a c (verb names (permission_in p))
+  unfolding verb
+  disclose_said group e word is q r = rw (e, ← is) (put_more q r)
 
 pub kind_said : (names : List (List ℕ)) (kind : ℕ) (a b c : Line) (word : List ℕ) → word ≡ name_of names kind
     → Put a b (58 ∷ 32 ∷ []) → Put b c word → Put a c (of_kind names kind)

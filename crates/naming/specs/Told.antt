@@ -1,20 +1,20 @@
 -- What the code's answers tell: a reading of which only the place after it is answered, and the names that begin at places.
-use Rattle.std.specs.Prelude.{ℕ, List, ◌∷◌, map, cond, eqb}
+use Rattle.std.specs.Prelude.{Result, Ok, Err, ℕ, List, ◌∷◌, map, cond, eqb}
 use Rattle.reading.specs.Read.{Read, got, refused}
-use Rattle.reading.specs.declared.End.{End}
-use Rattle.reading.specs.declared.End.TheVariants as end
+use Rattle.reading.specs.Told.{number_of}
+use Rattle.reading.specs.declared.Refusal.{Refusal}
 use Rattle.naming.specs.Names.{letters_at, Names}
 use Rattle.naming.specs.Sentence.{name_of}
 
 -- A value that was read and the place after it, or why it was not read.
-abbrev pub ends : {A : Type 0} → End → A → Read A
-ends (end.At next) a = got a next
-ends (end.Refused r) a = refused r.question r.at
+abbrev pub ends : {A : Type 0} → Result ℕ Refusal → A → Read A
+ends (Ok next) a = got a next
+ends (Err r) a = refused (number_of r.question) r.at
 
 -- The place after what was read, 0 where it was not.
-abbrev pub after : End → ℕ
-after (end.At next) = next
-after (end.Refused r) = 0
+abbrev pub after : Result ℕ Refusal → ℕ
+after (Ok next) = next
+after (Err r) = 0
 
 -- The names that begin at some places.
 unfoldable pub words_at : List ℕ → List ℕ → List (List ℕ)

@@ -6,18 +6,21 @@ ghost use Rattle.naming.specs.Told.{ends, after, words_at, names_at_places};
 
 use crate::letters::{letters_at, same_at};
 use reading::bytes::byte_in;
-use reading::{End, Refusal};
+use reading::{Question, Refusal};
 
 // A names file that breaks its rules.
-fn broken(at: usize) -> End
-    ensures { result ≡ End.Refused (record { question = 40; at = at }) }
+fn broken(at: usize) -> Result<usize, Refusal>
+    ensures { result ≡ Err (record { question = Question.Names; at = at }) }
 {
-    End::Refused(Refusal { question: 40, at })
+    Err(Refusal {
+        question: Question::Names,
+        at,
+    })
 }
 
 // Reads past the name at a place and the byte 0A that ends it.
 #[tactic(auto, using(crate::proofs::NameSteps::name_steps))]
-fn name_at(s: &[u8], at: usize) -> End
+fn name_at(s: &[u8], at: usize) -> Result<usize, Refusal>
     requires { at < 100000 }
     ensures at_value { ends result (letters_at 20 s.now at) ≡ name_at s.now at }
     ensures near { after result ≤ at + 21 }
@@ -27,7 +30,7 @@ fn name_at(s: &[u8], at: usize) -> End
         return broken(at);
     }
     if byte_in(s, at + len) == 10 {
-        End::At(at + len + 1)
+        Ok(at + len + 1)
     } else {
         broken(at)
     }
@@ -35,7 +38,7 @@ fn name_at(s: &[u8], at: usize) -> End
 
 // Reads names, as many as there are places, and keeps where each begins.
 #[tactic(auto, using(crate::proofs::NameSteps::name_steps))]
-fn names_at(s: &[u8], at: usize, places: &mut [u16]) -> End
+fn names_at(s: &[u8], at: usize, places: &mut [u16]) -> Result<usize, Refusal>
     requires { (at < 30000) × (length places.old ≤ 64) }
     ensures places_after { ends result (words_at s.now places.new) ≡ names_at (length places.old) s.now at }
     ensures near { after result ≤ at + 21 * length places.old }
@@ -44,12 +47,12 @@ fn names_at(s: &[u8], at: usize, places: &mut [u16]) -> End
     for place in places.iter_mut() {
         *place = next as u16;
         let read = name_at(s, next);
-        let End::At(end) = read else {
+        let Ok(end) = read else {
             return read;
         };
         next = end;
     }
-    End::At(next)
+    Ok(next)
 }
 
 // Is the name at a place one of those that begin at some places?
@@ -75,13 +78,13 @@ fn all_distinct(s: &[u8], places: &[u16]) -> bool
 
 // Reads a list of distinct names, as many as there are places.
 #[tactic(auto, using(crate::proofs::NameSteps::name_steps))]
-fn list_at(s: &[u8], at: usize, places: &mut [u16]) -> End
+fn list_at(s: &[u8], at: usize, places: &mut [u16]) -> Result<usize, Refusal>
     requires { (at < 30000) × (length places.old ≤ 64) }
     ensures places_after { ends result (words_at s.now places.new) ≡ list_at (length places.old) s.now at }
     ensures near { after result ≤ at + 21 * length places.old }
 {
     let read = names_at(s, at, places);
-    let End::At(_) = read else {
+    let Ok(_) = read else {
         return read;
     };
     if all_distinct(s, places) {
@@ -93,16 +96,16 @@ fn list_at(s: &[u8], at: usize, places: &mut [u16]) -> End
 
 /// Question 40 of any bytes, and the places at which the names of the 64 groups and of the 16 kinds begin.
 #[tactic(auto, using(crate::proofs::NameSteps::name_steps))]
-pub fn read_names(s: &[u8], groups: &mut [u16], kinds: &mut [u16]) -> End
+pub fn read_names(s: &[u8], groups: &mut [u16], kinds: &mut [u16]) -> Result<usize, Refusal>
     requires { (length groups.old ≡ 64) × (length kinds.old ≡ 16) }
     ensures { ends result (names_at_places s.now groups.new kinds.new) ≡ read_names s.now }
 {
     let first = list_at(s, 0, groups);
-    let End::At(next) = first else {
+    let Ok(next) = first else {
         return first;
     };
     let second = list_at(s, next, kinds);
-    let End::At(end) = second else {
+    let Ok(end) = second else {
         return second;
     };
     if end == s.len() { second } else { broken(end) }

@@ -2,13 +2,13 @@
 ghost use Rattle.std.specs.Prelude.{◌≡◌, ◌∷◌, [], ◌+◌, ◌<◌, ◌≤◌, length};
 ghost use Rattle.reading.specs.Told.{path_of};
 ghost use Rattle.interface.specs.Writes.{Stored};
-ghost use Rattle.fit.specs.Covers.{permission_at};
+ghost use Rattle.fit.specs.Covers.{permission_in};
 ghost use Rattle.naming.specs.Sentence.{name_of, path_names, verb, of_kind, sentence};
 ghost use Rattle.naming.specs.Told.{words_at, step_text, names_at_places};
 ghost use Rattle.naming.specs.Line.{Put};
 
 use crate::letters::word_at;
-use fit::Missing;
+use fit::{Missing, Permission};
 use reading::Path;
 
 // A list of names: the file in which they stand, and where each begins.
@@ -92,20 +92,20 @@ impl<'a> Line<'a> {
         }
     }
 
-    // Adds the verb of a permission, which is given by its column.
+    // Adds the verb of a permission.
     #[tactic(auto, using(crate::proofs::SentenceSteps::sentence_steps))]
-    fn put_verb(&mut self, groups: NameList<'_>, column: usize)
+    fn put_verb(&mut self, groups: NameList<'_>, permission: Permission)
         requires { self.old.len < 800 }
-        ensures put { Put self.old self.new (verb (words_at groups.entry.file.now groups.entry.places.now) (permission_at column)) }
+        ensures put { Put self.old self.new (verb (words_at groups.entry.file.now groups.entry.places.now) (permission_in permission)) }
         ensures near { self.new.len ≤ self.old.len + 40 }
     {
-        match column {
-            64 => self.put(b"read"),
-            65 => self.put(b"write"),
-            66 => self.put(b"access"),
-            _ => {
+        match permission {
+            Permission::Read => self.put(b"read"),
+            Permission::Write => self.put(b"write"),
+            Permission::Access => self.put(b"access"),
+            Permission::Disclose(group) => {
                 self.put(b"disclose to ");
-                self.put(groups.name(column));
+                self.put(groups.name(group));
             }
         }
     }
@@ -121,32 +121,40 @@ impl<'a> Line<'a> {
     }
 }
 
-/// Stores the sentence for an uncovered permission of a path, as much of it as there is room for, and answers its length.
-#[tactic(auto, using(crate::proofs::SentenceSteps::sentence_steps))]
-pub fn put_sentence(
-    s: &[u8],
-    groups: &[u16],
-    kinds: &[u16],
-    path: Path,
-    missing: Missing,
-    out: &mut [u8],
-) -> usize
-    ensures { Stored out.old out.new 0
-        (sentence (names_at_places s.now groups.now kinds.now)
-        (record { path = path_of path; permission = permission_at missing.column; kind = missing.kind })) result }
-{
-    let group_names = NameList {
-        file: s,
-        places: groups,
-    };
-    let kind_names = NameList {
-        file: s,
-        places: kinds,
-    };
-    let mut line = Line { out, len: 0 };
-    line.put_path(group_names, path);
-    line.put(b" may not ");
-    line.put_verb(group_names, missing.column);
-    line.put_kind(kind_names, missing.kind);
-    line.len
+/// The names that a names file gives: the file, and the places at which the names of the groups and those of the kinds begin.
+#[derive(Clone, Copy)]
+pub struct Names<'a> {
+    pub file: &'a [u8],
+    pub groups: &'a [u16],
+    pub kinds: &'a [u16],
+}
+
+impl<'a> Names<'a> {
+    /// Stores the sentence for an uncovered permission of a path, as much of it as there is room for, and answers its length.
+    #[tactic(auto, using(crate::proofs::SentenceSteps::sentence_steps))]
+    pub fn put_sentence(&self, path: Path, missing: Missing, out: &mut [u8]) -> usize
+        ensures { Stored out.old out.new 0
+            (sentence (names_at_places self.now.file.now self.now.groups.now self.now.kinds.now)
+            (record { path = path_of path; permission = permission_in missing.permission; kind = missing.kind })) result }
+    {
+        let Names {
+            file,
+            groups,
+            kinds,
+        } = *self;
+        let group_names = NameList {
+            file,
+            places: groups,
+        };
+        let kind_names = NameList {
+            file,
+            places: kinds,
+        };
+        let mut line = Line { out, len: 0 };
+        line.put_path(group_names, path);
+        line.put(b" may not ");
+        line.put_verb(group_names, missing.permission);
+        line.put_kind(kind_names, missing.kind);
+        line.len
+    }
 }

@@ -2,8 +2,8 @@
 use Rattle.fit.proofs.EntrySteps.{entry_steps}
 use Rattle.fit.proofs.Case.tree_fault.Goals as goal
 
-pub returns-then-first_lacking-lt67 : goal.returns-then-first_lacking-lt67
-returns-then-first_lacking-lt67 c = search entry_steps
+pub returns-in-Some : goal.returns-in-Some
+returns-in-Some c = search entry_steps
 
-pub returns : goal.returns
-returns c = search entry_steps
+pub returns-in-None : goal.returns-in-None
+returns-in-None c = search entry_steps

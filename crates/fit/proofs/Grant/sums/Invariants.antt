@@ -4,4 +4,4 @@ use Rattle.fit.proofs.CoverSteps.{SumsSoFar}
 use Rattle.fit.proofs.Grant.sums.Given as goal
 
 abbrev pub invariant-loop-place : goal.invariant-loop-place
-invariant-loop-place l = SumsSoFar l.self.policy.charter.now l.self.policy.nodes.now (given_rows l.self.givers) l.table l.sums l.component l.kind l.count l.items l.len l.place
+invariant-loop-place l = SumsSoFar l.self.policy.charter.now l.self.policy.nodes.now (given_rows l.self.givers) l.entry.table.now l.sums l.entry.component l.entry.kind l.count l.items l.len l.place
