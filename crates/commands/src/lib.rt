@@ -5,9 +5,9 @@
 use comparing::no_looser;
 use execution::play;
 use explaining::examine;
-use files::{first, load, print_refusal, print_refused};
+use files::{first, load};
 use listing::entry_line;
-use service::Answer;
+use reading::Question;
 use std::io;
 use std::io::Print;
 use std::rt::Files;
@@ -55,14 +55,14 @@ fn print_entries(rt: &impl Print, slack: &[u8], between: &[u8]) -> io::Result<()
 // Prints why question 18 refuses a sheet, `between` before it: the sentence, or the number of the question that its names file fails.
 fn print_explanation(
     rt: &impl Print,
-    explained: Answer,
+    explained: Result<usize, Question>,
     line: &[u8],
     between: &[u8],
 ) -> io::Result<()> {
     rt.write_all(between)?;
     match explained {
-        Answer::Accepted(n) => rt.write_all(first(line, n)),
-        Answer::Refused(question) => print_refusal(rt, question),
+        Ok(n) => rt.write_all(first(line, n)),
+        Err(question) => print!(rt; "refused {question}"),
     }
 }
 
@@ -79,13 +79,13 @@ pub fn print_listing(
     let mut line = [0u8; SENTENCE_ROOM];
     let examined = examine(sheet, charter, names, &mut output, &mut line);
     match examined.told {
-        Answer::Accepted(n) => {
+        Ok(n) => {
             rt.write_all(b"accepted")?;
             print_entries(rt, first(&output, n), between)?;
         }
-        Answer::Refused(question) => {
-            print_refusal(rt, question)?;
-            if question == 18 {
+        Err(question) => {
+            print!(rt; "refused {question}")?;
+            if question == Question::Covered {
                 print_explanation(rt, examined.explained, &line, between)?;
             }
         }
@@ -121,21 +121,25 @@ pub fn run(rt: &(impl Files + Print)) -> io::Result<()> {
         &mut log,
     );
     match answer {
-        Answer::Accepted(moves) => rt.write_all(first(&log, moves.saturating_mul(8))),
-        Answer::Refused(question) => print_refused(rt, question),
+        Ok(moves) => rt.write_all(first(&log, moves.saturating_mul(8))),
+        Err(question) => println!(rt; "refused {question}"),
     }
 }
 
 /// Writes a moved sheet's bytes alone, or `refused N`.
-pub fn write_moved(rt: &impl Print, answer: Answer, output: &[u8]) -> io::Result<()> {
+pub fn write_moved(
+    rt: &impl Print,
+    answer: Result<usize, Question>,
+    output: &[u8],
+) -> io::Result<()> {
     match answer {
-        Answer::Accepted(n) => rt.write_all(first(output, n)),
-        Answer::Refused(question) => print_refused(rt, question),
+        Ok(n) => rt.write_all(first(output, n)),
+        Err(question) => println!(rt; "refused {question}"),
     }
 }
 
 // Reads `sheet.bin`, moves it by a service, and writes its other form, or `refused N`.
-fn move_sheet<F: Fn(&[u8], &mut [u8]) -> Answer>(
+fn move_sheet<F: Fn(&[u8], &mut [u8]) -> Result<usize, Question>>(
     rt: &(impl Files + Print),
     service: F,
 ) -> io::Result<()>

@@ -5,8 +5,8 @@ ghost use Rattle.std.specs.Prelude.{◌≡◌, List, ℕ, ◌<◌, ◌≤◌, �
 ghost use Rattle.reading.specs.Told.{path_of};
 ghost use Rattle.inference.specs.Rows.{Orderly, table_entries, table_required};
 ghost use Rattle.policy.specs.Syntax.{Tree};
-ghost use Rattle.policy.specs.Loads.{Bounded, AllHeld};
-ghost use Rattle.fit.specs.Covers.{permission_at};
+ghost use Rattle.policy.specs.Loads.{AllHeld};
+ghost use Rattle.fit.specs.Covers.{permission_in};
 ghost use Rattle.fit.specs.Uncovered.{first_uncovered};
 ghost use Rattle.naming.specs.Sentence.{sentence};
 ghost use Rattle.naming.specs.Told.{names_at_places};
@@ -17,42 +17,33 @@ use fit::Missing;
 use fit::uncovered::first_uncovered;
 use inference::table::{CELLS, FEW_CELLS, Row};
 use naming::names::read_names;
-use naming::sentence::put_sentence;
+use naming::sentence::Names;
 use policy::Policy;
-use reading::bytes::refusal;
-use reading::system::{read, why_none};
-use reading::{End, NumberRead, Path};
+use reading::system::read;
+use reading::{Path, Question};
+use service::Judged;
 use service::judging::judge_read;
-use service::{Answer, Judged};
 use slack::slack_judged;
 
 /// What `slack` answers, and what `explain` answers.
 #[derive(Clone, Copy)]
 pub struct Examined {
-    pub told: Answer,
-    pub explained: Answer,
+    pub told: Result<usize, Question>,
+    pub explained: Result<usize, Question>,
 }
 
 // Question 19, and the sentence. Into no memory at all nothing is stored: that tells the sentence's length.
-fn say(
-    names: &[u8],
-    groups: &[u16],
-    kinds: &[u16],
-    path: Path,
-    missing: Missing,
-    line: &mut [u8],
-) -> Answer
-    ensures { Delivered (sentence (names_at_places names.now groups.now kinds.now)
-        (record { path = path_of path; permission = permission_at missing.column; kind = missing.kind }))
+fn say(names: Names, path: Path, missing: Missing, line: &mut [u8]) -> Result<usize, Question>
+    ensures { Delivered (sentence (names_at_places names.entry.file.now names.entry.groups.now names.entry.kinds.now)
+        (record { path = path_of path; permission = permission_in missing.permission; kind = missing.kind }))
         line.old line.new result }
 {
-    let mut nowhere = [0u8; 0];
-    let len = put_sentence(names, groups, kinds, path, missing, &mut nowhere);
+    let len = names.put_sentence(path, missing, &mut []);
     if line.len() < len {
-        return Answer::Refused(19);
+        return Err(Question::Output);
     }
-    put_sentence(names, groups, kinds, path, missing, line);
-    Answer::Accepted(len)
+    names.put_sentence(path, missing, line);
+    Ok(len)
 }
 
 // Question 40, and the sentence for the first uncovered permission.
@@ -63,7 +54,7 @@ fn explain_missing(
     table: &[u16],
     components: usize,
     line: &mut [u8],
-) -> Answer
+) -> Result<usize, Question>
     requires { components ≤ 32 }
     ensures { (trees : List Tree) → AllHeld policy.entry.charter.now policy.entry.nodes.now policy.entry.trees 0 trees
         → ((n : ℕ) → n < components → Orderly table.now n)
@@ -73,25 +64,23 @@ fn explain_missing(
     let mut groups = [0u16; 64];
     let mut kinds = [0u16; 16];
     let read = read_names(names, &mut groups, &mut kinds);
-    let End::At(_) = read else {
-        return Answer::Refused(why_none(read).question);
+    let Ok(_) = read else {
+        return Err(read.unwrap_err().question);
     };
-    let missing = first_uncovered(
-        policy.charter,
-        policy.nodes,
-        policy.trees,
-        table,
-        components,
-    );
-    // Never so where question 18 failed (`refused_uncovered`).
-    if 67 <= missing.column {
-        return Answer::Accepted(0);
-    }
+    // There is one where question 18 failed (`refused_uncovered`).
+    let Some(missing) = first_uncovered(policy, table, components) else {
+        return Ok(0);
+    };
+    let names = Names {
+        file: names,
+        groups: &groups,
+        kinds: &kinds,
+    };
     let row = Row {
         table,
         component: missing.component,
     };
-    say(names, &groups, &kinds, row.path(), missing, line)
+    say(names, row.path(), missing, line)
 }
 
 // What `explain` answers, from what questions 1 to 18 came to and the tables that they left.
@@ -99,21 +88,20 @@ fn explain_missing(
 fn explain_judged(
     names: &[u8],
     charter: &[u8],
-    nodes: &[u16],
+    nodes: &[u16; 384],
     table: &[u16],
     judged: Judged,
     line: &mut [u8],
-) -> Answer
-    requires { (judged.components ≤ 32) × (11 < judged.fault → Bounded judged.trees) × (length nodes.now ≡ 384) }
+) -> Result<usize, Question>
     ensures { (sheet : List ℕ) → Reads sheet charter.now
         → Judges sheet charter.now table.now nodes.now judged
         → Explained sheet charter.now names.now line.old line.new result }
 {
-    if 64 <= judged.fault {
-        return Answer::Accepted(0);
-    }
-    if judged.fault != 18 {
-        return Answer::Refused(judged.fault);
+    let Some(question) = judged.fault else {
+        return Ok(0);
+    };
+    if question != Question::Covered {
+        return Err(question);
     }
     let policy = Policy {
         charter,
@@ -160,11 +148,11 @@ pub fn examine(
         line.old line.new result }
 {
     let read = read(sheet, charter);
-    let NumberRead::Found(components) = read else {
-        let question = refusal(read).question;
+    let Ok(components) = read else {
+        let question = read.unwrap_err().question;
         return Examined {
-            told: Answer::Refused(question),
-            explained: Answer::Refused(question),
+            told: Err(question),
+            explained: Err(question),
         };
     };
     if components.value <= 4 {
@@ -175,7 +163,12 @@ pub fn examine(
 
 // Explains a sheet that reads, with a clear table of so many cells, which has a row for each of its components.
 #[tactic(auto, using(crate::proofs::ExplainSteps::explaining))]
-fn explain_by<const N: usize>(sheet: &[u8], charter: &[u8], names: &[u8], line: &mut [u8]) -> Answer
+fn explain_by<const N: usize>(
+    sheet: &[u8],
+    charter: &[u8],
+    names: &[u8],
+    line: &mut [u8],
+) -> Result<usize, Question>
     requires ready { Ready sheet.now charter.now (replicate N 0) }
     requires size { N < 2 ^ 32 }
     ensures { Explained sheet.now charter.now names.now line.old line.new result }
@@ -189,12 +182,17 @@ fn explain_by<const N: usize>(sheet: &[u8], charter: &[u8], names: &[u8], line: 
 /// Explains why question 18 refuses a sheet. The answer and the line's final bytes are those of the definition `explained`, for any
 /// bytes in all four slices.
 #[tactic(auto, using(crate::proofs::ExplainSteps::explaining))]
-pub fn explain(sheet: &[u8], charter: &[u8], names: &[u8], line: &mut [u8]) -> Answer
+pub fn explain(
+    sheet: &[u8],
+    charter: &[u8],
+    names: &[u8],
+    line: &mut [u8],
+) -> Result<usize, Question>
     ensures { Explained sheet.now charter.now names.now line.old line.new result }
 {
     let read = read(sheet, charter);
-    let NumberRead::Found(components) = read else {
-        return Answer::Refused(refusal(read).question);
+    let Ok(components) = read else {
+        return Err(read.unwrap_err().question);
     };
     if components.value <= 4 {
         return explain_by::<FEW_CELLS>(sheet, charter, names, line);

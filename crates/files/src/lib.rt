@@ -1,11 +1,10 @@
-// What the programs share: a file read into a buffer, the first bytes of a buffer, and the one line of a refusal.
+// What the programs share: a file read into a buffer, and the first bytes of a buffer.
 #![tactic(auto)]
 
 ghost use Rattle.std.specs.Prelude.{◌≤◌, length};
 
 use std::fs::File;
-use std::io;
-use std::io::{Print, Read};
+use std::io::Read;
 use std::rt::Files;
 
 /// Reads into a buffer until it is full, nothing more comes or a read fails; how many bytes there were.
@@ -39,14 +38,4 @@ pub fn load<'a>(rt: &impl Files, path: &[u8], buf: &'a mut [u8]) -> &'a [u8]
 /// The first bytes of a buffer. What is composed or answered fits its buffer, so the whole buffer is never taken.
 pub fn first(buf: &[u8], n: usize) -> &[u8] {
     buf.get(..n).unwrap_or(buf)
-}
-
-/// Prints the number of the question that failed, and no newline.
-pub fn print_refusal(rt: &impl Print, number: usize) -> io::Result<()> {
-    print!(rt; "refused {number}")
-}
-
-/// The same as a line.
-pub fn print_refused(rt: &impl Print, number: usize) -> io::Result<()> {
-    println!(rt; "refused {number}")
 }

@@ -1,8 +1,11 @@
--- Which number and values of document 01 each case of an answer is, and what the calls of the services promise.
-use Rattle.std.specs.Prelude.{ℕ, ◌*◌, ◌<◌, ◌≤◌, ◌≡◌, List, length, get_or}
+-- Which number and values of document 01 each case of an answer is, and what the calls of the services promise. A service answers the
+-- length written or the number of moves, or the first question that fails.
+use Rattle.std.specs.Prelude.{ℕ, ◌*◌, ◌<◌, ◌≤◌, ◌≡◌, List, length, get_or, Option, None, Some, Result, Ok, Err}
 use Rattle.reading.specs.Read.{got}
 use Rattle.reading.specs.Syntax.{Sheet, components}
 use Rattle.reading.specs.System.{sheet_of}
+use Rattle.reading.specs.Told.{number_of}
+use Rattle.reading.specs.declared.Question.{Question}
 use Rattle.inference.specs.Interface.{interface, Required}
 use Rattle.inference.specs.Rows.{Orderly, table_entries}
 use Rattle.policy.specs.Loads.{Bounded, AllHeld}
@@ -12,13 +15,16 @@ use Rattle.policy.specs.declared.Trees.{Trees}
 use Rattle.service.specs.Questions.{Asked, passed, failed, judged}
 use Rattle.service.specs.Check.{fitting, written, checked}
 use Rattle.service.specs.Later.{later_fault}
-use Rattle.service.specs.declared.Answer.{Answer}
-use Rattle.service.specs.declared.Answer.TheVariants as answer_case
 use Rattle.service.specs.declared.Judged.{Judged}
 
-abbrev pub told : Answer → Asked ℕ
-told (answer_case.Accepted n) = passed n
-told (answer_case.Refused n) = failed n
+abbrev pub told : Result ℕ Question → Asked ℕ
+told (Ok n) = passed n
+told (Err q) = failed (number_of q)
+
+-- The number of the question that fails, or 64, a number that no question has, where none does.
+abbrev pub fault_number : Option Question → ℕ
+fault_number None = 64
+fault_number (Some q) = number_of q
 
 -- The first question that fails, or 64, a number that no question has, where questions 1 to 18 pass.
 unfoldable pub first_failed : {A : Type 0} → Asked A → ℕ
@@ -26,7 +32,7 @@ first_failed (passed a) = 64
 first_failed (failed n) = n
 
 -- What `check` promises: its answer and the final bytes of the lent output are those of the definition.
-pub record Checked (sheet charter output output' : List ℕ) (r : Answer) : Type 0 where
+pub record Checked (sheet charter output output' : List ℕ) (r : Result ℕ Question) : Type 0 where
   pub answer : told r ≡ (checked sheet charter output).answer
   pub lent : output' ≡ (checked sheet charter output).lent
 
@@ -54,20 +60,20 @@ pub record HoldsPolicy (charter nodes : List ℕ) (trees : Trees) : Type 0 where
 
 -- What questions 11 to 18 come to, and past 11 the charter's trees.
 pub record JudgesLater (charter nodes : List ℕ) (required : Required) (components : ℕ) (r : Judged) : Type 0 where
-  pub first : r.fault ≡ later_fault charter required
+  pub first : fault_number r.fault ≡ later_fault charter required
   pub number : r.components ≡ components
-  pub trees_held : 11 < r.fault → HoldsPolicy charter nodes r.trees
+  pub trees_held : 11 < fault_number r.fault → HoldsPolicy charter nodes r.trees
 
 -- What questions 1 to 18 come to; past 10 a table that holds the interface of a sheet that reads, its groups in order; and past 11 the
 -- charter's trees.
 pub record Judges (sheet charter table nodes : List ℕ) (r : Judged) : Type 0 where
-  pub first : r.fault ≡ first_failed (judged sheet charter)
+  pub first : fault_number r.fault ≡ first_failed (judged sheet charter)
   pub few : r.components ≤ 32
-  pub orderly : 10 < r.fault → (n : ℕ) → n < r.components → Orderly table n
-  pub held : 10 < r.fault → (tree : Sheet) (end : ℕ) → sheet_of sheet charter ≡ got tree end → table_entries table r.components ≡ interface tree
-  pub trees_held : 11 < r.fault → HoldsPolicy charter nodes r.trees
+  pub orderly : 10 < fault_number r.fault → (n : ℕ) → n < r.components → Orderly table n
+  pub held : 10 < fault_number r.fault → (tree : Sheet) (end : ℕ) → sheet_of sheet charter ≡ got tree end → table_entries table r.components ≡ interface tree
+  pub trees_held : 11 < fault_number r.fault → HoldsPolicy charter nodes r.trees
 
 -- Bytes that are written where there is room for them.
-pub record Delivered (bytes output output' : List ℕ) (r : Answer) : Type 0 where
+pub record Delivered (bytes output output' : List ℕ) (r : Result ℕ Question) : Type 0 where
   pub answer : told r ≡ (written output (fitting output bytes)).answer
   pub lent : ((i : ℕ) → get_or bytes i 0 < 256) → output' ≡ (written output (fitting output bytes)).lent

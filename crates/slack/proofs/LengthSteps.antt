@@ -1,5 +1,6 @@
 -- The length of the slack, the same whatever the policy and the sums: what each return and each turn of a loop has to show.
 use Prim.Native.Nat.{ℕ, zero, suc, ◌+◌, ◌*◌, ◌<◌, ◌≤◌}
+use Rattle.std.specs.Prelude.{Ok, Err}
 use mathlib.Core.Path.{◌≡◌, refl, sym, ◌∙◌}
 use mathlib.Core.List.{List, []}
 use mathlib.Core.Bool.{Bool, true, false, not}
@@ -11,6 +12,7 @@ use borrow.Author.Rules.{rules}
 use borrow.Author.Tests.{not-true, not-false}
 use Rattle.reading.specs.Told.{path_of}
 use Rattle.reading.specs.declared.Path.{Path}
+use Rattle.reading.specs.declared.Question.TheVariants as question
 use Rattle.inference.specs.Interface.{map_of}
 use Rattle.inference.specs.Rows.{is_set, cell, path_at, disclosures_at, entry_at}
 use Rattle.interface.specs.Writes.{Stored}
@@ -19,7 +21,6 @@ use Rattle.interface.proofs.InterfaceLaws.{map_none, map_some, path_few}
 use Rattle.policy.specs.Loads.{no_trees}
 use Rattle.policy.specs.declared.Trees.{Trees}
 use Rattle.service.specs.Told.{Delivered}
-use Rattle.service.specs.declared.Answer.TheVariants as answer_case
 use Rattle.service.proofs.CheckSteps.{no_room, room}
 use Rattle.slack.specs.Rows.{slack_at, slack_row, slack_rows}
 use Rattle.slack.proofs.SlackLaws.{sums_length, whole_length, at_few, row_is, rows_are, slack_row_few}
@@ -108,11 +109,11 @@ module _ (t : List ℕ) (m : ℕ) where
 -- Question 19.
 module _ (c nodes : List ℕ) (trees : Trees) (t sums : List ℕ) (m : ℕ) (output : List ℕ) (len : ℕ)
     (e : (c nodes : List ℕ) (trees : Trees) (sums : List ℕ) → len ≡ length (slack_rows c nodes trees t sums m)) where
-  pub too_long : length output < len → Delivered (slack_rows c nodes trees t sums m) output output (answer_case.Refused 19)
+  pub too_long : length output < len → Delivered (slack_rows c nodes trees t sums m) output output (Err question.Output)
   too_long h = no_room _ output len (e c nodes trees sums) h
 
   pub short_enough : (output' : List ℕ) (r : ℕ) → len ≤ length output → Stored output output' 0 (slack_rows c nodes trees t sums m) r
-      → Delivered (slack_rows c nodes trees t sums m) output output' (answer_case.Accepted len)
+      → Delivered (slack_rows c nodes trees t sums m) output output' (Ok len)
   short_enough output' r h s = room _ output len (e c nodes trees sums) output' r h s
 
 pub ruleset length_steps = (

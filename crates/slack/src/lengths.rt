@@ -6,7 +6,7 @@ ghost use Rattle.slack.specs.Rows.{slack_at, slack_row, slack_rows};
 
 use inference::rows::path_len;
 use inference::table::{Entry, KINDS, Row};
-use interface::{disclosed_groups, map_at};
+use interface::entries::{disclosed_groups, permission_map};
 
 // The length of an entry up to its map, the same for every kind.
 #[tactic(auto, using(crate::proofs::LengthSteps::length_steps))]
@@ -27,8 +27,8 @@ fn entry_len(entry: Entry, head: usize) -> usize
     if !entry.is_used() {
         return 0;
     }
-    let groups = disclosed_groups(entry.table, entry.component, entry.kind);
-    if map_at(entry.table, entry.component, entry.kind, groups) == 0 {
+    let groups = disclosed_groups(entry);
+    if permission_map(entry, groups) == 0 {
         return 0;
     }
     if groups == 0 {

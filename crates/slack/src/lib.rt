@@ -9,7 +9,6 @@ ghost use Rattle.inference.specs.Lists.{only, gather};
 ghost use Rattle.inference.specs.Rows.{entry_at};
 ghost use Rattle.interface.specs.Writes.{Stored};
 ghost use Rattle.sharing.specs.Sums.{sum_count, add_rows};
-ghost use Rattle.policy.specs.Loads.{Bounded};
 ghost use Rattle.fit.specs.Covers.{sum_verdict, sum_verdicts, verdicts_of};
 ghost use Rattle.service.specs.Told.{Ready, Delivered, Judges};
 ghost use Rattle.slack.specs.Slack.{count_bytes, verdict_bytes, on_group, sums_bytes};
@@ -19,17 +18,16 @@ ghost use Rattle.slack.specs.Told.{Tells, DeliveredSlack};
 pub mod lengths;
 
 use crate::lengths::slack_len;
-use fit::cover::entry_covering;
 use fit::entries::has_entry;
-use fit::{Covering, Sum, Sums};
+use fit::{Case, Covering, Sum, Sums};
 use inference::table::{CELLS, Entry, FEW_CELLS, KINDS, Row};
-use interface::{disclosed_groups, map_at, put, put_head};
+use interface::entries::{disclosed_groups, permission_map};
+use interface::writing::{put, put_head};
 use policy::Policy;
-use reading::NumberRead;
-use reading::bytes::refusal;
+use reading::Question;
 use reading::system::read;
+use service::Judged;
 use service::judging::judge_read;
-use service::{Answer, Judged};
 use sharing::{any_shared, sum_classes};
 
 // A sum as it is stored: 65,535 is unlimited.
@@ -96,90 +94,73 @@ fn put_entry(entry: Entry, found: Covering, out: &mut [u8], at: usize) -> usize
     ensures { Stored out.old out.new at
         (head_then (entry_at entry.entry.table.now entry.entry.component entry.entry.kind) (sums_bytes (only on_group (verdicts_of found)))) result }
 {
-    let Entry {
-        table,
-        component,
-        kind,
-    } = entry;
-    let groups = disclosed_groups(table, component, kind);
-    let map = map_at(table, component, kind, groups);
-    let next = put_head(table, component, kind, map, out, at);
+    let groups = disclosed_groups(entry);
+    let next = put_head(entry, permission_map(entry, groups), out, at);
     put_sums(found.sums, out, next)
 }
 
-// What the slack is told from: the policy, and the sums of what the classes of the components need.
-#[derive(Clone, Copy)]
-struct Case<'a> {
-    policy: Policy<'a>,
-    sums: &'a [u32],
+// Writes an entry, where there is one.
+#[tactic(auto, using(crate::proofs::SlackSteps::slack_steps))]
+fn put_kind(case: &Case, entry: Entry, out: &mut [u8], at: usize) -> usize
+    requires { at < 3000000000 }
+    ensures { Stored out.old out.new at
+        (slack_at case.now.policy.charter.now case.now.policy.nodes.now case.now.policy.trees entry.entry.table.now case.now.sums.now
+        entry.entry.component entry.entry.kind) result }
+{
+    if !has_entry(entry) {
+        return at;
+    }
+    put_entry(entry, case.covering(entry), out, at)
 }
 
-impl Case<'_> {
-    // Writes an entry, where there is one.
-    #[tactic(auto, using(crate::proofs::SlackSteps::slack_steps))]
-    fn put_kind(&self, entry: Entry, out: &mut [u8], at: usize) -> usize
-        requires { at < 3000000000 }
-        ensures { Stored out.old out.new at
-            (slack_at self.now.policy.charter.now self.now.policy.nodes.now self.now.policy.trees entry.entry.table.now self.now.sums.now entry.entry.component entry.entry.kind) result }
-    {
-        if !has_entry(entry.table, entry.component, entry.kind) {
-            return at;
-        }
-        let found = entry_covering(
-            self.policy.charter,
-            self.policy.nodes,
-            self.policy.trees,
-            entry.table,
-            self.sums,
-            entry.component,
-            entry.kind,
-        );
-        put_entry(entry, found, out, at)
+// Writes the entries of a component.
+#[tactic(auto, using(crate::proofs::SlackSteps::slack_steps))]
+fn put_row(case: &Case, row: Row, out: &mut [u8], at: usize) -> usize
+    requires { at < 2000000000 }
+    ensures { Stored out.old out.new at
+        (slack_row case.now.policy.charter.now case.now.policy.nodes.now case.now.policy.trees row.entry.table.now case.now.sums.now
+        row.entry.component) result }
+{
+    let mut next = at;
+    for kind in 0..KINDS {
+        next = put_kind(case, row.entry(kind), out, next);
     }
+    next
+}
 
-    // Writes the entries of a component.
-    #[tactic(auto, using(crate::proofs::SlackSteps::slack_steps))]
-    fn put_row(&self, row: Row, out: &mut [u8], at: usize) -> usize
-        requires { at < 2000000000 }
-        ensures { Stored out.old out.new at
-            (slack_row self.now.policy.charter.now self.now.policy.nodes.now self.now.policy.trees row.entry.table.now self.now.sums.now row.entry.component) result }
-    {
-        let mut next = at;
-        for kind in 0..KINDS {
-            next = self.put_kind(row.entry(kind), out, next);
-        }
-        next
+// Writes the slack of the components of a table from the output's first byte on; the number of bytes written.
+#[tactic(auto, using(crate::proofs::SlackSteps::slack_steps))]
+fn write_slack(case: &Case, table: &[u16], components: usize, out: &mut [u8]) -> usize
+    requires { components ≤ 32 }
+    ensures { Stored out.old out.new 0
+        (slack_rows case.now.policy.charter.now case.now.policy.nodes.now case.now.policy.trees table.now case.now.sums.now components) result }
+{
+    let mut next = 0;
+    for component in 0..components {
+        next = put_row(case, Row::new(table, component), out, next);
     }
+    next
+}
 
-    // Writes the slack of the components of a table from the output's first byte on; the number of bytes written.
-    #[tactic(auto, using(crate::proofs::SlackSteps::slack_steps))]
-    fn write(&self, table: &[u16], components: usize, out: &mut [u8]) -> usize
-        requires { components ≤ 32 }
-        ensures { Stored out.old out.new 0
-            (slack_rows self.now.policy.charter.now self.now.policy.nodes.now self.now.policy.trees table.now self.now.sums.now components) result }
-    {
-        let mut next = 0;
-        for component in 0..components {
-            next = self.put_row(Row::new(table, component), out, next);
-        }
-        next
+// Question 19, and the slack.
+#[tactic(auto, using(crate::proofs::LengthSteps::length_steps))]
+fn deliver(
+    case: &Case,
+    table: &[u16],
+    components: usize,
+    output: &mut [u8],
+) -> Result<usize, Question>
+    requires { components ≤ 32 }
+    ensures { Delivered
+        (slack_rows case.now.policy.charter.now case.now.policy.nodes.now case.now.policy.trees table.now case.now.sums.now components)
+        output.old output.new result }
+{
+    let len = slack_len(table, components);
+    if output.len() < len {
+        return Err(Question::Output);
     }
-
-    // Question 19, and the slack.
-    #[tactic(auto, using(crate::proofs::LengthSteps::length_steps))]
-    fn deliver(&self, table: &[u16], components: usize, output: &mut [u8]) -> Answer
-        requires { components ≤ 32 }
-        ensures { Delivered
-            (slack_rows self.now.policy.charter.now self.now.policy.nodes.now self.now.policy.trees table.now self.now.sums.now components)
-            output.old output.new result }
-    {
-        let len = slack_len(table, components);
-        if output.len() < len {
-            return Answer::Refused(19);
-        }
-        self.write(table, components, output);
-        Answer::Accepted(len)
-    }
+    write_slack(case, table, components, output);
+    Ok(len)
 }
 
 // Question 19, and the slack by sums of the classes that are made first, in clear memory of so many numbers.
@@ -188,7 +169,7 @@ fn deliver_summed<const N: usize>(
     table: &[u16],
     components: usize,
     output: &mut [u8],
-) -> Answer
+) -> Result<usize, Question>
     requires { (components ≤ 32) × (N < 2 ^ 32) }
     ensures { Delivered
         (slack_rows policy.entry.charter.now policy.entry.nodes.now policy.entry.trees table.now (add_rows (replicate N 0) table.now 0 components) components)
@@ -200,19 +181,24 @@ fn deliver_summed<const N: usize>(
         policy,
         sums: &sums,
     };
-    case.deliver(table, components, output)
+    deliver(&case, table, components, output)
 }
 
 // The slack of any components. Where none of them share a count, no sums are made; for four components or fewer, few.
 #[tactic(auto, using(crate::proofs::TellSteps::telling))]
-fn deliver_slack(policy: Policy, table: &[u16], components: usize, output: &mut [u8]) -> Answer
+fn deliver_slack(
+    policy: Policy,
+    table: &[u16],
+    components: usize,
+    output: &mut [u8],
+) -> Result<usize, Question>
     requires { components ≤ 32 }
     ensures { DeliveredSlack policy.entry.charter.now policy.entry.nodes.now policy.entry.trees table.now components
         output.old output.new result }
 {
     if !any_shared(table, components) {
         let case = Case { policy, sums: &[] };
-        return case.deliver(table, components, output);
+        return deliver(&case, table, components, output);
     }
     if components <= 4 {
         return deliver_summed::<516>(policy, table, components, output);
@@ -224,17 +210,16 @@ fn deliver_slack(policy: Policy, table: &[u16], components: usize, output: &mut 
 #[tactic(auto, using(crate::proofs::TellSteps::telling))]
 pub fn slack_judged(
     charter: &[u8],
-    nodes: &[u16],
+    nodes: &[u16; 384],
     table: &[u16],
     judged: Judged,
     output: &mut [u8],
-) -> Answer
-    requires { (judged.components ≤ 32) × (11 < judged.fault → Bounded judged.trees) × (length nodes.now ≡ 384) }
+) -> Result<usize, Question>
     ensures { (sheet : List ℕ) → Judges sheet charter.now table.now nodes.now judged
         → Tells sheet charter.now output.old output.new result }
 {
-    if judged.fault < 64 {
-        return Answer::Refused(judged.fault);
+    if let Some(question) = judged.fault {
+        return Err(question);
     }
     let policy = Policy {
         charter,
@@ -246,7 +231,11 @@ pub fn slack_judged(
 
 // The slack of a sheet that reads, with a clear table of so many cells, which has a row for each of its components.
 #[tactic(auto, using(crate::proofs::TellSteps::telling))]
-fn slack_by<const N: usize>(sheet: &[u8], charter: &[u8], output: &mut [u8]) -> Answer
+fn slack_by<const N: usize>(
+    sheet: &[u8],
+    charter: &[u8],
+    output: &mut [u8],
+) -> Result<usize, Question>
     requires ready { Ready sheet.now charter.now (replicate N 0) }
     requires size { N < 2 ^ 32 }
     ensures { Tells sheet.now charter.now output.old output.new result }
@@ -260,12 +249,12 @@ fn slack_by<const N: usize>(sheet: &[u8], charter: &[u8], output: &mut [u8]) -> 
 /// Tells the slack of a sheet under a charter. The answer and the output's final bytes are those of the definition `slack_told`, for any
 /// bytes in all three slices. A sheet of at most four components has a small table to clear.
 #[tactic(auto, using(crate::proofs::TellSteps::telling))]
-pub fn slack(sheet: &[u8], charter: &[u8], output: &mut [u8]) -> Answer
+pub fn slack(sheet: &[u8], charter: &[u8], output: &mut [u8]) -> Result<usize, Question>
     ensures { Tells sheet.now charter.now output.old output.new result }
 {
     let read = read(sheet, charter);
-    let NumberRead::Found(components) = read else {
-        return Answer::Refused(refusal(read).question);
+    let Ok(components) = read else {
+        return Err(read.unwrap_err().question);
     };
     if components.value <= 4 {
         return slack_by::<FEW_CELLS>(sheet, charter, output);

@@ -10,10 +10,10 @@ use commands::{
     LOG_ROOM, MOVED_ROOM, NAMES_ROOM, SCRIPT_ROOM, SHEET_ROOM, print_compared, print_listing,
 };
 use execution::play;
-use files::{first, print_refused, read_full};
+use files::{first, read_full};
 use fixtures::Hex;
 use moving::{downgrade, upgrade};
-use service::Answer;
+use reading::Question;
 use std::fs::File;
 use std::io;
 use std::io::{Print, Read};
@@ -43,12 +43,6 @@ fn print_bytes(rt: &impl Print, written: &[u8], n: usize) -> io::Result<()> {
     println!(rt; "{}", Hex(first(written, n)))
 }
 
-// Prints the refusal of a sheet.
-fn print_question(rt: &impl Print, question: usize) -> io::Result<()> {
-    rt.write_all(b" ")?;
-    print_refused(rt, question)
-}
-
 fn show_run(
     rt: &impl Print,
     number: u64,
@@ -59,8 +53,8 @@ fn show_run(
     let mut log = [0u8; LOG_ROOM];
     print!(rt; "{number} run:")?;
     match play(sheet, charter, script, &mut log) {
-        Answer::Accepted(moves) => print_bytes(rt, &log, moves.saturating_mul(8)),
-        Answer::Refused(question) => print_question(rt, question),
+        Ok(moves) => print_bytes(rt, &log, moves.saturating_mul(8)),
+        Err(question) => println!(rt; " refused {question}"),
     }
 }
 
@@ -84,7 +78,7 @@ fn show_checked(rt: &impl Print, file: &mut impl Read, number: u64) -> io::Resul
 }
 
 // Reads a case of `upgrade` or of `downgrade`, and shows it; whether its length stood in the file.
-fn show_moved<F: Fn(&[u8], &mut [u8]) -> Answer>(
+fn show_moved<F: Fn(&[u8], &mut [u8]) -> Result<usize, Question>>(
     rt: &impl Print,
     file: &mut impl Read,
     number: u64,
@@ -101,8 +95,8 @@ fn show_moved<F: Fn(&[u8], &mut [u8]) -> Answer>(
     let answer = service(next_bytes(file, &mut sheet, sheet_len), &mut output);
     print!(rt; "{number} {name}:")?;
     match answer {
-        Answer::Accepted(n) => print_bytes(rt, &output, n)?,
-        Answer::Refused(question) => print_question(rt, question)?,
+        Ok(n) => print_bytes(rt, &output, n)?,
+        Err(question) => println!(rt; " refused {question}")?,
     }
     Ok(true)
 }

@@ -2,8 +2,8 @@
 use Rattle.slack.proofs.TellSteps.{telling}
 use Rattle.slack.proofs.slack_judged.Goals as goal
 
-pub returns-then-judged-lt64 : goal.returns-then-judged-lt64
-returns-then-judged-lt64 c = search telling
+pub returns-in-Some : goal.returns-in-Some
+returns-in-Some c = search telling
 
 pub returns : goal.returns
 returns c = search telling

@@ -2,11 +2,8 @@
 use Rattle.service.proofs.CheckSteps.{checking}
 use Rattle.service.proofs.checking.check_by.Goals as goal
 
-pub deliver-requires : goal.deliver-requires
-deliver-requires g c = search checking
-
-pub returns-then-judged-lt64 : goal.returns-then-judged-lt64
-returns-then-judged-lt64 g c = search checking
+pub returns-in-Some : goal.returns-in-Some
+returns-in-Some g c = search checking
 
 pub returns : goal.returns
 returns g c = search checking

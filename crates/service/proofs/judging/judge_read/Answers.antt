@@ -1,12 +1,15 @@
 -- The walk's answer decides questions 7 to 10, then the charter's decides 11 to 18; the table holds the interface either way.
-use Rattle.service.proofs.JudgeSteps.{judging, few_components}
+use Rattle.service.proofs.JudgeSteps.{judging, short_charter, few_components, typing_passes}
 use Rattle.service.proofs.judging.judge_read.Goals as goal
 
-pub returns-then-walk-lt11 : goal.returns-then-walk-lt11
-returns-then-walk-lt11 c = search judging
+pub invariant_of-result-clause-few : goal.invariant_of-result-clause-few
+invariant_of-result-clause-few c = few_components _ _ _ _ _ c.requires c.infer-found.ensures
+
+pub returns-in-Some : goal.returns-in-Some
+returns-in-Some c = search judging
 
 pub judge_with-requires : goal.judge_with-requires
-judge_with-requires c = (few_components _ _ _ _ _ c.requires.0 c.infer-walk.ensures, search judging, search judging)
+judge_with-requires c = (few_components _ _ _ _ _ c.requires c.infer-found.ensures, short_charter _ _ _ c.requires)
 
 pub returns : goal.returns
-returns c = search judging
+returns c = typing_passes _ _ _ _ _ c.requires c.infer-found.ensures _ _ c.in_default.not-Some c.judge_with.ensures

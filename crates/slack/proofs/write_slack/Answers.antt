@@ -2,7 +2,7 @@
 use Rattle.std.proofs.Common.{arith}
 use Rattle.interface.proofs.WriteLaws.{write_next}
 use Rattle.slack.proofs.SlackSteps.{slack_steps}
-use Rattle.slack.proofs.Case.write.Goals as goal
+use Rattle.slack.proofs.write_slack.Goals as goal
 
 pub loop-component-init : goal.loop-component-init
 loop-component-init c = search slack_steps

@@ -2,7 +2,7 @@
 use Rattle.std.proofs.Common.{arith}
 use Rattle.interface.proofs.WriteLaws.{write_next}
 use Rattle.slack.proofs.SlackSteps.{slack_steps}
-use Rattle.slack.proofs.Case.put_row.Goals as goal
+use Rattle.slack.proofs.put_row.Goals as goal
 
 pub loop-kind-init : goal.loop-kind-init
 loop-kind-init c = search slack_steps

@@ -1,6 +1,6 @@
 -- The slack is written only where it fits.
 use Rattle.slack.proofs.LengthSteps.{length_steps}
-use Rattle.slack.proofs.Case.deliver.Goals as goal
+use Rattle.slack.proofs.deliver.Goals as goal
 
 pub returns-then-output-len : goal.returns-then-output-len
 returns-then-output-len c = search length_steps

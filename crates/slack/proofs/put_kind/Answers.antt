@@ -1,6 +1,6 @@
 -- No entry, no bytes; else the entry with the sums of its covering.
 use Rattle.slack.proofs.SlackSteps.{slack_steps}
-use Rattle.slack.proofs.Case.put_kind.Goals as goal
+use Rattle.slack.proofs.put_kind.Goals as goal
 
 pub returns-then-not-has_entry : goal.returns-then-not-has_entry
 returns-then-not-has_entry c = search slack_steps
