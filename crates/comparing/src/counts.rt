@@ -8,6 +8,7 @@ use policy::nodes::word_in;
 use reading::bytes::byte_in;
 
 // The place in a list, from `from` on, of the first item whose group is not below one; the list's length where there is none.
+#[tactic(auto, using(crate::proofs::CountSteps::count_steps))]
 fn first_from(c: &[u8], p: Permissions, from: usize, group: usize) -> usize
     requires { (p.list < 8192) × (p.count < 128) × (from ≤ p.count) }
     ensures upper_bound { result ≤ p.count }
@@ -25,6 +26,7 @@ fn first_from(c: &[u8], p: Permissions, from: usize, group: usize) -> usize
 }
 
 // The stored count of a group at an item of a list; 0 where the item is of another group, or past the end.
+#[tactic(auto, using(crate::proofs::CountSteps::count_steps))]
 fn count_at(c: &[u8], p: Permissions, i: usize, group: usize) -> usize
     requires { (p.list < 8192) × (p.count < 128) }
     ensures { result ≡ first_count group (items_at (p.count - i) c.now (p.list + 3 * i)) }
@@ -41,6 +43,7 @@ fn count_at(c: &[u8], p: Permissions, i: usize, group: usize) -> usize
 }
 
 // Is each count of a list at most that of its group in another?
+#[tactic(auto, using(crate::proofs::CountSteps::list_steps))]
 pub fn lists_within(a: &[u8], p: Permissions, b: &[u8], q: Permissions) -> bool
     requires { (p.list < 8192) × (p.count < 128) × (q.list < 8192) × (q.count < 128) }
     ensures { result ≡ lists_within (items_at p.count a.now p.list) (items_at q.count b.now q.list) }

@@ -34,6 +34,7 @@ fn not_passed() -> Loaded
 }
 
 // Reads a charter into the table of nodes, and asks 11 to 15.
+#[tactic(auto, using(crate::proofs::LoadSteps::load_steps))]
 fn load(c: &[u8], nodes: &mut [u16]) -> Loaded
     requires { length nodes.old ≡ 384 }
     ensures { LoadedAs c.now nodes.new result }
@@ -57,6 +58,7 @@ fn load(c: &[u8], nodes: &mut [u16]) -> Loaded
 }
 
 // Is charter `a` no looser than charter `b`? The answer is that of the definition `no_looser`, for any bytes in both slices.
+#[tactic(auto, using(crate::proofs::CompareSteps::compare_steps))]
 pub fn no_looser(a: &[u8], b: &[u8]) -> bool
     ensures { result ≡ no_looser a.now b.now }
 {

@@ -14,6 +14,7 @@ use policy::nodes::{node_at, span_of, wide_byte};
 use policy::{Node, Permissions, Span, Trees};
 
 // Are the flags and purposes of A's permissions among those of B's, and B's nondisclose among A's?
+#[tactic(auto, using(crate::proofs::RowSteps::map_steps))]
 fn maps_within(answers: &[u8], p: Permissions, q: Permissions) -> bool
     requires { Answers answers.now }
     ensures { (a b : List ℕ) → result ≡ maps_no_looser (permissions_of a p) (permissions_of b q) }
@@ -28,6 +29,7 @@ fn maps_within(answers: &[u8], p: Permissions, q: Permissions) -> bool
 }
 
 // Two nodes: the same depth, the same group, permissions that are no looser.
+#[tactic(auto, using(crate::proofs::RowSteps::row_steps))]
 fn row_within(answers: &[u8], a: &[u8], n: Node, b: &[u8], m: Node) -> bool
     requires { Answers answers.now × (n.permissions.list < 8192) × (n.permissions.count < 128) × (m.permissions.list < 8192) × (m.permissions.count < 128) }
     ensures { result ≡ row_within (flat_of a.now n) (flat_of b.now m) }
@@ -45,6 +47,7 @@ fn row_within(answers: &[u8], a: &[u8], n: Node, b: &[u8], m: Node) -> bool
 }
 
 // Two trees, node after node.
+#[tactic(auto, using(crate::proofs::RowSteps::rows_steps))]
 fn rows_within(
     answers: &[u8],
     a: &[u8],
@@ -74,6 +77,7 @@ fn rows_within(
 }
 
 // Each tree of A beside B's for its kind.
+#[tactic(auto, using(crate::proofs::TreeSteps::tree_steps))]
 pub fn trees_within(
     answers: &[u8],
     a: &[u8],

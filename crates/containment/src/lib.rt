@@ -267,6 +267,7 @@ const ANSWERS: [u8; 256] = [
 ];
 
 // The table, for a caller to keep and lend: made once, and not at each look-up.
+#[tactic(auto, unfolding(crate::proofs::Table::answers))]
 pub fn answers() -> [u8; 256]
     ensures { Answers result }
 {
@@ -274,6 +275,7 @@ pub fn answers() -> [u8; 256]
 }
 
 // Do all bits of a four-bit map stand in another?
+#[tactic(auto, using(crate::proofs::DigitLaws::digit_steps))]
 pub fn among(answers: &[u8], a: usize, b: usize) -> bool
     requires { Answers answers.now × (a < 16) × (b < 16) }
     ensures { result ≡ bits_among 4 a b }
@@ -282,6 +284,7 @@ pub fn among(answers: &[u8], a: usize, b: usize) -> bool
 }
 
 // Do all bits of the lowest `digits` four-bit digits of a map stand in another?
+#[tactic(auto, using(crate::proofs::DigitLaws::digit_steps))]
 pub fn digits_among(answers: &[u8], digits: usize, a: usize, b: usize) -> bool
     requires { Answers answers.now }
     ensures { result ≡ bits_among (4 * digits) a b }
