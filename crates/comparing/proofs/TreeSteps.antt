@@ -1,12 +1,13 @@
 -- Each tree of A beside B's for its kind: what the tables hold decides as the trees do.
 use Prim.Native.Nat.{ℕ, ◌+◌, ◌-◌, ◌<◌, ◌≤◌}
-use mathlib.Core.Bool.{Bool, true, false, not}
+use mathlib.Core.Bool.{Bool, true, false, not, cond}
 use mathlib.Core.List.{List, [], ◌∷◌}
 use mathlib.Core.Option.{Option, some, none as nothing}
-use mathlib.Core.Path.{◌≡◌, refl, sym, ◌∙◌}
+use mathlib.Core.Path.{◌≡◌, refl, sym, ap, ◌∙◌}
 use native.Mathlib.Numerals.{add-one}
 use native.Mathlib.Omega.{arith}
-use borrow.Author.Tests.{not-true, not-false, le-ltb}
+use borrow.Author.Tests.{not-true, not-false, ltb-true}
+use lib.Dec.{ltb}
 use lib.ListN.{length, take, get_or}
 use Rattle.inference.specs.Lists.{every}
 use Rattle.policy.proofs.NodeLaws.{node_steps}
@@ -16,7 +17,9 @@ use Rattle.policy.specs.Loads.{start_of, AllHeld, held_none, held_more, Bounded}
 use Rattle.policy.specs.declared.Span.{Span}
 use Rattle.policy.specs.declared.Trees.{Trees}
 use Rattle.wellformed.proofs.PassSteps.{held_count, span_high}
+use Rattle.std.specs.Prelude.{Option as Answer, None, Some}
 use Rattle.fit.specs.Givers.{index_of}
+use Rattle.fit.specs.Covers.{tree_rows_of}
 use Rattle.fit.specs.Grants.{tree_for}
 use Rattle.fit.specs.Satisfies.{is_tree}
 use Rattle.fit.proofs.GrantTrees.{has_tree_lem, tree_rows}
@@ -65,28 +68,47 @@ module _ (a nodes : List ℕ) (trees : Trees) (b others : List ℕ) (choice : Tr
     pub trees_end : trees.len ≤ t → Decided true
     trees_end h p q k l = let r = s.left p q k l in passed_all p q r.rest h r.held r.same
 
-    module _ (h : t < trees.len) (bounded : Bounded choice) (kinds : length choice.kinds ≡ 16) (kind u : ℕ)
-        (its : kind ≡ get_or trees.kinds t 0) (found : u ≡ index_of kind (take choice.len choice.kinds)) where
-      is : u ≡ index_of (get_or trees.kinds t 0) (take choice.len choice.kinds)
-      is = rw its at found
+    module _ (h : t < trees.len) (bounded : Bounded choice) (kinds : length choice.kinds ≡ 16) (kind : ℕ) (its : kind ≡ get_or trees.kinds t 0) where
+      abbrev place : ℕ
+      place = index_of kind (take choice.len choice.kinds)
 
-      pub tree_absent : choice.len ≤ u → Decided false
-      tree_absent k p q i j =
+      pub tree_absent : None ≡ tree_rows_of choice kind → Decided false
+      unfolding tree_rows_of
+      tree_absent e p q i j =
           let r = s.left p q i j in
+          let k : ltb place choice.len ≡ false = go (ltb place choice.len) e in
           (one_more false h r.held r.same (λ tree of_kind_lem rows.
           no_tree tree.root (tree_for tree.kind q)
-          (rw (← of_kind_lem) (has_tree_lem b others choice q j bounded.few kinds (get_or trees.kinds t 0) u is ∙ le-ltb u choice.len k)))).1 refl
+          (rw (← of_kind_lem, ← its) (has_tree_lem b others choice q j bounded.few kinds kind place refl ∙ k)))).1 refl
+        where
+          go : (d : Bool) → ◌≡◌ {A = Answer Span} None (cond d (Some (record { from = start_of choice place; to = get_or choice.ends place 0 })) None) → d ≡ false
+          go true e = let z : ◌≡◌ {A = ℕ} 0 1 = cc in absurd (omega arith)
+          go false e = refl
 
-      module _ (k : u < choice.len) (m n : Span) (from : m.from ≡ start_of trees t) (to : m.to ≡ get_or trees.ends t 0)
-          (start : n.from ≡ start_of choice u) (end : n.to ≡ get_or choice.ends u 0) (answer : Bool)
-          (rows_say : answer ≡ rows_within (flats a nodes m.from (m.to - m.from)) (flats b others n.from (n.to - n.from))) where
+      module _ (n : Span) (found : Some n ≡ tree_rows_of choice kind) (m : Span) (from : m.from ≡ start_of trees t) (to : m.to ≡ get_or trees.ends t 0)
+          (answer : Bool) (rows_say : answer ≡ rows_within (flats a nodes m.from (m.to - m.from)) (flats b others n.from (n.to - n.from))) where
+        record Here : Type 0 where
+          below : ltb place choice.len ≡ true
+          start : n.from ≡ start_of choice place
+          end : n.to ≡ get_or choice.ends place 0
+
+        here : Here
+        unfolding tree_rows_of
+        here = go (ltb place choice.len) refl found
+          where
+            go : (d : Bool) → ltb place choice.len ≡ d → Some n ≡ cond d (Some (record { from = start_of choice place; to = get_or choice.ends place 0 })) None → Here
+            go true k e =
+                let same : n ≡ record { from = start_of choice place; to = get_or choice.ends place 0 } = cc in
+                record { below = k; start = ap (λ (x : Span). x.from) same; end = ap (λ (x : Span). x.to) same }
+            go false k e = let z : ◌≡◌ {A = ℕ} 0 1 = cc in absurd (omega arith)
+
         of_tree : (q : List Tree) → AllHeld b others choice 0 q → (tree : Tree) → get_or trees.kinds t 0 ≡ tree.kind
             → flats a nodes (start_of trees t) (get_or trees.ends t 0 - start_of trees t) ≡ flatten 0 (alone tree.root)
             → root_within tree.root (tree_for tree.kind q) ≡ answer
         unfolding root_within
         of_tree q j tree of_kind_lem rows =
-            let other = tree_rows b others choice q j bounded.few kinds (get_or trees.kinds t 0) u is k n.from n.to start end in
-            rw (← of_kind_lem, other.is, ← other.rows, ← rows, ← from, ← to) (sym rows_say)
+            let other = tree_rows b others choice q j bounded.few kinds kind place refl (ltb-true place choice.len here.below) n.from n.to here.start here.end in
+            rw (← of_kind_lem, ← its, other.is, ← other.rows, ← rows, ← from, ← to) (sym rows_say)
 
         pub trees_differ : not answer ≡ true → Decided false
         trees_differ y p q i j = let r = s.left p q i j in (one_more answer h r.held r.same (of_tree q j)).1 (not-true answer y)

@@ -15,14 +15,12 @@ fn first_from(c: &[u8], p: Permissions, from: usize, group: usize) -> usize
     ensures result_value { items_at (p.count - result) c.now (p.list + 3 * result)
         ≡ from_group group (items_at (p.count - from) c.now (p.list + 3 * from)) }
 {
-    let mut i = from;
-    while i < p.count {
+    for i in from..p.count {
         if group <= byte_in(c, p.list + 3 * i) {
             return i;
         }
-        i += 1;
     }
-    i
+    p.count
 }
 
 // The stored count of a group at an item of a list; 0 where the item is of another group, or past the end.
@@ -48,15 +46,13 @@ pub fn lists_within(a: &[u8], p: Permissions, b: &[u8], q: Permissions) -> bool
     requires { (p.list < 8192) × (p.count < 128) × (q.list < 8192) × (q.count < 128) }
     ensures { result ≡ lists_within (items_at p.count a.now p.list) (items_at q.count b.now q.list) }
 {
-    let mut i: usize = 0;
     let mut j: usize = 0;
-    while i < p.count {
+    for i in 0..p.count {
         let group = byte_in(a, p.list + 3 * i);
         j = first_from(b, q, j, group);
         if count_at(b, q, j, group) < word_in(a, p.list + 3 * i + 1) {
             return false;
         }
-        i += 1;
     }
     true
 }

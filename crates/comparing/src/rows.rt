@@ -1,115 +1,93 @@
 // Two policies compared row by row: permissions, nodes, trees.
 ghost use Rattle.std.specs.Prelude.{◌≡◌, List, ℕ, ◌<◌, ◌≤◌, ◌-◌};
 ghost use Rattle.policy.specs.Syntax.{Tree};
-ghost use Rattle.policy.specs.Rows.{permissions_of, flat_of, flats};
-ghost use Rattle.policy.specs.Loads.{Bounded, AllHeld};
+ghost use Rattle.policy.specs.Rows.{node_at, permissions_of, flat_of, flats};
+ghost use Rattle.policy.specs.Loads.{AllHeld};
 ghost use Rattle.containment.specs.Answers.{Answers};
 ghost use Rattle.comparing.specs.NoLooser.{maps_no_looser};
 ghost use Rattle.comparing.specs.Rows.{row_within, rows_within, trees_within};
 
 use crate::counts::lists_within;
 use containment::{among, digits_among};
-use fit::grants::tree_for;
-use policy::nodes::{node_at, span_of, wide_byte};
-use policy::{Node, Permissions, Span, Trees};
+use fit::grants::tree_of;
+use policy::{Permissions, Policy, Span};
 
-// Are the flags and purposes of A's permissions among those of B's, and B's nondisclose among A's?
-#[tactic(auto, using(crate::proofs::RowSteps::map_steps))]
-fn maps_within(answers: &[u8], p: Permissions, q: Permissions) -> bool
-    requires { Answers answers.now }
-    ensures { (a b : List ℕ) → result ≡ maps_no_looser (permissions_of a p) (permissions_of b q) }
-{
-    if !among(answers, p.map % 8, q.map % 8) {
-        return false;
-    }
-    if !digits_among(answers, 4, p.purposes, q.purposes) {
-        return false;
-    }
-    among(answers, q.map / 8 % 2, p.map / 8 % 2)
+/// Two policies that are compared, the first of which is to take the place of the second, and the table of four-bit maps.
+#[derive(Clone, Copy)]
+pub struct Comparison<'a> {
+    pub answers: &'a [u8],
+    pub first: Policy<'a>,
+    pub second: Policy<'a>,
+    pub ghost right: { Answers answers.now },
 }
 
-// Two nodes: the same depth, the same group, permissions that are no looser.
-#[tactic(auto, using(crate::proofs::RowSteps::row_steps))]
-fn row_within(answers: &[u8], a: &[u8], n: Node, b: &[u8], m: Node) -> bool
-    requires { Answers answers.now × (n.permissions.list < 8192) × (n.permissions.count < 128) × (m.permissions.list < 8192) × (m.permissions.count < 128) }
-    ensures { result ≡ row_within (flat_of a.now n) (flat_of b.now m) }
-{
-    if n.depth != m.depth {
-        return false;
+impl<'a> Comparison<'a> {
+    // Are the flags and purposes of permissions of the first among those of the second, and the second's nondisclose among the first's?
+    #[tactic(auto, using(crate::proofs::RowSteps::map_steps))]
+    fn maps_within(&self, p: Permissions, q: Permissions) -> bool
+        ensures { (a b : List ℕ) → result ≡ maps_no_looser (permissions_of a p) (permissions_of b q) }
+    {
+        let answers = self.answers;
+        among(answers, p.map % 8, q.map % 8)
+            && digits_among(answers, 4, p.purposes, q.purposes)
+            && among(answers, q.map / 8 % 2, p.map / 8 % 2)
     }
-    if n.group != m.group {
-        return false;
-    }
-    if !maps_within(answers, n.permissions, m.permissions) {
-        return false;
-    }
-    lists_within(a, n.permissions, b, m.permissions)
-}
 
-// Two trees, node after node.
-#[tactic(auto, using(crate::proofs::RowSteps::rows_steps))]
-fn rows_within(
-    answers: &[u8],
-    a: &[u8],
-    nodes: &[u16],
-    tree: Span,
-    b: &[u8],
-    others: &[u16],
-    other: Span,
-) -> bool
-    requires { Answers answers.now × (tree.to ≤ 64) × (other.to ≤ 64) }
-    ensures { result ≡ rows_within (flats a.now nodes.now tree.from (tree.to - tree.from))
-        (flats b.now others.now other.from (other.to - other.from)) }
-{
-    let mut i = tree.from;
-    let mut j = other.from;
-    while i < tree.to {
-        if other.to <= j {
-            return false;
-        }
-        if !row_within(answers, a, node_at(nodes, i), b, node_at(others, j)) {
-            return false;
-        }
-        i += 1;
-        j += 1;
+    // A row of the first and one of the second: the same depth, the same group, permissions that are no looser.
+    #[tactic(auto, using(crate::proofs::RowSteps::row_steps))]
+    fn row_within(&self, row: usize, other: usize) -> bool
+        requires { (row < 64) × (other < 64) }
+        ensures { result ≡ row_within (flat_of self.now.first.charter.now (node_at self.now.first.nodes.now row))
+            (flat_of self.now.second.charter.now (node_at self.now.second.nodes.now other)) }
+    {
+        let n = self.first.node(row);
+        let m = self.second.node(other);
+        n.depth == m.depth
+            && n.group == m.group
+            && self.maps_within(n.permissions, m.permissions)
+            && lists_within(
+                self.first.charter,
+                n.permissions,
+                self.second.charter,
+                m.permissions,
+            )
     }
-    other.to <= j
-}
 
-// Each tree of A beside B's for its kind.
-#[tactic(auto, using(crate::proofs::TreeSteps::tree_steps))]
-pub fn trees_within(
-    answers: &[u8],
-    a: &[u8],
-    nodes: &[u16],
-    trees: Trees,
-    b: &[u8],
-    others: &[u16],
-    choice: Trees,
-) -> bool
-    requires { Answers answers.now × Bounded trees × Bounded choice }
-    ensures { (p q : List Tree) → AllHeld a.now nodes.now trees 0 p
-        → AllHeld b.now others.now choice 0 q → result ≡ trees_within p q }
-{
-    let kinds = trees.kinds;
-    let mut t: usize = 0;
-    while t < trees.len {
-        let u = tree_for(choice, wide_byte(kinds[t]));
-        if choice.len <= u {
+    // Two trees, node after node.
+    #[tactic(auto, using(crate::proofs::RowSteps::rows_steps))]
+    fn rows_within(&self, tree: Span, other: Span) -> bool
+        requires { (tree.to ≤ 64) × (other.to ≤ 64) }
+        ensures { result ≡ rows_within
+            (flats self.now.first.charter.now self.now.first.nodes.now tree.from (tree.to - tree.from))
+            (flats self.now.second.charter.now self.now.second.nodes.now other.from (other.to - other.from)) }
+    {
+        let rows = tree.to.saturating_sub(tree.from);
+        if rows != other.to.saturating_sub(other.from) {
             return false;
         }
-        if !rows_within(
-            answers,
-            a,
-            nodes,
-            span_of(trees, t),
-            b,
-            others,
-            span_of(choice, u),
-        ) {
-            return false;
+        for i in 0..rows {
+            if !self.row_within(tree.from + i, other.from + i) {
+                return false;
+            }
         }
-        t += 1;
+        true
     }
-    true
+
+    /// Each tree of the first beside the second's for its kind.
+    #[tactic(auto, using(crate::proofs::TreeSteps::tree_steps))]
+    pub fn trees_within(&self) -> bool
+        ensures { (p q : List Tree) → AllHeld self.now.first.charter.now self.now.first.nodes.now self.now.first.trees 0 p
+            → AllHeld self.now.second.charter.now self.now.second.nodes.now self.now.second.trees 0 q
+            → result ≡ trees_within p q }
+    {
+        for t in 0..self.first.tree_count() {
+            let Some(other) = tree_of(self.second.trees, self.first.kind(t)) else {
+                return false;
+            };
+            if !self.rows_within(self.first.span(t), other) {
+                return false;
+            }
+        }
+        true
+    }
 }

@@ -11,7 +11,7 @@ use Rattle.reading.proofs.Tests.{tests}
 use Rattle.inference.specs.Lists.{every, rising}
 use Rattle.policy.specs.Syntax.{bit_at}
 use Rattle.containment.specs.Bits.{implies, bits_among}
-use Rattle.containment.specs.Answers.{Answers, answering}
+use Rattle.containment.specs.Answers.{Answers}
 
 -- Every number from one more on, asked of the number after it.
 every_shifted : (p : ℕ → Bool) (start n : ℕ) → every p (rising (suc start) n) ≡ every (λ k. p (suc k)) (rising start n)
@@ -86,33 +86,33 @@ is_one x false e = rw e
 
 module _ (table : List ℕ) (a b : ℕ) where
   pub entry_there : Answers table → a < 16 → b < 16 → 16 * a + b < length table
-  entry_there (answering count rule) h k = omega arith
+  entry_there t h k = omega (arith, t.count)
 
   pub entry_tells : Answers table → a < 16 → b < 16 → eqb (get_or table (16 * a + b) 0) 1 ≡ bits_among 4 a b
-  entry_tells (answering count rule) h k = is_one (get_or table (16 * a + b) 0) (bits_among 4 a b) (rule a b h k)
+  entry_tells t h k = is_one (get_or table (16 * a + b) 0) (bits_among 4 a b) (t.rule a b h k)
 
--- Whether the bits of all digits stand in another map is whether those of the digits that are left do.
-pub record DigitsLeft (digits a b left x y : ℕ) : Type 0 where
-  pub same : bits_among (4 * digits) a b ≡ bits_among (4 * left) x y
+-- Whether the bits of all digits stand in another map is whether those of the digits after the first `done` do.
+pub record DigitsLeft (digits a b done x y : ℕ) : Type 0 where
+  pub same : bits_among (4 * digits) a b ≡ bits_among (4 * (digits - done)) x y
 
-pub digits_start : (digits a b : ℕ) → DigitsLeft digits a b digits a b
-digits_start digits a b = record { same = refl }
+pub digits_start : (digits a b : ℕ) → DigitsLeft digits a b 0 a b
+digits_start digits a b = let z : digits - 0 ≡ digits = omega arith in record { same = rw z }
 
-module _ (digits a b left x y : ℕ) (s : DigitsLeft digits a b left x y) where
-  pub digits_end : left ≤ 0 → true ≡ bits_among (4 * digits) a b
+module _ (digits a b done x y : ℕ) (s : DigitsLeft digits a b done x y) where
+  pub digits_end : digits ≤ done → true ≡ bits_among (4 * digits) a b
   unfolding bits_among every rising
-  digits_end h = let z : 4 * left ≡ 0 = omega arith in sym (rw z at s.same)
+  digits_end h = let z : 4 * (digits - done) ≡ 0 = omega arith in sym (rw z at s.same)
 
-  module _ (h : 0 < left) (t : Bool) (e : t ≡ bits_among 4 (x % 16) (y % 16)) where
-    one_digit : bits_among (4 * digits) a b ≡ (t && bits_among (4 * (left - 1)) (x / 16) (y / 16))
+  module _ (h : done < digits) (t : Bool) (e : t ≡ bits_among 4 (x % 16) (y % 16)) where
+    one_digit : bits_among (4 * digits) a b ≡ (t && bits_among (4 * (digits - (done + 1))) (x / 16) (y / 16))
     one_digit =
-        let z : 4 * left ≡ suc (suc (suc (suc (4 * (left - 1))))) = omega arith in
-        s.same ∙ rw (z, e) (bits_digit (4 * (left - 1)) x y)
+        let z : 4 * (digits - done) ≡ suc (suc (suc (suc (4 * (digits - (done + 1)))))) = omega arith in
+        s.same ∙ rw (z, e) (bits_digit (4 * (digits - (done + 1))) x y)
 
     pub digits_differ : not t ≡ true → false ≡ bits_among (4 * digits) a b
     digits_differ k = sym (rw (not-true t k) at one_digit)
 
-    pub digits_next : not t ≡ false → DigitsLeft digits a b (left - 1) (x / 16) (y / 16)
+    pub digits_next : not t ≡ false → DigitsLeft digits a b (done + 1) (x / 16) (y / 16)
     digits_next k = record { same = rw (not-false t k) at one_digit }
 
 pub ruleset digit_steps = (tests, entry_there, entry_tells, digits_start, digits_end, digits_differ, digits_next)

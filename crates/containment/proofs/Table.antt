@@ -12,7 +12,7 @@ use Rattle.reading.proofs.FormLaws.{both_true}
 use Rattle.inference.specs.Lists.{every, rising}
 use Rattle.policy.specs.Syntax.{bit_at}
 use Rattle.containment.specs.Bits.{implies, bits_among}
-use Rattle.containment.specs.Answers.{Answers, answering}
+use Rattle.containment.specs.Answers.{Answers}
 
 -- Each entry of a table, from place i on, passes a test of its place and itself.
 unfoldable pub every_entry : (ℕ → ℕ → Bool) → ℕ → List ℕ → Bool
@@ -76,4 +76,4 @@ pub answers_rule : (a b : ℕ) → a < 16 → b < 16 → get_or answers (16 * a 
 answers_rule = table_rule answers answers_pass answers_count
 
 pub answers_hold : Answers answers
-answers_hold = answering answers_count answers_rule
+answers_hold = record { count = answers_count; rule = answers_rule }

@@ -274,7 +274,7 @@ pub fn answers() -> [u8; 256]
     ANSWERS
 }
 
-// Do all bits of a four-bit map stand in another?
+/// Do all bits of a four-bit map stand in another?
 #[tactic(auto, using(crate::proofs::DigitLaws::digit_steps))]
 pub fn among(answers: &[u8], a: usize, b: usize) -> bool
     requires { Answers answers.now × (a < 16) × (b < 16) }
@@ -283,7 +283,7 @@ pub fn among(answers: &[u8], a: usize, b: usize) -> bool
     answers[16 * a + b] == 1
 }
 
-// Do all bits of the lowest `digits` four-bit digits of a map stand in another?
+/// Do all bits of the lowest `digits` four-bit digits of a map stand in another?
 #[tactic(auto, using(crate::proofs::DigitLaws::digit_steps))]
 pub fn digits_among(answers: &[u8], digits: usize, a: usize, b: usize) -> bool
     requires { Answers answers.now }
@@ -291,14 +291,12 @@ pub fn digits_among(answers: &[u8], digits: usize, a: usize, b: usize) -> bool
 {
     let mut first = a;
     let mut second = b;
-    let mut left = digits;
-    while 0 < left {
+    for _ in 0..digits {
         if !among(answers, first % 16, second % 16) {
             return false;
         }
         first /= 16;
         second /= 16;
-        left -= 1;
     }
     true
 }

@@ -2,11 +2,11 @@
 use Rattle.comparing.proofs.CompareSteps.{compare_steps}
 use Rattle.comparing.proofs.no_looser.Goals as goal
 
-pub returns-then-not-first : goal.returns-then-not-first
-returns-then-not-first c = search compare_steps
+pub returns-in_default : goal.returns-in_default
+returns-in_default c = search compare_steps
 
-pub returns-then-not-second : goal.returns-then-not-second
-returns-then-not-second c = search compare_steps
+pub returns-in_default-load : goal.returns-in_default-load
+returns-in_default-load c = search compare_steps
 
 pub returns : goal.returns
 returns c = search compare_steps

@@ -2,8 +2,5 @@
 use Rattle.containment.proofs.DigitLaws.{DigitsLeft}
 use Rattle.containment.proofs.digits_among.Given as goal
 
-abbrev pub invariant-loop-left : goal.invariant-loop-left
-invariant-loop-left l = DigitsLeft l.digits l.a l.b l.left l.first l.second
-
-abbrev pub decreases-loop-left : goal.decreases-loop-left
-decreases-loop-left l = l.left
+abbrev pub invariant-loop : goal.invariant-loop
+invariant-loop l = DigitsLeft l.digits l.a l.b l.counter l.first l.second

@@ -4,4 +4,4 @@ use Rattle.comparing.proofs.CountSteps.{lists_next}
 use Rattle.comparing.proofs.counts.lists_within.Goals as goal
 
 pub loop-i-preserved : goal.loop-i-preserved
-loop-i-preserved c = (search rules, (search rules, search (rules, lists_next)))
+loop-i-preserved c = (search rules, search (rules, lists_next))
