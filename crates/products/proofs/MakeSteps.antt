@@ -52,12 +52,9 @@ pub no_nest : (forms : List ℕ) (t : Place) (z : Sizes) (made types cells : Lis
 unfolding process_in
 no_nest forms t z made types cells e = nothing forms t (process_in t.nest forms t.at) z made types cells (rw e refl)
 
--- How far down the walk is.
+-- Where the nesting is not 0, some is left.
 pub nest_left : (n : ℕ) → (n ≡ 0 → ⊥) → 0 < n
 nest_left n h = omega arith
-
-pub falls : (n m : ℕ) → 0 < n → n * 3 ≡ m → (n - 1) * 3 + 2 < m
-falls n m h e = omega arith
 
 -- A thread: a process that makes itself.
 record IsThread (p : Process) : Type 0 where
@@ -318,7 +315,6 @@ pub ruleset make_steps = (
   rules,
   no_nest,
   nest_left,
-  falls,
   new_fits_lem,
   no_scope,
   form_none,

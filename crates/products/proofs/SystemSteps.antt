@@ -26,7 +26,7 @@ use Rattle.products.specs.Makes.{Ready, Makes, MakesSystem, Gives, system_crowd}
 use Rattle.products.specs.Makers.{Kept, GivesIn, MakesSystemIn}
 use Rattle.products.proofs.GrowLaws.{grows_then, grows_cong, all_kept_lem}
 use Rattle.products.proofs.GiveLaws.{grows_none, ready_deeper, ready_after, name_given}
-use Rattle.products.proofs.MakeSteps.{nest_left, falls, new_fits_lem}
+use Rattle.products.proofs.MakeSteps.{new_fits_lem}
 
 -- Nothing is made.
 nothing : (forms : List ℕ) (t : Place) (p : System) (z : Sizes) (made types cells : List ℕ) → p ≡ nilₛ → Ready t z made types cells
@@ -44,10 +44,6 @@ pub no_nest : (forms : List ℕ) (t : Place) (z : Sizes) (made types cells : Lis
     → MakesSystem forms t (system_in t.nest forms t.at) z made made types types cells cells (record { components = t.component; sizes = z })
 unfolding system_in
 no_nest forms t z made types cells e few = nothing forms t (system_in t.nest forms t.at) z made types cells (rw e refl)
-
--- How far down the walk is.
-pub falls_group : (n m : ℕ) → 0 < n → n * 3 ≡ m → (n - 1) * 3 + 1 < m
-falls_group n m h e = omega arith
 
 -- The arms of the match on a form.
 module _ (forms : List ℕ) (t : Place) (item : Item) (e : item ≡ item_at forms t.at) (left : 0 < t.nest)
@@ -270,9 +266,6 @@ module _ (m m₁ m' : Maker) (t : Place) where
 pub ruleset system_steps = (
   rules,
   no_nest,
-  nest_left,
-  falls,
-  falls_group,
   new_fits_lem,
   no_number,
   no_scope,

@@ -53,11 +53,11 @@ impl<'a> Maker<'a> {
         };
         for given in 0..count {
             let read = type_at(Dialect::Current, s, next);
-            let Ok(t) = read else {
+            let Ok(found) = read else {
                 return Made { next, sizes };
             };
-            sizes = self.give(sizes, t.value, given);
-            next = t.next;
+            sizes = self.give(found.value, given, sizes);
+            next = found.next;
         }
         Made { next, sizes }
     }
