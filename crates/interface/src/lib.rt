@@ -9,6 +9,7 @@ ghost use Rattle.inference.specs.Rows.{is_set, cell, disclosures_at, entry_at, t
 ghost use Rattle.inference.specs.Interface.{bit as flag, map_of, head_then, interface_bytes};
 ghost use Rattle.interface.specs.Writes.{Stored};
 
+use crate::writing::Output;
 use inference::table::{Entry, Row};
 
 /// The length of the interface.
@@ -30,11 +31,12 @@ pub fn write_interface(table: &[u16], components: usize, out: &mut [u8]) -> usiz
     requires { components ≤ 32 }
     ensures { Stored out.old out.new 0 (interface_bytes (table_entries table.now components)) result }
 {
-    let mut next = 0;
-    for component in 0..components {
-        next = writing::put_row(Row { table, component }, out, next);
-    }
-    next
+    let mut output = Output {
+        bytes: out,
+        next: 0,
+    };
+    output.put_table(table, components);
+    output.next
 }
 
 /// What stands in the cell of a component, a kind and a column.
@@ -102,7 +104,12 @@ pub fn put(out: &mut [u8], at: usize, value: usize) -> usize
     requires { at < 4294967296 }
     ensures { Stored out.old out.new at (value ∷ []) result }
 {
-    writing::put(out, at, value)
+    let mut output = Output {
+        bytes: out,
+        next: at,
+    };
+    output.put(value);
+    output.next
 }
 
 /// Writes an entry up to its map: kind, path, purpose, map.
@@ -123,5 +130,10 @@ pub fn put_head(
         component,
         kind,
     };
-    writing::put_head(entry, map, out, at)
+    let mut output = Output {
+        bytes: out,
+        next: at,
+    };
+    output.put_head(entry, map);
+    output.next
 }
