@@ -167,3 +167,31 @@ impl Output<'_> {
         }
     }
 }
+
+/// Stores a byte at a place of a lent output, where there is room, and answers the next place.
+pub fn put(out: &mut [u8], at: usize, value: usize) -> usize
+    requires { at < 4294967296 }
+    ensures { Stored out.old out.new at (value ∷ []) result }
+{
+    let mut output = Output {
+        bytes: out,
+        next: at,
+    };
+    output.put(value);
+    output.next
+}
+
+/// Writes an entry up to its map at a place of a lent output; the place after it.
+pub fn put_head(entry: Entry, map: usize, out: &mut [u8], at: usize) -> usize
+    requires { (map ≡ map_of (entry_at entry.table.now entry.component entry.kind)) × (at < 3500000000) }
+    ensures stored { Stored out.old out.new at
+        (head_then (entry_at entry.entry.table.now entry.entry.component entry.entry.kind) []) result }
+    ensures near { result ≤ at + 12 }
+{
+    let mut output = Output {
+        bytes: out,
+        next: at,
+    };
+    output.put_head(entry, map);
+    output.next
+}
