@@ -14,6 +14,7 @@ use products::Sizes;
 use products::processes::make_process;
 
 // What the receiver's continuation makes, under the name disclosed, which takes the next cell.
+#[tactic(auto, using(crate::proofs::ExchangeSteps::both_steps))]
 fn make_theirs(
     forms: &[usize],
     t: Thread,
@@ -35,6 +36,7 @@ fn make_theirs(
 }
 
 // What both continuations make, the sender's first.
+#[tactic(auto, using(crate::proofs::ExchangeSteps::both_steps))]
 fn make_both(
     forms: &[usize],
     x: Exchange,
@@ -58,6 +60,7 @@ fn make_both(
 
 // Of a list of `len` threads, replaces two by what was made for each; `a` is for the earlier one. The later one goes first, so
 // that the index of the earlier one stays valid.
+#[tactic(auto, using(crate::proofs::ExchangeSteps::swap_steps))]
 fn splice_two(threads: &mut [usize], len: usize, a: Part, b: Part, made: &[usize])
     requires { (a.at < b.at) × (b.at < len) × (len ≤ 64) × (len + (a.count + b.count) ≤ 66)
         × (a.first + a.count ≤ length made.now)
@@ -72,6 +75,7 @@ fn splice_two(threads: &mut [usize], len: usize, a: Part, b: Part, made: &[usize
 }
 
 // The same, whichever is the earlier one.
+#[tactic(auto, using(crate::proofs::ExchangeSteps::swap_steps))]
 fn swap(threads: &mut [usize], len: usize, mine: Part, theirs: Part, made: &[usize])
     requires { (mine.at < len) × (theirs.at < len) × (mine.at ≡ theirs.at → ⊥)
         × (len ≤ 64) × (len + (mine.count + theirs.count) ≤ 66)
@@ -89,6 +93,7 @@ fn swap(threads: &mut [usize], len: usize, mine: Part, theirs: Part, made: &[usi
 }
 
 // Puts what was made in place of the two threads.
+#[tactic(auto, using(crate::proofs::ExchangeSteps::put_both_steps))]
 fn put_two(
     threads: &mut [usize],
     sizes: Sizes,
@@ -126,6 +131,7 @@ fn put_two(
 }
 
 // Puts what was made in place of the two threads, where there is room.
+#[tactic(auto, using(crate::proofs::ExchangeSteps::put_both_steps))]
 fn put_both(
     threads: &mut [usize],
     sizes: Sizes,

@@ -9,6 +9,7 @@ use products::Sizes;
 use products::processes::make;
 
 // 35: "room for 64 threads and 1,024 names afterwards?", where `kept` threads stay.
+#[tactic(auto, using(crate::proofs::RoomLaws::room_steps))]
 pub fn has_room(kept: usize, sizes: Sizes) -> bool
     requires { kept ≤ 64 }
     ensures { result ≡ room_for kept sizes }
@@ -34,6 +35,7 @@ pub fn none_made(sizes: Sizes) -> Sizes
 }
 
 // Puts what was made in place of the threads from `at` up to `from`, where there is room.
+#[tactic(auto, using(crate::proofs::PlaceSteps::put_steps))]
 fn put(
     threads: &mut [usize],
     sizes: Sizes,

@@ -20,6 +20,7 @@ pub fn thread_at(threads: &[usize], i: usize) -> Thread
 }
 
 // A receive, with the run name of its channel.
+#[tactic(auto, using(crate::proofs::PrefixSteps::prefix_steps))]
 fn receives(act: Act, next: usize, t: Thread, cells: &[u32]) -> Prefix
     ensures { result ≡ Prefix.Receives (record {
       channel = get_or (chain cells.now t.names t.env) act.channel 65535;
@@ -35,6 +36,7 @@ fn receives(act: Act, next: usize, t: Thread, cells: &[u32]) -> Prefix
 }
 
 // A send, with the run names of its channel and of what it sends.
+#[tactic(auto, using(crate::proofs::PrefixSteps::prefix_steps))]
 fn sends(act: Act, next: usize, t: Thread, cells: &[u32]) -> Prefix
     ensures { result ≡ Prefix.Sends (record {
       channel = get_or (chain cells.now t.names t.env) act.channel 65535;
@@ -50,6 +52,7 @@ fn sends(act: Act, next: usize, t: Thread, cells: &[u32]) -> Prefix
 }
 
 // The prefix of a thread, with run names for its own.
+#[tactic(auto, using(crate::proofs::PrefixSteps::prefix_steps))]
 pub fn prefix_of(forms: &[usize], t: Thread, cells: &[u32]) -> Prefix
     ensures { PrefixFound forms.now cells.now t result }
 {
@@ -79,6 +82,7 @@ fn less(nest: usize) -> usize
 }
 
 // What follows at `next`, under the same names.
+#[tactic(auto, using(crate::proofs::PrefixSteps::prefix_steps))]
 pub fn continuation(t: Thread, next: usize) -> Thread
     ensures { result ≡ continuation_of t next }
 {

@@ -6,6 +6,7 @@ use memory::Thread;
 use products::Sizes;
 
 // A process under one name more, in cell `cell`.
+#[tactic(auto, using(crate::proofs::WidenSteps::widen_steps))]
 pub fn under_cell(t: Thread, cell: usize) -> Thread
     ensures { result ≡ under_cell t cell }
 {
@@ -22,6 +23,7 @@ pub fn under_cell(t: Thread, cell: usize) -> Thread
 }
 
 // The sizes with one cell more.
+#[tactic(auto, using(crate::proofs::WidenSteps::widen_steps))]
 pub fn with_cell(sizes: Sizes) -> Sizes
     ensures { result ≡ with_cell sizes }
 {

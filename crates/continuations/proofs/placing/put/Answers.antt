@@ -1,0 +1,15 @@
+-- `put` asks for room, then splices what was made into its place; that there is room bounds every sum (PlaceSteps.antt).
+use mathlib.Core.Path.{ap}
+use mathlib.Core.Bool.{not}
+use native.Mathlib.Omega.{arith}
+use Rattle.continuations.proofs.RoomLaws.{room_few}
+use borrow.Author.Rules.{rules}
+use Rattle.continuations.proofs.placing.put.Goals as goal
+
+pub overflow_add-total : goal.overflow_add-total
+overflow_add-total c = let few = room_few _ _ _ c.has_room.ensures (ap not c.if-not-has_room.false) in
+    record { fits = omega (arith, few) }
+
+pub splice-requires : goal.splice-requires
+splice-requires c = let few = room_few _ _ _ c.has_room.ensures (ap not c.if-not-has_room.false) in
+    (search rules, search rules, omega (arith, few), omega (arith, few), omega (arith, few), search rules)
