@@ -21,6 +21,7 @@ pub struct Point {
 
 // Plays a script on a sheet that its charter accepts. The answer and the log's final bytes are those of the definition `played`, for
 // any bytes in all four slices.
+#[tactic(auto, using(crate::proofs::PlaySteps::play_steps))]
 pub fn play(sheet: &[u8], charter: &[u8], script: &[u8], log: &mut [u8]) -> Answer
     ensures { Played sheet.now charter.now script.now log.old log.new result }
 {

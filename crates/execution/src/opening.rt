@@ -13,6 +13,7 @@ use script::moves::count_moves;
 use service::Answer;
 
 // Questions 21 and 22, and the run, from the start in the tables on.
+#[tactic(auto, using(crate::proofs::PlaySteps::script_steps))]
 fn play_script(
     forms: &[usize],
     script: &[u8],

@@ -10,6 +10,7 @@ use script::records::write_record;
 use transitions::moves::step;
 
 // Makes the next of `count` moves and writes its record.
+#[tactic(auto, using(crate::proofs::RunSteps::turn_steps))]
 fn turn(
     forms: &[usize],
     script: &[u8],
@@ -49,6 +50,7 @@ fn turn(
 }
 
 // Makes the moves left of `count` moves.
+#[tactic(auto, using(crate::proofs::RunSteps::run_steps))]
 pub fn run(
     forms: &[usize],
     script: &[u8],

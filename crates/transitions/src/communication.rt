@@ -16,6 +16,7 @@ use products::Sizes;
 use script::{Communication, Record};
 
 // 04 of a sender and a receiver.
+#[tactic(auto, using(crate::proofs::CommunicateSteps::both_steps))]
 fn communicate_both(
     forms: &[usize],
     m: Communication,
@@ -64,6 +65,7 @@ fn communicate_both(
 }
 
 // 04 of a sender: its receiver's prefix must be a receive.
+#[tactic(auto, using(crate::proofs::CommunicateSteps::sender_steps))]
 fn communicate_sender(
     forms: &[usize],
     m: Communication,
@@ -103,6 +105,7 @@ fn communicate_sender(
 }
 
 // 04 of two threads: the first one's prefix must be a send.
+#[tactic(auto, using(crate::proofs::CommunicateSteps::threads_steps))]
 fn communicate_threads(
     forms: &[usize],
     m: Communication,
@@ -140,6 +143,7 @@ fn communicate_threads(
 }
 
 // 04: a communication.
+#[tactic(auto, using(crate::proofs::CommunicateSteps::communicate_steps))]
 pub fn communicate(
     forms: &[usize],
     m: Communication,

@@ -12,6 +12,7 @@ use products::Sizes;
 use script::Record;
 
 // 05: the environment makes a known name of type t.
+#[tactic(auto, using(crate::proofs::EnvironmentSteps::environment_steps))]
 pub fn environment_name(t: usize, sizes: Sizes, types: &mut [u32], known: &mut [bool]) -> Moved
     requires { (length types.old ≡ 1024) × (length known.old ≡ 1024) × (t < 4294967296) }
     ensures { (s threads cells : List ℕ) (state : State) (turns : ℕ) → length threads ≡ 128

@@ -15,6 +15,7 @@ use products::Sizes;
 use script::Move;
 
 // A move on the state that the last one left.
+#[tactic(auto, using(crate::proofs::StepSteps::step_steps))]
 pub fn step(
     forms: &[usize],
     m: Move,

@@ -9,6 +9,7 @@ use products::Sizes;
 use script::Record;
 
 // A refused move: its number, and the sizes as they are.
+#[tactic(auto, using(crate::proofs::OutcomeSteps::outcome_steps))]
 pub fn refused(number: usize, sizes: Sizes) -> Moved
     ensures { result ≡ refusal number sizes }
 {
@@ -26,6 +27,7 @@ pub fn refused(number: usize, sizes: Sizes) -> Moved
 }
 
 // 35, or a move's record.
+#[tactic(auto, using(crate::proofs::OutcomeSteps::outcome_steps))]
 pub fn outcome(placed: Placed, line: Record) -> Moved
     ensures { result ≡ outcome_of placed line }
 {
@@ -37,6 +39,7 @@ pub fn outcome(placed: Placed, line: Record) -> Moved
 }
 
 // A name sent to the environment becomes known, if the move is taken.
+#[tactic(auto, using(crate::proofs::OutcomeSteps::outcome_steps))]
 pub fn know_sent(known: &mut [bool], placed: Placed, name: usize)
     ensures { known.new ≡ known_after placed name known.old }
 {

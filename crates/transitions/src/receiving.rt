@@ -64,6 +64,7 @@ fn receive_on(
 }
 
 // 03 of a thread whose prefix is a receive.
+#[tactic(auto, using(crate::proofs::ReceiveSteps::receive_at_steps))]
 fn receive_at(
     forms: &[usize],
     t: Thread,
@@ -98,6 +99,7 @@ fn receive_at(
 }
 
 // 03: a receive from the environment.
+#[tactic(auto, using(crate::proofs::ReceiveSteps::receive_steps))]
 pub fn receive_in(
     forms: &[usize],
     m: Receipt,

@@ -17,6 +17,7 @@ use products::Sizes;
 use script::Record;
 
 // What the log says of a send to the environment; `old` if the name sent was known before.
+#[tactic(auto, using(crate::proofs::SendSteps::line_steps))]
 fn sent_line(act: Action, component: usize, old: bool) -> Record
     ensures { result ≡ record {
       number = 0;
@@ -38,6 +39,7 @@ fn sent_line(act: Action, component: usize, old: bool) -> Record
 }
 
 // 02 of a thread whose prefix is a send: the name sent becomes known.
+#[tactic(auto, using(crate::proofs::SendSteps::send_at_steps))]
 fn send_at(
     forms: &[usize],
     t: Thread,
@@ -76,6 +78,7 @@ fn send_at(
 }
 
 // 02: a send to the environment.
+#[tactic(auto, using(crate::proofs::SendSteps::send_steps))]
 pub fn send_out(
     forms: &[usize],
     i: usize,

@@ -16,6 +16,7 @@ use products::Sizes;
 use script::Record;
 
 // 01 of a thread whose prefix is a replication, what is repeated at `next`: its products go before the repeat.
+#[tactic(auto, using(crate::proofs::UnfoldSteps::unfold_at_steps))]
 fn unfold_at(
     forms: &[usize],
     t: Thread,
@@ -57,6 +58,7 @@ fn unfold_at(
 }
 
 // 01: the unfolding of a replication.
+#[tactic(auto, using(crate::proofs::UnfoldSteps::unfold_steps))]
 pub fn unfold_replication(
     forms: &[usize],
     i: usize,
