@@ -7,6 +7,8 @@ use native.Mathlib.Omega.{arith}
 use borrow.Author.Rules.{rules}
 use borrow.Author.Tests.{lt-ltb, le-ltb, not-true, not-false}
 use lib.ListN.{length, take, drop}
+use Rattle.std.specs.Prelude.{Option, Some, None, is_some, ◌⊎◌}
+use Rattle.std.proofs.Common.{inl, inr}
 use Rattle.decoding.specs.Tables.{process_in}
 use Rattle.inference.specs.Acts.{Component}
 use Rattle.running.specs.State.{State}
@@ -19,7 +21,6 @@ use Rattle.products.specs.Makes.{Ready, Makes}
 use Rattle.continuations.specs.declared.BothMade.{BothMade}
 use Rattle.continuations.specs.declared.Exchange.{Exchange}
 use Rattle.continuations.specs.declared.Part.{Part}
-use Rattle.continuations.specs.declared.Placed.{Placed}
 use Rattle.continuations.specs.Places.{Ranged, Tables, room_for, under_cell, with_cell}
 use Rattle.continuations.specs.Exchanges.{Walks, MakesBoth, part_of, both_replaced, swapped, PutsBoth, Exchanges, Exchanging}
 use Rattle.continuations.proofs.ExchangeLaws.{communicates}
@@ -89,49 +90,44 @@ pub ruleset swap_steps = (rules, spliced_two, sender_first, receiver_first)
 
 -- What was made, put in its places.
 module _ (z : Sizes) (x : Exchange) (b : BothMade) (made threads : List ℕ) where
-  pub put_two_taken : (threads' : List ℕ) → b.mine ≤ b.sizes.threads → room_for (z.threads - 2) b.sizes ≡ true
+  pub put_met : (r : Option Sizes) → (x.sender ≡ x.receiver ⊎ b.sizes.threads < b.mine)
+      → (x.sender ≡ x.receiver → ⊥) → b.mine ≤ b.sizes.threads → PutsBoth z x b made threads threads r
+  put_met r (inl e) ne h = absurd (ne e)
+  put_met r (inr k) ne h = absurd (omega arith)
+
+  pub put_refused : (q : Bool) → q ≡ room_for (z.threads - 2) b.sizes → not q ≡ true
+      → (x.sender ≡ x.receiver → ⊥) → b.mine ≤ b.sizes.threads → PutsBoth z x b made threads threads None
+  put_refused q e h ne k = record {
+    fits = sym (not-true q h) ∙ e;
+    sizes = λ s i. let w : ◌≡◌ {A = ℕ} 0 1 = cc in absurd (omega arith);
+    placed = λ s i. let w : ◌≡◌ {A = ℕ} 0 1 = cc in absurd (omega arith);
+    kept = λ i. refl;
+  }
+
+  pub put_done : (q : Bool) (threads' : List ℕ) → q ≡ room_for (z.threads - 2) b.sizes → not q ≡ false
       → take (z.threads - 2 + (b.mine + (b.sizes.threads - b.mine))) threads'
       ≡ swapped (take z.threads threads) x.sender x.receiver
       (part_of (record { at = x.sender; first = 0; count = b.mine }) made)
       (part_of (record { at = x.receiver; first = b.mine; count = b.sizes.threads - b.mine }) made)
-      → PutsBoth z x b made threads threads'
-      (record { fits = true; sizes = record { threads = z.threads - 2 + b.sizes.threads; names = b.sizes.names; cells = b.sizes.cells } })
+      → (x.sender ≡ x.receiver → ⊥) → b.mine ≤ b.sizes.threads → PutsBoth z x b made threads threads'
+      (Some (record { threads = z.threads - 2 + b.sizes.threads; names = b.sizes.names; cells = b.sizes.cells }))
   unfolding part_of
-  put_two_taken threads' h room e =
+  put_done q threads' e h d ne k =
       let same : b.mine + (b.sizes.threads - b.mine) ≡ b.sizes.threads = omega arith in
       record {
-        fits = sym room;
-        sizes = λ i. refl;
-        placed = λ i. rw same at e;
+        fits = sym (not-false q h) ∙ e;
+        sizes = λ s i. cc;
+        placed = λ s i. rw same at d;
         kept = λ i. let w : ◌≡◌ {A = ℕ} 0 1 = cc in absurd (omega arith);
       }
-
-  pub put_same : (r : Placed) → x.sender ≡ x.receiver → (x.sender ≡ x.receiver → ⊥) → b.mine ≤ b.sizes.threads → PutsBoth z x b made threads threads r
-  put_same r e ne h = absurd (ne e)
-
-  pub put_short : (r : Placed) → b.sizes.threads < b.mine → (x.sender ≡ x.receiver → ⊥) → b.mine ≤ b.sizes.threads → PutsBoth z x b made threads threads r
-  put_short r k ne h = absurd (omega arith)
-
-  pub put_refused : (q : Bool) → q ≡ room_for (z.threads - 2) b.sizes → not q ≡ true
-      → (x.sender ≡ x.receiver → ⊥) → b.mine ≤ b.sizes.threads → PutsBoth z x b made threads threads (record { fits = false; sizes = z })
-  put_refused q e h ne k = record {
-    fits = sym (not-true q h) ∙ e;
-    sizes = λ i. let w : ◌≡◌ {A = ℕ} 0 1 = cc in absurd (omega arith);
-    placed = λ i. let w : ◌≡◌ {A = ℕ} 0 1 = cc in absurd (omega arith);
-    kept = λ i. (refl, refl);
-  }
-
-  pub put_done : (threads' : List ℕ) (r : Placed) → PutsBoth z x b made threads threads' r
-      → (x.sender ≡ x.receiver → ⊥) → b.mine ≤ b.sizes.threads → PutsBoth z x b made threads threads' r
-  put_done threads' r p ne k = p
 
 pub room_true : (kept : ℕ) (z : Sizes) (q : Bool) → q ≡ room_for kept z → not q ≡ false → room_for kept z ≡ true
 room_true kept z q e h = sym e ∙ not-false q h
 
-pub ruleset put_both_steps = (rules, put_two_taken, put_same, put_short, put_refused, put_done)
+pub ruleset put_both_steps = (rules, put_met, put_refused, put_done)
 
 -- What both continuations make, put in its places, is the communication.
-module _ (forms : List ℕ) (x : Exchange) (z : Sizes) (threads threads' made made' types types' cells cells' : List ℕ) (b : BothMade) (r : Placed) where
+module _ (forms : List ℕ) (x : Exchange) (z : Sizes) (threads threads' made made' types types' cells cells' : List ℕ) (b : BothMade) (r : Option Sizes) where
   abbrev before : Sizes
   before = record { threads = 0; names = z.names; cells = z.cells }
 
@@ -140,7 +136,7 @@ module _ (forms : List ℕ) (x : Exchange) (z : Sizes) (threads threads' made ma
       → ((x.sender ≡ x.receiver → ⊥) → b.mine ≤ b.sizes.threads → PutsBoth z x b made' threads threads' r)
       → (state : State) (c d : Component) (turns : ℕ) (known : List Bool) → turns + 1029 ≤ length cells → length known ≡ 1024 → c.number ≡ x.mine.component → d.number ≡ x.theirs.component
       → Ranged x.mine z.cells → Ranged x.theirs z.cells → x.theirs.names + x.theirs.nest < 128 → x.sent < 65536 → (x.sender ≡ x.receiver → ⊥)
-      → Holds forms z turns threads types known cells state → Exchanges forms x z turns threads' types' known cells cells' state c d r
+      → Holds forms z turns threads types known cells state → Exchanges forms x z turns threads types threads' types' known cells cells' state c d r
   unfolding Walks
   met si ri tr mr yr cr mk p state c d turns known few kr cn dn ft fu binds small apart holds =
       let walk = mk.theirs in

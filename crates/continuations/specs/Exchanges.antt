@@ -1,5 +1,5 @@
 -- A communication's products, each in its own thread's place.
-use Rattle.std.specs.Prelude.{ℕ, ◌+◌, ◌-◌, ◌<◌, ◌≤◌, ◌≡◌, List, [], ◌∷◌, ◌++◌, Bool, true, false, cond, length, take, drop, set, ltb}
+use Rattle.std.specs.Prelude.{Option, Some, None, is_some, ℕ, ◌+◌, ◌-◌, ◌<◌, ◌≤◌, ◌≡◌, List, [], ◌∷◌, ◌++◌, Bool, true, false, cond, length, take, drop, set, ltb}
 use Rattle.decoding.specs.Tables.{process_in}
 use Rattle.inference.specs.Acts.{Component}
 use Rattle.running.specs.State.{State}
@@ -14,8 +14,7 @@ use Rattle.products.specs.Makes.{Ready, Makes}
 use Rattle.continuations.specs.declared.BothMade.{BothMade}
 use Rattle.continuations.specs.declared.Exchange.{Exchange}
 use Rattle.continuations.specs.declared.Part.{Part}
-use Rattle.continuations.specs.declared.Placed.{Placed}
-use Rattle.continuations.specs.Places.{Ranged, remaining_at, room_for, under_cell, with_cell}
+use Rattle.continuations.specs.Places.{Ranged, remaining_at, room_for, Keeps, under_cell, with_cell}
 
 -- The state after a communication: the sender's new names first.
 unfoldable pub exchanged : List ℕ → Exchange → List ℕ → State → Component → Component → State
@@ -27,19 +26,19 @@ exchanged forms x cells state c d =
     (length state.types + length (news (remaining_at forms x.mine))) (remaining_at forms x.theirs)))
     (news (remaining_at forms x.mine) ++ news (remaining_at forms x.theirs))
 
-pub record Exchanges (forms : List ℕ) (x : Exchange) (z : Sizes) (turns : ℕ) (threads' types' : List ℕ) (known : List Bool)
-    (cells cells' : List ℕ) (state : State) (c d : Component) (r : Placed) : Type 0 where
-  pub fits : r.fits ≡ has_room (exchanged forms x cells state c d)
-  pub taken : r.fits ≡ true → Holds forms r.sizes (turns + 1) threads' types' known cells' (exchanged forms x cells state c d)
-  pub kept : r.fits ≡ false → (r.sizes ≡ z) × Holds forms z turns threads' types' known cells' state
+pub record Exchanges (forms : List ℕ) (x : Exchange) (z : Sizes) (turns : ℕ) (threads types threads' types' : List ℕ) (known : List Bool)
+    (cells cells' : List ℕ) (state : State) (c d : Component) (r : Option Sizes) : Type 0 where
+  pub fits : is_some r ≡ has_room (exchanged forms x cells state c d)
+  pub taken : (s : Sizes) → r ≡ Some s → Holds forms s (turns + 1) threads' types' known cells' (exchanged forms x cells state c d)
+  pub kept : r ≡ None → Keeps forms z threads types known cells threads' types' cells' state
 
 -- The same for every state that memory holds before, with cells for one turn more, whichever names are known.
-abbrev pub Exchanging : List ℕ → Exchange → Sizes → List ℕ → List ℕ → List ℕ → List ℕ → List ℕ → List ℕ → Placed → Type 0
+abbrev pub Exchanging : List ℕ → Exchange → Sizes → List ℕ → List ℕ → List ℕ → List ℕ → List ℕ → List ℕ → Option Sizes → Type 0
 Exchanging forms x z threads types cells threads' types' cells' r =
     (state : State) (c d : Component) (turns : ℕ) (known : List Bool) → turns + 1029 ≤ length cells → length known ≡ 1024
     → c.number ≡ x.mine.component → d.number ≡ x.theirs.component → Ranged x.mine z.cells → Ranged x.theirs z.cells
     → x.theirs.names + x.theirs.nest < 128 → x.sent < 65536 → (x.sender ≡ x.receiver → ⊥)
-    → Holds forms z turns threads types known cells state → Exchanges forms x z turns threads' types' known cells cells' state c d r
+    → Holds forms z turns threads types known cells state → Exchanges forms x z turns threads types threads' types' known cells cells' state c d r
 
 -- What one walk makes of the process at a place.
 unfoldable pub Walks : List ℕ → Place → Sizes → List ℕ → List ℕ → List ℕ → List ℕ → List ℕ → List ℕ → Sizes → Type 0
@@ -73,10 +72,11 @@ unfoldable pub swapped : {A : Type 0} → List A → ℕ → ℕ → List A → 
 swapped l i j mine theirs = cond (ltb i j) (both_replaced l i j mine theirs) (both_replaced l j i theirs mine)
 
 -- What was made, put in place of two threads.
-pub record PutsBoth (z : Sizes) (x : Exchange) (b : BothMade) (made threads threads' : List ℕ) (r : Placed) : Type 0 where
-  pub fits : r.fits ≡ room_for (z.threads - 2) b.sizes
-  pub sizes : r.fits ≡ true → r.sizes ≡ record { threads = z.threads - 2 + b.sizes.threads; names = b.sizes.names; cells = b.sizes.cells }
-  pub placed : r.fits ≡ true → take (z.threads - 2 + b.sizes.threads) threads'
+pub record PutsBoth (z : Sizes) (x : Exchange) (b : BothMade) (made threads threads' : List ℕ) (r : Option Sizes) : Type 0 where
+  pub fits : is_some r ≡ room_for (z.threads - 2) b.sizes
+  pub sizes : (s : Sizes) → r ≡ Some s
+      → s ≡ record { threads = z.threads - 2 + b.sizes.threads; names = b.sizes.names; cells = b.sizes.cells }
+  pub placed : (s : Sizes) → r ≡ Some s → take (z.threads - 2 + b.sizes.threads) threads'
       ≡ swapped (take z.threads threads) x.sender x.receiver (take b.mine made)
       (take (b.sizes.threads - b.mine) (drop b.mine made))
-  pub kept : r.fits ≡ false → (r.sizes ≡ z) × (threads' ≡ threads)
+  pub kept : r ≡ None → threads' ≡ threads

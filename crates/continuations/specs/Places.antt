@@ -1,5 +1,5 @@
 -- Products in their thread's place, where there is room.
-use Rattle.std.specs.Prelude.{ℕ, ◌+◌, ◌-◌, ◌<◌, ◌≤◌, ◌≡◌, List, ◌++◌, Bool, true, false, cond, ◌&&◌, leb, ltb, length, take, replicate}
+use Rattle.std.specs.Prelude.{Option, Some, None, is_some, ℕ, ◌+◌, ◌-◌, ◌<◌, ◌≤◌, ◌≡◌, List, ◌++◌, Bool, true, false, cond, ◌&&◌, leb, ltb, length, take, replicate}
 use Rattle.reading.specs.Syntax.{Process}
 use Rattle.decoding.specs.Tables.{process_in}
 use Rattle.inference.specs.Acts.{Component}
@@ -11,7 +11,6 @@ use Rattle.memory.specs.Chains.{chain}
 use Rattle.memory.specs.declared.Thread.{Thread as Place}
 use Rattle.products.specs.declared.Sizes.{Sizes}
 use Rattle.products.specs.Held.{Holds}
-use Rattle.continuations.specs.declared.Placed.{Placed}
 
 -- The tables lent to a move have their lengths, and its threads are few.
 pub record Tables (z : Sizes) (threads made types cells : List ℕ) : Type 0 where
@@ -52,14 +51,21 @@ changed state threads types = record {
 unfoldable pub room_for : ℕ → Sizes → Bool
 room_for kept z = leb (kept + z.threads) 64 && leb z.names 1024
 
--- What was made, put in place of the threads from `at` up to `from`.
-pub record Puts (z : Sizes) (at from : ℕ) (after : Sizes) (made threads threads' : List ℕ) (r : Placed) : Type 0 where
-  pub fits : r.fits ≡ room_for (at + (z.threads - from)) after
-  pub sizes : r.fits ≡ true
-      → r.sizes ≡ record { threads = at + (z.threads - from) + after.threads; names = after.names; cells = after.cells }
-  pub placed : r.fits ≡ true → take (at + (z.threads - from) + after.threads) threads'
+-- What was made, put in place of the threads from `at` up to `from`: the sizes afterwards, where there is room.
+pub record Puts (z : Sizes) (at from : ℕ) (after : Sizes) (made threads threads' : List ℕ) (r : Option Sizes) : Type 0 where
+  pub fits : is_some r ≡ room_for (at + (z.threads - from)) after
+  pub sizes : (s : Sizes) → r ≡ Some s
+      → s ≡ record { threads = at + (z.threads - from) + after.threads; names = after.names; cells = after.cells }
+  pub placed : (s : Sizes) → r ≡ Some s → take (at + (z.threads - from) + after.threads) threads'
       ≡ replaced (take z.threads threads) at from (take after.threads made)
-  pub kept : r.fits ≡ false → (r.sizes ≡ z) × (threads' ≡ threads)
+  pub kept : r ≡ None → threads' ≡ threads
+
+-- What memory held before, with no more cells in use than now, it holds afterwards.
+abbrev pub Keeps : List ℕ → Sizes → List ℕ → List ℕ → List Bool → List ℕ → List ℕ → List ℕ → List ℕ → State → Type 0
+Keeps forms z threads types known cells threads' types' cells' state =
+    (turns top : ℕ) → top ≤ z.cells
+    → Holds forms (record { threads = z.threads; names = z.names; cells = top }) turns threads types known cells state
+    → Holds forms (record { threads = z.threads; names = z.names; cells = top }) turns threads' types' known cells' state
 
 -- The state with a process's products in place of the threads from `at` up to `from`; `cells` are those before.
 unfoldable pub put : List ℕ → Place → ℕ → ℕ → List ℕ → State → Component → State
@@ -67,15 +73,15 @@ put forms process at from cells state c =
     changed state (replaced state.threads at from
     (threads_of c (chain cells process.names process.env) (length state.types) (remaining_at forms process))) (news (remaining_at forms process))
 
-pub record Replaces (forms : List ℕ) (process : Place) (at from : ℕ) (z : Sizes) (turns : ℕ) (threads' types' : List ℕ) (known : List Bool)
-    (cells cells' : List ℕ) (state : State) (c : Component) (r : Placed) : Type 0 where
-  pub fits : r.fits ≡ has_room (put forms process at from cells state c)
-  pub taken : r.fits ≡ true → Holds forms r.sizes turns threads' types' known cells' (put forms process at from cells state c)
-  pub kept : r.fits ≡ false → (r.sizes ≡ z) × Holds forms z turns threads' types' known cells' state
+pub record Replaces (forms : List ℕ) (process : Place) (at from : ℕ) (z : Sizes) (turns : ℕ) (threads types threads' types' : List ℕ)
+    (known : List Bool) (cells cells' : List ℕ) (state : State) (c : Component) (r : Option Sizes) : Type 0 where
+  pub fits : is_some r ≡ has_room (put forms process at from cells state c)
+  pub taken : (s : Sizes) → r ≡ Some s → Holds forms s turns threads' types' known cells' (put forms process at from cells state c)
+  pub kept : r ≡ None → Keeps forms z threads types known cells threads' types' cells' state
 
 -- The same for every state that memory holds before, with cells for its turns, whichever names are known.
-abbrev pub Replacing : List ℕ → Place → ℕ → ℕ → Sizes → List ℕ → List ℕ → List ℕ → List ℕ → List ℕ → List ℕ → Placed → Type 0
+abbrev pub Replacing : List ℕ → Place → ℕ → ℕ → Sizes → List ℕ → List ℕ → List ℕ → List ℕ → List ℕ → List ℕ → Option Sizes → Type 0
 Replacing forms process at from z threads types cells threads' types' cells' r =
     (state : State) (c : Component) (turns : ℕ) (known : List Bool) → turns + 1028 ≤ length cells → length known ≡ 1024 → c.number ≡ process.component
     → Ranged process z.cells → Holds forms z turns threads types known cells state
-    → Replaces forms process at from z turns threads' types' known cells cells' state c r
+    → Replaces forms process at from z turns threads types threads' types' known cells cells' state c r

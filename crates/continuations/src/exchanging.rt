@@ -6,7 +6,7 @@ ghost use Rattle.continuations.specs.Exchanges.{part_of, both_replaced, swapped,
 
 use crate::placing::{has_room, none_made};
 use crate::widening::{under_cell, with_cell};
-use crate::{BothMade, Exchange, Part, Placed};
+use crate::{BothMade, Exchange, Part};
 use memory::Thread;
 use memory::chains::bind;
 use memory::threads::splice;
@@ -28,11 +28,9 @@ fn make_theirs(
         types.old types.new
         (bound cells.old sizes.cells t.env sent) cells.new result }
 {
-    let cell = sizes.cells;
-    let inner = under_cell(t, cell);
-    let begun = with_cell(sizes);
-    bind(cells, cell, t.env, sent);
-    make_process(forms, inner, begun, made, types, cells)
+    let inner = under_cell(t, sizes.cells);
+    bind(cells, sizes.cells, t.env, sent);
+    make_process(forms, inner, with_cell(sizes), made, types, cells)
 }
 
 // What both continuations make, the sender's first.
@@ -48,13 +46,10 @@ fn make_both(
     ensures { MakesBoth forms.now x sizes made.old made.new
         types.old types.new cells.old cells.new result }
 {
-    let sender = x.mine;
-    let receiver = x.theirs;
-    let so_far = make_process(forms, sender, sizes, made, types, cells);
-    let all = make_theirs(forms, receiver, x.sent, so_far, made, types, cells);
+    let so_far = make_process(forms, x.mine, sizes, made, types, cells);
     BothMade {
         mine: so_far.threads,
-        sizes: all,
+        sizes: make_theirs(forms, x.theirs, x.sent, so_far, made, types, cells),
     }
 }
 
@@ -92,22 +87,29 @@ fn swap(threads: &mut [usize], len: usize, mine: Part, theirs: Part, made: &[usi
     splice_two(threads, len, theirs, mine, made);
 }
 
-// Puts what was made in place of the two threads.
+// Puts what was made in place of the two threads, where there is room. Neither two equal indices nor fewer threads in all than the
+// sender's can be met; what is asked of them keeps every index in its table.
 #[tactic(auto, using(crate::proofs::ExchangeSteps::put_both_steps))]
-fn put_two(
+fn put_both(
     threads: &mut [usize],
     sizes: Sizes,
     x: Exchange,
     made: &[usize],
     products: BothMade,
-) -> Placed
+) -> Option<Sizes>
     requires { (x.sender < sizes.threads) × (x.receiver < sizes.threads)
-        × (x.sender ≡ x.receiver → ⊥) × (sizes.threads ≤ 64)
-        × (products.mine ≤ products.sizes.threads) × (room_for (sizes.threads - 2) products.sizes ≡ true)
-        × (length threads.old ≡ 128) × (length made.now ≡ 128) }
-    ensures { PutsBoth sizes x products made.now threads.old threads.new result }
+        × (sizes.threads ≤ 64) × (length threads.old ≡ 128) × (length made.now ≡ 128) }
+    ensures { (x.sender ≡ x.receiver → ⊥) → products.mine ≤ products.sizes.threads
+        → PutsBoth sizes x products made.now threads.old threads.new result }
 {
     let after = products.sizes;
+    if x.sender == x.receiver || after.threads < products.mine {
+        return None;
+    }
+    let kept = sizes.threads - 2;
+    if !has_room(kept, after) {
+        return None;
+    }
     let mine = Part {
         at: x.sender,
         first: 0,
@@ -118,47 +120,14 @@ fn put_two(
         first: products.mine,
         count: after.threads - products.mine,
     };
-    let total = Sizes {
-        threads: sizes.threads - 2 + after.threads,
-        names: after.names,
-        cells: after.cells,
-    };
     swap(threads, sizes.threads, mine, theirs, made);
-    Placed {
-        fits: true,
-        sizes: total,
-    }
+    Some(Sizes {
+        threads: kept + after.threads,
+        ..after
+    })
 }
 
-// Puts what was made in place of the two threads, where there is room.
-#[tactic(auto, using(crate::proofs::ExchangeSteps::put_both_steps))]
-fn put_both(
-    threads: &mut [usize],
-    sizes: Sizes,
-    x: Exchange,
-    made: &[usize],
-    products: BothMade,
-) -> Placed
-    requires { (x.sender < sizes.threads) × (x.receiver < sizes.threads)
-        × (sizes.threads ≤ 64) × (length threads.old ≡ 128) × (length made.now ≡ 128) }
-    ensures { (x.sender ≡ x.receiver → ⊥) → products.mine ≤ products.sizes.threads
-        → PutsBoth sizes x products made.now threads.old threads.new result }
-{
-    let after = products.sizes;
-    if x.sender == x.receiver {
-        return Placed { fits: false, sizes };
-    }
-    if after.threads < products.mine {
-        return Placed { fits: false, sizes };
-    }
-    let kept = sizes.threads - 2;
-    if !has_room(kept, after) {
-        return Placed { fits: false, sizes };
-    }
-    put_two(threads, sizes, x, made, products)
-}
-
-// Replaces a sender and a receiver by what their continuations make.
+/// Replaces a sender and a receiver by what their continuations make; the sizes afterwards, if there is room (35).
 pub fn exchange(
     forms: &[usize],
     x: Exchange,
@@ -167,13 +136,12 @@ pub fn exchange(
     made: &mut [usize],
     types: &mut [u32],
     cells: &mut [u32],
-) -> Placed
+) -> Option<Sizes>
     requires { (x.sender < sizes.threads) × (x.receiver < sizes.threads)
         × Tables sizes threads.old made.old types.old cells.old }
     ensures { Exchanging forms.now x sizes threads.old types.old cells.old
         threads.new types.new cells.new result }
 {
-    let before = none_made(sizes);
-    let products = make_both(forms, x, before, made, types, cells);
+    let products = make_both(forms, x, none_made(sizes), made, types, cells);
     put_both(threads, sizes, x, made, products)
 }

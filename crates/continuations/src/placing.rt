@@ -2,35 +2,27 @@
 ghost use Rattle.std.specs.Prelude.{◌≡◌, ◌≤◌, length};
 ghost use Rattle.continuations.specs.Places.{Tables, room_for, Puts, Replacing};
 
-use crate::Placed;
 use memory::Thread;
 use memory::threads::splice;
 use products::Sizes;
 use products::processes::make;
 
-// 35: "room for 64 threads and 1,024 names afterwards?", where `kept` threads stay.
+/// Is there room for 64 threads and 1,024 names afterwards, where `kept` threads stay beside those made (35)?
 #[tactic(auto, using(crate::proofs::RoomLaws::room_steps))]
 pub fn has_room(kept: usize, sizes: Sizes) -> bool
     requires { kept ≤ 64 }
     ensures { result ≡ room_for kept sizes }
 {
-    if 64 < sizes.threads {
-        return false;
-    }
-    if 64 < kept + sizes.threads {
-        return false;
-    }
-    sizes.names <= 1024
+    sizes.threads <= 64 && kept + sizes.threads <= 64 && sizes.names <= 1024
 }
 
-// The sizes before any product of a move.
+/// The sizes before any product of a move.
 pub fn none_made(sizes: Sizes) -> Sizes
     ensures { result ≡ record { threads = 0; names = sizes.names; cells = sizes.cells } }
 {
     Sizes {
         threads: 0,
-        names: sizes.names,
-        cells: sizes.cells,
+        ..sizes
     }
 }
 
@@ -43,29 +35,24 @@ fn put(
     from: usize,
     made: &[usize],
     after: Sizes,
-) -> Placed
+) -> Option<Sizes>
     requires { (at ≤ from) × (from ≤ sizes.threads) × (sizes.threads ≤ 64)
         × (length threads.old ≡ 128) × (length made.now ≡ 128) }
     ensures { Puts sizes at from after made.now threads.old threads.new result }
 {
     let kept = at + (sizes.threads - from);
     if !has_room(kept, after) {
-        return Placed { fits: false, sizes };
+        return None;
     }
     let count = after.threads;
-    let total = Sizes {
-        threads: kept + count,
-        names: after.names,
-        cells: after.cells,
-    };
     splice(threads, sizes.threads, at, from, made, 0, count);
-    Placed {
-        fits: true,
-        sizes: total,
-    }
+    Some(Sizes {
+        threads: kept + count,
+        ..after
+    })
 }
 
-// Replaces the threads from `at` up to `from` by what a process makes, where there is room.
+/// Replaces the threads from `at` up to `from` by what a process makes; the sizes afterwards, if there is room (35).
 pub fn replace(
     forms: &[usize],
     process: Thread,
@@ -76,7 +63,7 @@ pub fn replace(
     made: &mut [usize],
     types: &mut [u32],
     cells: &mut [u32],
-) -> Placed
+) -> Option<Sizes>
     requires { (at ≤ from) × (from ≤ sizes.threads) × Tables sizes threads.old made.old types.old cells.old }
     ensures { Replacing forms.now process at from sizes
         threads.old types.old cells.old

@@ -6,8 +6,8 @@ use Rattle.continuations.proofs.RoomLaws.{room_few}
 use borrow.Author.Rules.{rules}
 use Rattle.continuations.proofs.placing.put.Goals as goal
 
-pub overflow_add-total : goal.overflow_add-total
-overflow_add-total c = let few = room_few _ _ _ c.has_room.ensures (ap not c.if-not-has_room.false) in
+pub overflow_add-result : goal.overflow_add-result
+overflow_add-result c = let few = room_few _ _ _ c.has_room.ensures (ap not c.if-not-has_room.false) in
     record { fits = omega (arith, few) }
 
 pub splice-requires : goal.splice-requires

@@ -5,15 +5,6 @@ use Rattle.continuations.proofs.prefixes.prefix_of.Goals as goal
 pub returns-then-t-eq0 : goal.returns-then-t-eq0
 returns-then-t-eq0 c = search prefix_steps
 
-pub returns-in-Nil : goal.returns-in-Nil
-returns-in-Nil c = search prefix_steps
-
-pub returns-in-Par : goal.returns-in-Par
-returns-in-Par c = search prefix_steps
-
-pub returns-in-New : goal.returns-in-New
-returns-in-New c = search prefix_steps
-
 pub returns-in-Input : goal.returns-in-Input
 returns-in-Input c = search prefix_steps
 
@@ -23,8 +14,5 @@ returns-in-Output c = search prefix_steps
 pub returns-in-Replicate : goal.returns-in-Replicate
 returns-in-Replicate c = search prefix_steps
 
-pub returns-in-Group : goal.returns-in-Group
-returns-in-Group c = search prefix_steps
-
-pub returns-in-Component : goal.returns-in-Component
-returns-in-Component c = search prefix_steps
+pub returns-in_default : goal.returns-in_default
+returns-in_default c = search prefix_steps
