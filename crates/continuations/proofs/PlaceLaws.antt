@@ -25,7 +25,7 @@ use Rattle.products.specs.Held.{Runs, Holds}
 use Rattle.products.specs.Makes.{Ready, Makes, crowd}
 use Rattle.products.proofs.PairLaws.{pairs_append, pairs_take, pairs_drop, pairs_length}
 use Rattle.products.proofs.GrowLaws.{shorter, all_kept_lem, crowd_counts}
-use Rattle.continuations.specs.Places.{Ranged, remaining_at, changed, put, room_for, Keeps, Puts, Replaces}
+use Rattle.continuations.specs.Places.{Ranged, remaining_at, changed, put, room_for, Puts}
 use Rattle.continuations.proofs.RoomLaws.{few_threads, few_names}
 
 pub pairs_replaced : {A B : Type 0} {R : A → B → Type 0} (at from : ℕ) {xs ys : List A} {bs ds : List B} → Pairs R xs bs → Pairs R ys ds
@@ -105,7 +105,7 @@ module _ (forms : List ℕ) (process : Place) (at from : ℕ) (z : Sizes) (turns
       all_names : length (state.types ++ news (remaining_at forms process)) ≡ z.names + length (news (remaining_at forms process))
       all_names = omega (arith, length-append state.types (news (remaining_at forms process)), named)
 
-      room_same : is_some r ≡ has_room (put forms process at from cells state c)
+      pub room_same : is_some r ≡ has_room (put forms process at from cells state c)
       unfolding has_room put changed remaining_at room_for
       room_same =
           p.fits ∙ ap₂ (λ a b. a && b)
@@ -128,9 +128,9 @@ module _ (forms : List ℕ) (process : Place) (at from : ℕ) (z : Sizes) (turns
         unfolding remaining_at
         new_names = omega (arith, m.grows.names, few_given)
 
-        holds_fitted : Holds forms fitted turns threads' types' known cells' (put forms process at from cells state c)
+        pub holds_fitted : Holds forms s turns threads' types' known cells' (put forms process at from cells state c)
         unfolding put changed remaining_at
-        holds_fitted = record {
+        holds_fitted = rw (p.sizes s yes) (record {
           few = few_made;
           given = few_given;
           slack = omega (arith, m.grows.slack, holds.slack);
@@ -144,9 +144,11 @@ module _ (forms : List ℕ) (process : Place) (at from : ℕ) (z : Sizes) (turns
               ∙ quiet_take known z.names (length (news (remaining_at forms process))) (omega (arith, few_given, new_names)) holds.quiet
               ∙ ap (λ l. l ++ replicate (length (news (remaining_at forms process))) false) holds.known;
           quiet = λ i h. holds.quiet i (omega (arith, new_names));
-        }
+        })
 
-      holds_kept : r ≡ None → Keeps forms z threads types known cells threads' types' cells' state
+      pub holds_kept : r ≡ None → (later top : ℕ) → top ≤ z.cells
+          → Holds forms (record { threads = z.threads; names = z.names; cells = top }) later threads types known cells state
+          → Holds forms (record { threads = z.threads; names = z.names; cells = top }) later threads' types' known cells' state
       holds_kept full later top below held = record {
         few = held.few;
         given = held.given;
@@ -156,11 +158,4 @@ module _ (forms : List ℕ) (process : Place) (at from : ℕ) (z : Sizes) (turns
         types = m.before ∙ held.types;
         known = held.known;
         quiet = held.quiet;
-      }
-
-      pub replaces : Replaces forms process at from z turns threads types threads' types' known cells cells' state c r
-      replaces = record {
-        fits = room_same;
-        taken = λ s yes. rw (p.sizes s yes) (holds_fitted s yes);
-        kept = holds_kept;
       }

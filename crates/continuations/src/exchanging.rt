@@ -1,57 +1,15 @@
 // A communication's products, each in its own thread's place, where there is room; the sender's new names come first.
 ghost use Rattle.std.specs.Prelude.{◌≡◌, true, ◌+◌, ◌-◌, ◌<◌, ◌≤◌, length, take};
-ghost use Rattle.memory.specs.Chains.{bound};
-ghost use Rattle.continuations.specs.Places.{Tables, room_for, under_cell, with_cell};
-ghost use Rattle.continuations.specs.Exchanges.{part_of, both_replaced, swapped, Walks, MakesBoth, PutsBoth, Exchanging};
+ghost use Rattle.continuations.specs.Places.{room_for};
+ghost use Rattle.continuations.specs.Exchanges.{part_of, both_replaced, swapped, MakesBoth, PutsBoth, Exchanging};
 
 use crate::placing::{has_room, none_made};
 use crate::widening::{under_cell, with_cell};
-use crate::{BothMade, Exchange, Part};
-use memory::Thread;
+use crate::{BothMade, Exchange, Part, Tables};
 use memory::chains::bind;
 use memory::threads::splice;
 use products::Sizes;
 use products::processes::make_process;
-
-// What the receiver's continuation makes, under the name disclosed, which takes the next cell.
-#[tactic(auto, using(crate::proofs::ExchangeSteps::both_steps))]
-fn make_theirs(
-    forms: &[usize],
-    t: Thread,
-    sent: usize,
-    sizes: Sizes,
-    made: &mut [usize],
-    types: &mut [u32],
-    cells: &mut [u32],
-) -> Sizes
-    ensures { Walks forms.now (under_cell t sizes.cells) (with_cell sizes) made.old made.new
-        types.old types.new
-        (bound cells.old sizes.cells t.env sent) cells.new result }
-{
-    let inner = under_cell(t, sizes.cells);
-    bind(cells, sizes.cells, t.env, sent);
-    make_process(forms, inner, with_cell(sizes), made, types, cells)
-}
-
-// What both continuations make, the sender's first.
-#[tactic(auto, using(crate::proofs::ExchangeSteps::both_steps))]
-fn make_both(
-    forms: &[usize],
-    x: Exchange,
-    sizes: Sizes,
-    made: &mut [usize],
-    types: &mut [u32],
-    cells: &mut [u32],
-) -> BothMade
-    ensures { MakesBoth forms.now x sizes made.old made.new
-        types.old types.new cells.old cells.new result }
-{
-    let so_far = make_process(forms, x.mine, sizes, made, types, cells);
-    BothMade {
-        mine: so_far.threads,
-        sizes: make_theirs(forms, x.theirs, x.sent, so_far, made, types, cells),
-    }
-}
 
 // Of a list of `len` threads, replaces two by what was made for each; `a` is for the earlier one. The later one goes first, so
 // that the index of the earlier one stays valid.
@@ -127,21 +85,49 @@ fn put_both(
     })
 }
 
-/// Replaces a sender and a receiver by what their continuations make; the sizes afterwards, if there is room (35).
-pub fn exchange(
-    forms: &[usize],
-    x: Exchange,
-    sizes: Sizes,
-    threads: &mut [usize],
-    made: &mut [usize],
-    types: &mut [u32],
-    cells: &mut [u32],
-) -> Option<Sizes>
-    requires { (x.sender < sizes.threads) × (x.receiver < sizes.threads)
-        × Tables sizes threads.old made.old types.old cells.old }
-    ensures { Exchanging forms.now x sizes threads.old types.old cells.old
-        threads.new types.new cells.new result }
-{
-    let products = make_both(forms, x, none_made(sizes), made, types, cells);
-    put_both(threads, sizes, x, made, products)
+impl<const CELLS: usize> Tables<CELLS> {
+    // What both continuations make, the sender's first, and then the receiver's under the name disclosed, which takes the next cell.
+    #[tactic(auto, using(crate::proofs::ExchangeSteps::both_steps))]
+    fn make_both(&mut self, forms: &[usize], x: Exchange, sizes: Sizes) -> BothMade
+        ensures threads { self.new.threads ≡ self.old.threads }
+        ensures known { self.new.known ≡ self.old.known }
+        ensures made { MakesBoth forms.now x sizes self.old self.new result }
+    {
+        let first = make_process(
+            forms,
+            x.mine,
+            sizes,
+            &mut self.made,
+            &mut self.types,
+            &mut self.cells,
+        );
+        bind(&mut self.cells, first.cells, x.theirs.env, x.sent);
+        let theirs = under_cell(x.theirs, first.cells);
+        let begun = with_cell(first);
+        let all = make_process(
+            forms,
+            theirs,
+            begun,
+            &mut self.made,
+            &mut self.types,
+            &mut self.cells,
+        );
+        BothMade {
+            mine: first.threads,
+            sizes: all,
+        }
+    }
+
+    /// Replaces a sender and a receiver by what their continuations make; the sizes afterwards, if there is room (35).
+    pub fn exchange(&mut self, forms: &[usize], x: Exchange, sizes: Sizes) -> Option<Sizes>
+        requires there { (x.sender < sizes.threads) × (x.receiver < sizes.threads) }
+        requires few { sizes.threads ≤ 64 }
+        requires cells { CELLS ≤ 2304 }
+        ensures known { self.new.known ≡ self.old.known }
+        ensures exchanged { Exchanging forms.now x sizes self.old self.new result }
+    {
+        let before = none_made(sizes);
+        let products = self.make_both(forms, x, before);
+        put_both(&mut self.threads, sizes, x, &self.made, products)
+    }
 }
