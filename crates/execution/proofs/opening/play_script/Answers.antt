@@ -1,10 +1,23 @@
 -- `play_script`: a script that does not read leaves with 21, a log that is too short with 22; else the run begins at the script's first byte.
-use Rattle.execution.proofs.PlaySteps.{script_steps}
+use Rattle.execution.proofs.PlaySteps.{script_fails, log_short, log_written, run_begins, counted_enough}
 use borrow.Author.Rules.{rules}
 use Rattle.execution.proofs.opening.play_script.Goals as goal
 
-pub run-requires : goal.run-requires
-run-requires c = (search script_steps, search rules, search script_steps)
+pub returns-then-count-eq65535 : goal.returns-then-count-eq65535
+returns-then-count-eq65535 g c = script_fails _ _ _ c.args.tables.now _ _ c.count_moves-count.ensures.value c.if-count-eq65535.true
+
+pub returns-then-log-count : goal.returns-then-log-count
+returns-then-log-count g c =
+    log_short _ _ _ c.args.tables.now _ _ c.count_moves-count.ensures.value c.if-count-eq65535.false c.if-log-count.true
+
+pub run-requires-clause-ongoing : goal.run-requires-clause-ongoing
+run-requires-clause-ongoing g c =
+    run_begins _ _ _ c.args.tables.now _ _ c.count_moves-count.ensures.value c.if-count-eq65535.false c.if-log-count.false c.requires.standing
+
+pub run-requires-clause-enough : goal.run-requires-clause-enough
+run-requires-clause-enough g c =
+    counted_enough _ _ _ c.count_moves-count.ensures.upper_bound c.if-count-eq65535.false c.requires.enough
 
 pub returns : goal.returns
-returns c = search script_steps
+returns g c =
+    log_written _ _ _ c.args.tables.now _ _ c.count_moves-count.ensures.value c.if-count-eq65535.false c.if-log-count.false _ c.run.ensures

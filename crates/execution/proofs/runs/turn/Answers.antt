@@ -1,10 +1,24 @@
--- `turn`: the next move can be read, and its step and its record go on with the run (`all_turned`). The step asks that the state
--- fits its tables, which `Going` and `Lent` tell.
-use Rattle.execution.proofs.RunSteps.{turn_steps, all_turned}
+-- `turn`: the next move can be read, and its step and its record go on with the run (`all_turned`). That the state fits its tables is
+-- told by `Going`.
+use native.Mathlib.Omega.{arith}
+use borrow.Author.Rules.{rules}
+use Rattle.execution.proofs.RunSteps.{turn_steps, move_fits, record_room, all_turned}
 use Rattle.execution.proofs.runs.turn.Goals as goal
 
 pub returns-in_default : goal.returns-in_default
-returns-in_default c = search turn_steps
+returns-in_default g c = search turn_steps
+
+pub step-requires-clause-few : goal.step-requires-clause-few
+step-requires-clause-few g c = c.requires.ongoing.going.holds.few
+
+pub step-requires-clause-fits : goal.step-requires-clause-fits
+step-requires-clause-fits g c = move_fits _ _ _ _ c.move_at-read.ensures c.in-Found.is
+
+pub write_record-requires : goal.write_record-requires
+write_record-requires g c =
+    let room = record_room _ _ _ _ _ _ _ c.requires.ongoing.going c.requires.left in omega (arith, room)
 
 pub returns : goal.returns
-returns c = all_turned _ _ _ _ _ _ _ _ _ c.requires.2 _ c.move_at-read.ensures _ c.in-Found.is _ _ _ _ _ _ c.requires.3 c.step-moved.ensures c.write_record.ensures
+returns g c =
+    all_turned _ _ _ _ _ c.args.tables.now c.requires.left _ c.move_at-read.ensures _ c.in-Found.is c.step-outcome.new.tables _ _ _
+    (omega (arith, c.requires.enough)) c.step-outcome.ensures c.logged-moved.ensures c.write_record.ensures

@@ -1,24 +1,69 @@
--- `receive_in`: 30, then 31 for each form that is no receive, then the receive (ReceiveSteps.antt).
-use Rattle.transitions.proofs.ReceiveSteps.{receive_steps, receive_receives}
+-- `receive_in`: 30, then 31 for each form that is no receive, 32, 33, then the products under the name received, or 35 (ReceiveSteps.antt).
+use mathlib.Core.Bool.{not}
+use native.Mathlib.Omega.{arith}
+use mathlib.Core.Path.{refl, ap, ◌∙◌}
+use borrow.Author.Rules.{rules}
+use Rattle.std.specs.Prelude.{Some}
+use Rattle.transitions.proofs.OutcomeSteps.{never, outcome_taken, outcome_full}
+use Rattle.transitions.proofs.ReceiveSteps.{receive_no_thread, receive_other, channel_unknown, name_unknown, other_type, receive_placed, same_threads, wider_inside}
 use Rattle.transitions.proofs.receiving.receive_in.Goals as goal
 
-pub returns-then-sizes-m : goal.returns-then-sizes-m
-returns-then-sizes-m c = search receive_steps
+pub returns-then-sizes-m-clause-stepped : goal.returns-then-sizes-m-clause-stepped
+returns-then-sizes-m-clause-stepped g c = receive_no_thread _ _ _ c.args.tables.now (search rules) c.if-sizes-m.true
 
-pub returns-in-Receives : goal.returns-in-Receives
-returns-in-Receives c = receive_receives _ _ _ _ _ _ _ c.requires.0.thread_room _ _
-    c.if-sizes-m.false
-    c.thread_at-t.ensures
-    c.prefix_of-prefix.ensures
-    _ _ _ _ _
-    c.in-Receives.is
-    c.receive_at.ensures
+pub returns-in_default-clause-stepped : goal.returns-in_default-clause-stepped
+returns-in_default-clause-stepped g c =
+    receive_other _ _ _ c.args.tables.now (search rules) _ _ c.if-sizes-m.false c.thread_at-thread.ensures c.prefix_of.ensures
+    (λ d q. c.in_default.not-Some _ q)
 
-pub returns-in-Nothing : goal.returns-in-Nothing
-returns-in-Nothing c = search (receive_steps, c.requires.0.thread_room)
+pub returns-in_default-prefix : goal.returns-in_default-prefix
+returns-in_default-prefix g c = record {
+  known = refl;
+  stepped =
+      receive_other _ _ _ c.args.tables.now (search rules) _ _ c.if-sizes-m.false c.thread_at-thread.ensures c.prefix_of.ensures
+      (λ d q. never c.in-Some.is (c.in_default-prefix.not-Receives d) q);
+}
 
-pub returns-in-Repeats : goal.returns-in-Repeats
-returns-in-Repeats c = search (receive_steps, c.requires.0.thread_room)
+pub returns-then-not-is_known-clause-stepped : goal.returns-then-not-is_known-clause-stepped
+returns-then-not-is_known-clause-stepped g c =
+    channel_unknown _ _ _ c.args.tables.now (search rules) _ _ c.if-sizes-m.false c.thread_at-thread.ensures c.prefix_of.ensures
+    _ (c.in-Some.is ∙ ap Some c.in-Receives.is) _ c.is_known.ensures (ap not c.if-not-is_known.true)
 
-pub returns-in-Sends : goal.returns-in-Sends
-returns-in-Sends c = search (receive_steps, c.requires.0.thread_room)
+pub returns-then-not-is_known-2-clause-stepped : goal.returns-then-not-is_known-2-clause-stepped
+returns-then-not-is_known-2-clause-stepped g c =
+    name_unknown _ _ _ c.args.tables.now (search rules) _ _ c.if-sizes-m.false c.thread_at-thread.ensures c.prefix_of.ensures
+    _ (c.in-Some.is ∙ ap Some c.in-Receives.is) _ c.is_known.ensures (ap not c.if-not-is_known.false)
+    _ c.is_known-2.ensures (ap not c.if-not-is_known-2.true)
+
+pub returns-then-type_of-act-clause-stepped : goal.returns-then-type_of-act-clause-stepped
+returns-then-type_of-act-clause-stepped g c =
+    other_type _ _ _ c.args.tables.now (search rules) _ _ c.if-sizes-m.false c.thread_at-thread.ensures c.prefix_of.ensures
+    _ (c.in-Some.is ∙ ap Some c.in-Receives.is) _ c.is_known.ensures (ap not c.if-not-is_known.false)
+    _ c.is_known-2.ensures (ap not c.if-not-is_known-2.false) _ c.type_of.ensures c.if-type_of-act.true
+
+pub replace-requires-clause-ordered : goal.replace-requires-clause-ordered
+replace-requires-clause-ordered g c =
+    let inside = wider_inside _ _ _ c.with_cell-wider.ensures c.if-sizes-m.false in
+    (search rules, inside)
+
+pub replace-requires-clause-few : goal.replace-requires-clause-few
+replace-requires-clause-few g c =
+    omega (arith, c.requires.few, ap (λ z. z.threads) c.with_cell-wider.ensures, same_threads c.args.sizes)
+
+pub returns-in_default-replace-clause-stepped : goal.returns-in_default-replace-clause-stepped
+returns-in_default-replace-clause-stepped g c =
+    receive_placed _ _ _ c.args.tables.now (search rules) _ _ c.if-sizes-m.false c.thread_at-thread.ensures c.prefix_of.ensures
+    _ (c.in-Some.is ∙ ap Some c.in-Receives.is) _ c.is_known.ensures (ap not c.if-not-is_known.false)
+    _ c.is_known-2.ensures (ap not c.if-not-is_known-2.false) _ c.type_of.ensures
+    _ _ _ _ _ c.replace.new.self _ c.if-type_of-act.false (search rules) (omega (arith, c.requires.cells))
+    c.continuation-follows.ensures c.under_cell-process.ensures c.bind.ensures c.with_cell-wider.ensures c.replace.ensures.replaced
+    (outcome_full _ _ c.in_default-replace.not-Some)
+
+pub returns-clause-stepped : goal.returns-clause-stepped
+returns-clause-stepped g c =
+    receive_placed _ _ _ c.args.tables.now (search rules) _ _ c.if-sizes-m.false c.thread_at-thread.ensures c.prefix_of.ensures
+    _ (c.in-Some.is ∙ ap Some c.in-Receives.is) _ c.is_known.ensures (ap not c.if-not-is_known.false)
+    _ c.is_known-2.ensures (ap not c.if-not-is_known-2.false) _ c.type_of.ensures
+    _ _ _ _ _ c.replace.new.self _ c.if-type_of-act.false (search rules) (omega (arith, c.requires.cells))
+    c.continuation-follows.ensures c.under_cell-process.ensures c.bind.ensures c.with_cell-wider.ensures c.replace.ensures.replaced
+    (outcome_taken _ _ _ c.in-Some-replace.is)
