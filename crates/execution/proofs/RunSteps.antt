@@ -110,7 +110,7 @@ module _ {n : ℕ} (forms script run : List ℕ) (count : ℕ) (p : Point) (log 
             rest = rw (w, k) at m.next.rest;
           }
 
-      pub next_turned : (tables' : Tables n) (outcome : Outcome Moved MoveRefusal) (moved : Moved) (log' : List ℕ) → count + 1029 ≤ length tables.cells
+      pub next_turned : (tables' : Tables n) (outcome : Outcome Moved MoveRefusal) (moved : Moved) (log' : List ℕ) → count + 1029 ≤ n
           → Stepped forms p.sizes tables tables' (λ state. step state (move_of f.step)) outcome
           → moved ≡ record { sizes = sizes_after p.sizes outcome; line = line_of outcome }
           → log' ≡ take (p.done * 8) log ++ (bytes_of moved.line ++ drop (p.done * 8 + 8) log)
@@ -147,7 +147,7 @@ module _ {n : ℕ} (forms script : List ℕ) (count : ℕ) (p : Point) (log : Li
   none_refused q f run g = never_refused forms script run count p log tables g h r e q f
 
   pub all_turned : (f : MovePlace) → r ≡ move_read_variants.Found f → (tables' : Tables n) (outcome : Outcome Moved MoveRefusal) (moved : Moved) (log' : List ℕ)
-      → count + 1029 ≤ length tables.cells
+      → count + 1029 ≤ n
       → Stepped forms p.sizes tables tables' (λ state. step state (move_of f.step)) outcome
       → moved ≡ record { sizes = sizes_after p.sizes outcome; line = line_of outcome }
       → log' ≡ take (p.done * 8) log ++ (bytes_of moved.line ++ drop (p.done * 8 + 8) log)

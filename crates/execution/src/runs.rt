@@ -23,8 +23,8 @@ fn turn<const CELLS: usize>(
     requires left { p.done < course.count }
     requires cells { CELLS ≤ 2304 }
     requires enough { course.count + 1029 ≤ CELLS }
-    ensures { (run : List ℕ) → Going course.forms.now course.script.now run course.count p log.old tables.old
-        → Turned course.forms.now course.script.now run course.count p log.old log.new tables.new result }
+    ensures { (run : List ℕ) → Going course.entry.forms.now course.entry.script.now run course.entry.count p log.old tables.old
+        → Turned course.entry.forms.now course.entry.script.now run course.entry.count p log.old log.new tables.new result }
 {
     let read = move_at(course.script, p.at);
     let MoveRead::Found(found) = read else {
@@ -51,7 +51,7 @@ pub fn run<const CELLS: usize>(
     requires ongoing { Ongoing course.forms.now course.script.now course.count begin log.old tables.old }
     requires cells { CELLS ≤ 2304 }
     requires enough { course.count + 1029 ≤ CELLS }
-    ensures { (run : List ℕ) → Going course.forms.now course.script.now run course.count begin log.old tables.old
+    ensures { (run : List ℕ) → Going course.entry.forms.now course.entry.script.now run course.entry.count begin log.old tables.old
         → log.new ≡ ran_over run log.old }
 {
     let mut p = begin;

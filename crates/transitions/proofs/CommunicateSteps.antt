@@ -137,12 +137,12 @@ module _ {n : ℕ} (forms : List ℕ) (m : Communication) (z : Sizes) (tables : 
             ) refl) h
 
         pub communicated : (front back : Place) (placed : Option Sizes) (tables' : Tables n) (r : Answer Moved MoveRefusal)
-            → give.channel ≡ take.channel → front ≡ continuation_of t give.next → back ≡ continuation_of u take.next
+            → length tables.cells ≡ n → give.channel ≡ take.channel → front ≡ continuation_of t give.next → back ≡ continuation_of u take.next
             → Exchanging forms (record { sender = m.sender; receiver = m.receiver; mine = front; theirs = back; sent = give.object }) z tables tables' placed
             → r ≡ outcome_of placed (record { number = 0; label = 1; channel = give.channel; name = give.object; actor = t.component; receiver = u.component })
             → Told tables' r
         unfolding guard sending_of receiving_of
-        communicated front back placed tables' r ch em ex exchanging o state turns few h =
+        communicated front back placed tables' r sized ch em ex exchanging o state turns few h =
             let a = look forms z turns tables.threads tables.types tables.known tables.cells state m.sender t st threads_room h k et f in
             let b = look forms z turns tables.threads tables.types tables.known tables.cells state m.receiver u su threads_room h l eu g in
             let v = a.thread in
@@ -153,7 +153,7 @@ module _ {n : ℕ} (forms : List ℕ) (m : Communication) (z : Sizes) (tables : 
             let receive = b.prefixed.receives ∙ ap (receiving_of forms u) i in
             let exchanging' : Exchanging forms (pair forms m t u give take) z tables tables' placed = rw (em, ex) at exchanging in
             let xs =
-                exchanging' state v.component w.component turns few av.component aw.component (process_of_lem give.next av) (process_of_lem take.next aw)
+                exchanging' state v.component w.component turns (omega (arith, few, sized)) av.component aw.component (process_of_lem give.next av) (process_of_lem take.next aw)
                 (b.prefixed.binds take i) (a.prefixed.small give q)
                 (apart state m.sender m.receiver v w _ _ a.here b.here send receive) h in
             answers_placed forms turns tables'.threads tables'.types tables'.known tables'.cells state placed _ (exchanged forms (pair forms m t u give take) tables.cells state v.component w.component)

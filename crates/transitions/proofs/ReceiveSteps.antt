@@ -38,7 +38,7 @@ use Rattle.continuations.proofs.FormLaws.{no_receive}
 use Rattle.transitions.specs.Steps.{outcome_of, Stepped}
 use Rattle.transitions.proofs.MoveLaws.{Acts, record_bytes_lem, later, answers_refused, answers_placed, no_thread, after_one, look, known_is}
 
-pub same_threads : (z : Sizes) → (with_cell z).threads ≡ z.threads
+same_threads : (z : Sizes) → (with_cell z).threads ≡ z.threads
 unfolding with_cell
 same_threads z = go (ltb z.cells 2304)
   where
@@ -48,6 +48,13 @@ same_threads z = go (ltb z.cells 2304)
 
 pub wider_inside : (w z : Sizes) (i : ℕ) → w ≡ with_cell z → i < z.threads → i + 1 ≤ w.threads
 wider_inside w z i e h = omega (arith, ap (λ x. x.threads) e, same_threads z)
+
+pub wider_few : (w z : Sizes) → w ≡ with_cell z → z.threads ≤ 64 → w.threads ≤ 64
+wider_few w z e h = omega (arith, ap (λ x. x.threads) e, same_threads z)
+
+wider_so : (w z : Sizes) → w ≡ with_cell z → z.cells < 2304 → w ≡ record { threads = z.threads; names = z.names; cells = z.cells + 1 }
+unfolding with_cell
+wider_so w z e h = rw (e, lt-ltb z.cells 2304 h) refl
 
 -- A cell more in use.
 pub holds_cell : (forms : List ℕ) (z : Sizes) (turns : ℕ) (threads types : List ℕ) (known : List Bool) (cells : List ℕ) (state : State) (env name : ℕ)
@@ -185,31 +192,33 @@ module _ {n : ℕ} (forms : List ℕ) (m : Receipt) (z : Sizes) (tables : Tables
               ) refl) holds
 
           pub receive_placed : (follows body : Place) (wider : Sizes) (cells₁ : List ℕ) (placed : Option Sizes) (tables' : Tables n) (r : Answer Moved MoveRefusal)
-              → y ≡ act.object → length tables.known ≡ 1024 → length tables.cells ≤ 2304
+              → y ≡ act.object → length tables.known ≡ 1024 → length tables.cells ≡ n → n ≤ 2304
               → follows ≡ continuation_of t act.next → body ≡ under_cell follows z.cells → cells₁ ≡ bound tables.cells z.cells t.env m.name → wider ≡ with_cell z
               → Replacing forms body m.thread (m.thread + 1) wider
               (record { threads = tables.threads; made = tables.made; types = tables.types; known = tables.known; cells = cells₁ }) tables' placed
               → r ≡ outcome_of placed (record { number = 0; label = 2; channel = act.channel; name = m.name; actor = t.component; receiver = 255 })
               → Told tables' r
           unfolding guard
-          receive_placed follows body wider cells₁ placed tables' r ty known_room cells_room ef ebo ec ew replacing o state turns few holds =
+          receive_placed follows body wider cells₁ placed tables' r ty known_room sized most ef ebo ec ew replacing o state turns few holds =
               let l = look forms z turns tables.threads tables.types tables.known tables.cells state m.thread t st threads_room holds k e f in
               let u = l.thread in
               let a : Acts forms tables.cells z.cells t u = l.acts in
               let names : t.names + (t.nest - 1) < 128 = l.prefixed.binds act q in
+              let cells_room : length tables.cells ≤ 2304 = omega (arith, sized, most) in
+              let enough : turns + 1029 ≤ length tables.cells = omega (arith, sized, few) in
               let given_name : m.name < z.names = known_given tables.known z.names m.name (sym ev ∙ not-false v hv) (omega (arith, holds.given, known_room)) in
               let small : m.name < 65536 = omega (arith, holds.given, given_name) in
               let process_is : body ≡ process forms t act m z.cells = unfold under_cell in rw (ebo, ef, lt-ltb t.names 128 (omega arith)) refl in
               let wider_is : wider ≡ record { threads = z.threads; names = z.names; cells = z.cells + 1 }
-              = unfold with_cell in rw (ew, lt-ltb z.cells 2304 (omega (arith, holds.slack, holds.given, few, cells_room))) refl in
+              = wider_so wider z ew (omega (arith, holds.slack, holds.given, enough, cells_room)) in
               let fits : Ranged (process forms t act m z.cells) wider.cells = rw wider_is (record { component = a.small; scope = omega arith; deep = omega (arith, a.deep); place = mod-lt act.next (lit< tt); env = omega arith }) in
-              let held : Holds forms wider (turns + 1) tables.threads tables.types tables.known cells₁ state = rw (ew, ec) (holds_cell forms z turns tables.threads tables.types tables.known tables.cells state t.env m.name cells_room few holds) in
+              let held : Holds forms wider (turns + 1) tables.threads tables.types tables.known cells₁ state = rw (ew, ec) (holds_cell forms z turns tables.threads tables.types tables.known tables.cells state t.env m.name cells_room enough holds) in
               let still : Holds forms z (turns + 1) tables.threads tables.types tables.known cells₁ state = rw ec (holds_bound forms z turns tables.threads tables.types tables.known tables.cells state t.env m.name holds) in
               let rs : Replaces forms (process forms t act m z.cells) m.thread (m.thread + 1) wider (turns + 1)
               (record { threads = tables.threads; made = tables.made; types = tables.types; known = tables.known; cells = cells₁ }) tables' state u.component placed
-              = rw process_is at (replacing state u.component (turns + 1) (omega (arith, few, ap length ec, bound_length tables.cells z.cells t.env m.name)) (a.component ∙ ap (λ p. p.component) (sym process_is)) (rw process_is fits) held) in
+              = rw process_is at (replacing state u.component (turns + 1) (omega (arith, enough, ap length ec, bound_length tables.cells z.cells t.env m.name)) (a.component ∙ ap (λ p. p.component) (sym process_is)) (rw process_is fits) held) in
               let names_are : chain cells₁ (t.names + 1) z.cells ≡ u.names ++ (m.name ∷ [])
-              = rw ec (chain_bound tables.cells t.names z.cells t.env m.name a.env (omega (arith, few, holds.slack, holds.given)) (omega (arith, few, cells_room, holds.slack, holds.given)) small)
+              = rw ec (chain_bound tables.cells t.names z.cells t.env m.name a.env (omega (arith, enough, holds.slack, holds.given)) (omega (arith, enough, cells_room, holds.slack, holds.given)) small)
               ∙ ap (λ ns. ns ++ (m.name ∷ [])) (sym a.names) in
               answers_placed forms turns tables'.threads tables'.types tables'.known tables'.cells state placed _ (put forms (process forms t act m z.cells) m.thread (m.thread + 1) cells₁ state u.component)
               (record_of 2 act.channel m.name u.component.number 255) (receive_step state m.thread m.name) z r

@@ -107,7 +107,7 @@ module _ {n : ℕ} (forms : List ℕ) (i : ℕ) (z : Sizes) (m : Tables n) (thre
           (rw (sending forms t act i m.cells z.cells state l.thread l.here (l.prefixed.sends ∙ ap (sending_of forms t) q), known_is act.channel b eb holds, not-true b h) refl) holds
 
       module _ (h : not b ≡ false) (old : Bool) (eo : old ≡ get_or (take z.names m.known) act.object false) (body : Place) (bd : body ≡ continuation_of t act.next)
-          (placed : Option Sizes) (m₁ : Tables n) (known_room : length m₁.known ≡ 1024) (replacing : Replacing forms body i (i + 1) z m m₁ placed) where
+          (placed : Option Sizes) (m₁ : Tables n) (known_room : length m₁.known ≡ 1024) (sized : length m.cells ≡ n) (replacing : Replacing forms body i (i + 1) z m m₁ placed) where
         abbrev line : Record
         line = record { number = 0; label = cond old 3 4; channel = act.channel; name = act.object; actor = t.component; receiver = 255 }
 
@@ -122,7 +122,7 @@ module _ {n : ℕ} (forms : List ℕ) (i : ℕ) (z : Sizes) (m : Tables n) (thre
             let a : Acts forms m.cells z.cells t u = l.acts in
             let send = l.prefixed.sends ∙ ap (sending_of forms t) q in
             let rs : Replaces forms (continuation_of t act.next) i (i + 1) z turns m m₁ state u.component placed
-            = rw bd at (replacing state u.component turns (omega arith) (a.component ∙ ap (λ p. p.component) (sym bd)) (rw bd (process_of_lem act.next a)) holds) in
+            = rw bd at (replacing state u.component turns (omega (arith, few, sized)) (a.component ∙ ap (λ p. p.component) (sym bd)) (rw bd (process_of_lem act.next a)) holds) in
             let next : State = put forms (continuation_of t act.next) i (i + 1) m.cells state u.component in
             answers_placed forms turns m₁.threads m₁.types known' m₁.cells state placed line (now_known act.object next)
             (record_of (cond old 3 4) act.channel act.object u.component.number 255) (send_step state i) z r

@@ -77,17 +77,17 @@ module _ {n : ℕ} (forms : List ℕ) (i : ℕ) (z : Sizes) (m : Tables n) (thre
         (rw (l.here, l.prefixed.repeats, no_repeat forms t st not) refl) h
 
     pub unfold_repeats : (next : ℕ) → st ≡ Some (prefix.Repeats next) → (body : Place) (placed : Option Sizes) (m' : Tables n) (r : Answer Moved MoveRefusal)
-        → body ≡ continuation_of t next
+        → length m.cells ≡ n → body ≡ continuation_of t next
         → Replacing forms body i i z m m' placed
         → r ≡ outcome_of placed (record { number = 0; label = 6; channel = 65535; name = 65535; actor = t.component; receiver = 255 })
         → Told m' r
-    unfold_repeats next q body placed m' r b replacing o state turns few h =
+    unfold_repeats next q body placed m' r sized b replacing o state turns few h =
         let l = look forms z turns m.threads m.types m.known m.cells state i t st threads_room h k e f in
         let u = l.thread in
         let a : Acts forms m.cells z.cells t u = l.acts in
         let rep : as_repeat u.process ≡ repeat_of forms t (Some (prefix.Repeats next)) = l.prefixed.repeats ∙ ap (repeat_of forms t) q in
         let body_is : continuation_of t next ≡ body = sym b in
-        let rs = replacing state u.component turns (omega arith) (a.component ∙ ap (λ p. p.component) body_is) (rw b (process_of_lem next a)) h in
+        let rs = replacing state u.component turns (omega (arith, few, sized)) (a.component ∙ ap (λ p. p.component) body_is) (rw b (process_of_lem next a)) h in
         answers_placed forms turns m'.threads m'.types m'.known m'.cells state placed _ (put forms body i i m.cells state u.component) (record_of 6 65535 65535 u.component.number 255) (unfold_step state i) z r
         (unfolded forms m.cells z.cells t next i state u a l.here rep ∙ ap (λ p. taken (put forms p i i m.cells state u.component) (record_of 6 65535 65535 u.component.number 255)) body_is)
         o

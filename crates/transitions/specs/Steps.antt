@@ -1,5 +1,5 @@
 -- What a move asks, and its answer: the state that memory holds afterwards, and the record.
-use Rattle.std.specs.Prelude.{Option, Some, None, Result as Answer, Ok, Err, ℕ, ◌+◌, ◌<◌, ◌≤◌, ◌≡◌, List, Bool, true, cond, ltb, length, set}
+use Rattle.std.specs.Prelude.{Option, Some, None, Result as Answer, Ok, Err, ℕ, ◌+◌, ◌<◌, ◌≤◌, ◌≡◌, List, Bool, true, cond, ltb, set}
 use Rattle.running.specs.State.{State}
 use Rattle.running.specs.Moves.{Result, state_after, record_bytes}
 use Rattle.script.specs.Told.{bytes_of}
@@ -61,6 +61,6 @@ known_after z name known = cond (ltb name z.names) (set known name true) known
 -- What a move promises: from every state that the tables hold, with cells for one turn more, it answers `f` of that state, and the
 -- tables hold the state afterwards.
 abbrev pub Stepped : {n : ℕ} → List ℕ → Sizes → Tables n → Tables n → (State → Result) → Answer Moved MoveRefusal → Type 0
-Stepped forms z m m' f r =
-    (state : State) (turns : ℕ) → turns + 1029 ≤ length m.cells → Holding forms z turns m state
+Stepped {n} forms z m m' f r =
+    (state : State) (turns : ℕ) → turns + 1029 ≤ n → Holding forms z turns m state
     → Answers forms (turns + 1) m'.threads m'.types m'.known m'.cells state (f state) z r

@@ -10,13 +10,12 @@ pub returns-then-log-count : goal.returns-then-log-count
 returns-then-log-count g c =
     log_short _ _ _ c.args.tables.now _ _ c.count_moves-count.ensures.value c.if-count-eq65535.false c.if-log-count.true
 
-pub run-requires-clause-ongoing : goal.run-requires-clause-ongoing
-run-requires-clause-ongoing g c =
-    run_begins _ _ _ c.args.tables.now _ _ c.count_moves-count.ensures.value c.if-count-eq65535.false c.if-log-count.false c.requires.standing
-
-pub run-requires-clause-enough : goal.run-requires-clause-enough
-run-requires-clause-enough g c =
-    counted_enough _ _ _ c.count_moves-count.ensures.upper_bound c.if-count-eq65535.false c.requires.enough
+pub run-requires : goal.run-requires
+run-requires g c =
+    (search rules,
+    (run_begins _ _ _ c.args.tables.now _ _ c.count_moves-count.ensures.value c.if-count-eq65535.false c.if-log-count.false c.requires.standing,
+    (c.requires.cells,
+    counted_enough _ _ _ c.count_moves-count.ensures.upper_bound c.if-count-eq65535.false c.requires.enough)))
 
 pub returns : goal.returns
 returns g c =

@@ -5,8 +5,8 @@ use Rattle.execution.proofs.RunSteps.{Running}
 use Rattle.execution.proofs.runs.run.Given as goal
 
 abbrev pub invariant-loop-p : goal.invariant-loop-p
-invariant-loop-p l =
+invariant-loop-p g l =
     Running l.course.forms.now l.course.script.now l.course.count l.initial.log l.initial.tables l.initial.p l.log l.tables l.p
 
 abbrev pub decreases-loop-p : goal.decreases-loop-p
-decreases-loop-p l = l.course.count - l.p.done
+decreases-loop-p g l = l.course.count - l.p.done

@@ -8,11 +8,9 @@ use Rattle.execution.proofs.runs.turn.Goals as goal
 pub returns-in_default : goal.returns-in_default
 returns-in_default g c = search turn_steps
 
-pub step-requires-clause-few : goal.step-requires-clause-few
-step-requires-clause-few g c = c.requires.ongoing.going.holds.few
-
-pub step-requires-clause-fits : goal.step-requires-clause-fits
-step-requires-clause-fits g c = move_fits _ _ _ _ c.move_at-read.ensures c.in-Found.is
+pub step-outcome-requires : goal.step-outcome-requires
+step-outcome-requires g c =
+    (search rules, (c.requires.ongoing.going.holds.few, (c.requires.cells, move_fits _ _ _ _ c.move_at-read.ensures c.in-Found.is)))
 
 pub write_record-requires : goal.write_record-requires
 write_record-requires g c =
@@ -21,4 +19,4 @@ write_record-requires g c =
 pub returns : goal.returns
 returns g c =
     all_turned _ _ _ _ _ c.args.tables.now c.requires.left _ c.move_at-read.ensures _ c.in-Found.is c.step-outcome.new.tables _ _ _
-    (omega (arith, c.requires.enough)) c.step-outcome.ensures c.logged-moved.ensures c.write_record.ensures
+    c.requires.enough c.step-outcome.ensures c.logged-moved.ensures c.write_record.ensures

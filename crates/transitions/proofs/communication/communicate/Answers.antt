@@ -52,7 +52,7 @@ returns-in_default-exchange-clause-stepped g c =
     communicated _ _ _ c.args.tables.now (search rules) c.if-sizes-m.false c.if-sizes-m-2.false _ _ c.thread_at-sender.ensures c.thread_at-receiver.ensures _ c.prefix_of.ensures
     _ (c.in-Some.is ∙ ap Some c.in-Sends.is) _ c.prefix_of-2.ensures
     _ (c.in-Some-prefix_of.is ∙ ap Some c.in-Receives.is)
-    _ _ _ c.exchange.new.self _ c.if-give-take.false c.continuation-mine.ensures c.continuation-theirs.ensures c.exchange.ensures.exchanged
+    _ _ _ c.exchange.new.self _ (search rules) c.if-give-take.false c.continuation-mine.ensures c.continuation-theirs.ensures c.exchange.ensures.exchanged
     (outcome_full _ _ c.in_default-exchange.not-Some)
 
 pub returns-clause-stepped : goal.returns-clause-stepped
@@ -60,5 +60,5 @@ returns-clause-stepped g c =
     communicated _ _ _ c.args.tables.now (search rules) c.if-sizes-m.false c.if-sizes-m-2.false _ _ c.thread_at-sender.ensures c.thread_at-receiver.ensures _ c.prefix_of.ensures
     _ (c.in-Some.is ∙ ap Some c.in-Sends.is) _ c.prefix_of-2.ensures
     _ (c.in-Some-prefix_of.is ∙ ap Some c.in-Receives.is)
-    _ _ _ c.exchange.new.self _ c.if-give-take.false c.continuation-mine.ensures c.continuation-theirs.ensures c.exchange.ensures.exchanged
+    _ _ _ c.exchange.new.self _ (search rules) c.if-give-take.false c.continuation-mine.ensures c.continuation-theirs.ensures c.exchange.ensures.exchanged
     (outcome_taken _ _ _ c.in-Some-exchange.is)

@@ -5,7 +5,7 @@ use mathlib.Core.Path.{refl, ap, ◌∙◌}
 use borrow.Author.Rules.{rules}
 use Rattle.std.specs.Prelude.{Some}
 use Rattle.transitions.proofs.OutcomeSteps.{never, outcome_taken, outcome_full}
-use Rattle.transitions.proofs.ReceiveSteps.{receive_no_thread, receive_other, channel_unknown, name_unknown, other_type, receive_placed, same_threads, wider_inside}
+use Rattle.transitions.proofs.ReceiveSteps.{receive_no_thread, receive_other, channel_unknown, name_unknown, other_type, receive_placed, wider_inside, wider_few}
 use Rattle.transitions.proofs.receiving.receive_in.Goals as goal
 
 pub returns-then-sizes-m-clause-stepped : goal.returns-then-sizes-m-clause-stepped
@@ -41,21 +41,18 @@ returns-then-type_of-act-clause-stepped g c =
     _ (c.in-Some.is ∙ ap Some c.in-Receives.is) _ c.is_known.ensures (ap not c.if-not-is_known.false)
     _ c.is_known-2.ensures (ap not c.if-not-is_known-2.false) _ c.type_of.ensures c.if-type_of-act.true
 
-pub replace-requires-clause-ordered : goal.replace-requires-clause-ordered
-replace-requires-clause-ordered g c =
-    let inside = wider_inside _ _ _ c.with_cell-wider.ensures c.if-sizes-m.false in
-    (search rules, inside)
-
-pub replace-requires-clause-few : goal.replace-requires-clause-few
-replace-requires-clause-few g c =
-    omega (arith, c.requires.few, ap (λ z. z.threads) c.with_cell-wider.ensures, same_threads c.args.sizes)
+pub replace-requires : goal.replace-requires
+replace-requires g c =
+    (search rules,
+    ((search rules, wider_inside _ _ _ c.with_cell-wider.ensures c.if-sizes-m.false),
+    (wider_few _ _ c.with_cell-wider.ensures c.requires.few, c.requires.cells)))
 
 pub returns-in_default-replace-clause-stepped : goal.returns-in_default-replace-clause-stepped
 returns-in_default-replace-clause-stepped g c =
     receive_placed _ _ _ c.args.tables.now (search rules) _ _ c.if-sizes-m.false c.thread_at-thread.ensures c.prefix_of.ensures
     _ (c.in-Some.is ∙ ap Some c.in-Receives.is) _ c.is_known.ensures (ap not c.if-not-is_known.false)
     _ c.is_known-2.ensures (ap not c.if-not-is_known-2.false) _ c.type_of.ensures
-    _ _ _ _ _ c.replace.new.self _ c.if-type_of-act.false (search rules) (omega (arith, c.requires.cells))
+    _ _ _ _ _ c.replace.new.self _ c.if-type_of-act.false (search rules) (search rules) c.requires.cells
     c.continuation-follows.ensures c.under_cell-process.ensures c.bind.ensures c.with_cell-wider.ensures c.replace.ensures.replaced
     (outcome_full _ _ c.in_default-replace.not-Some)
 
@@ -64,6 +61,6 @@ returns-clause-stepped g c =
     receive_placed _ _ _ c.args.tables.now (search rules) _ _ c.if-sizes-m.false c.thread_at-thread.ensures c.prefix_of.ensures
     _ (c.in-Some.is ∙ ap Some c.in-Receives.is) _ c.is_known.ensures (ap not c.if-not-is_known.false)
     _ c.is_known-2.ensures (ap not c.if-not-is_known-2.false) _ c.type_of.ensures
-    _ _ _ _ _ c.replace.new.self _ c.if-type_of-act.false (search rules) (omega (arith, c.requires.cells))
+    _ _ _ _ _ c.replace.new.self _ c.if-type_of-act.false (search rules) (search rules) c.requires.cells
     c.continuation-follows.ensures c.under_cell-process.ensures c.bind.ensures c.with_cell-wider.ensures c.replace.ensures.replaced
     (outcome_taken _ _ _ c.in-Some-replace.is)

@@ -29,11 +29,11 @@ pub returns-in_default-replace : goal.returns-in_default-replace
 returns-in_default-replace g c =
     send_full _ _ _ c.args.tables.now (search rules) _ _ c.if-sizes-i.false c.thread_at-thread.ensures c.prefix_of.ensures
     _ (c.in-Some.is ∙ ap Some c.in-Sends.is) _ c.is_known.ensures (ap not c.if-not-is_known.false)
-    _ c.is_known-old.ensures _ c.continuation-follows.ensures _ c.replace.new.self (search rules) c.replace.ensures.replaced c.in_default-replace.not-Some
+    _ c.is_known-old.ensures _ c.continuation-follows.ensures _ c.replace.new.self (search rules) (search rules) c.replace.ensures.replaced c.in_default-replace.not-Some
 
 pub returns : goal.returns
 returns g c =
     send_taken _ _ _ c.args.tables.now (search rules) _ _ c.if-sizes-i.false c.thread_at-thread.ensures c.prefix_of.ensures
     _ (c.in-Some.is ∙ ap Some c.in-Sends.is) _ c.is_known.ensures (ap not c.if-not-is_known.false)
-    _ c.is_known-old.ensures _ c.continuation-follows.ensures _ c.replace.new.self (search rules) c.replace.ensures.replaced
+    _ c.is_known-old.ensures _ c.continuation-follows.ensures _ c.replace.new.self (search rules) (search rules) c.replace.ensures.replaced
     _ c.in-Some-replace.is _ _ c.know_sent.ensures c.sent_line.ensures

@@ -25,11 +25,11 @@ returns-in_default-prefix g c = record {
 pub returns-in_default-replace-clause-stepped : goal.returns-in_default-replace-clause-stepped
 returns-in_default-replace-clause-stepped g c =
     unfold_repeats _ _ _ c.args.tables.now (search rules) _ _ c.if-sizes-i.false c.thread_at-thread.ensures c.prefix_of.ensures
-    _ (c.in-Some.is ∙ ap Some c.in-Repeats.is) _ _ c.replace.new.self _ c.continuation-copy.ensures c.replace.ensures.replaced
+    _ (c.in-Some.is ∙ ap Some c.in-Repeats.is) _ _ c.replace.new.self _ (search rules) c.continuation-copy.ensures c.replace.ensures.replaced
     (outcome_full _ _ c.in_default-replace.not-Some)
 
 pub returns-clause-stepped : goal.returns-clause-stepped
 returns-clause-stepped g c =
     unfold_repeats _ _ _ c.args.tables.now (search rules) _ _ c.if-sizes-i.false c.thread_at-thread.ensures c.prefix_of.ensures
-    _ (c.in-Some.is ∙ ap Some c.in-Repeats.is) _ _ c.replace.new.self _ c.continuation-copy.ensures c.replace.ensures.replaced
+    _ (c.in-Some.is ∙ ap Some c.in-Repeats.is) _ _ c.replace.new.self _ (search rules) c.continuation-copy.ensures c.replace.ensures.replaced
     (outcome_taken _ _ _ c.in-Some-replace.is)
