@@ -7,23 +7,20 @@ use native.Mathlib.Omega.{arith}
 use borrow.Author.Rules.{rules}
 use borrow.Author.Tests.{lt-ltb, le-ltb, not-true, not-false}
 use lib.ListN.{length, take, drop}
-use Rattle.std.specs.Prelude.{Option, Some, None, is_some, ◌⊎◌}
+use Rattle.std.specs.Prelude.{Option, Some, None, ◌⊎◌}
 use Rattle.std.proofs.Common.{inl, inr}
 use Rattle.decoding.specs.Tables.{process_in}
-use Rattle.inference.specs.Acts.{Component}
-use Rattle.running.specs.State.{State}
 use Rattle.memory.specs.Threads.{replaced}
 use Rattle.memory.specs.Chains.{bound}
 use Rattle.memory.specs.declared.Thread.{Thread as Place}
 use Rattle.products.specs.declared.Sizes.{Sizes}
-use Rattle.products.specs.Held.{Holds}
 use Rattle.products.specs.Makes.{Ready, Makes}
 use Rattle.continuations.specs.declared.BothMade.{BothMade}
 use Rattle.continuations.specs.declared.Exchange.{Exchange}
 use Rattle.continuations.specs.declared.Part.{Part}
 use Rattle.continuations.specs.declared.Tables.{Tables}
-use Rattle.continuations.specs.Places.{Ranged, room_for, under_cell, with_cell}
-use Rattle.continuations.specs.Exchanges.{Walks, MakesBoth, part_of, both_replaced, swapped, PutsBoth, Exchanges, Exchanging}
+use Rattle.continuations.specs.Places.{room_for, under_cell, with_cell}
+use Rattle.continuations.specs.Exchanges.{Walks, MakesBoth, part_of, both_replaced, swapped, PutsBoth, Exchanging}
 use Rattle.continuations.proofs.ExchangeLaws.{communicates}
 use Rattle.continuations.proofs.WidenSteps.{under_more, cells_more}
 
@@ -137,12 +134,12 @@ exchange_step forms x z z₀ m m₁ threads' b r si ri tr mr yr kr cr e stay kno
     let walk = mk.theirs in
     let put = rw (mk.result, stay) at p in
     let xs =
-        communicates forms x z turns m.threads threads' m.made mk.made₁ m₁.made m.types mk.types₁ m₁.types m.cells mk.cells₁ m₁.cells m.known state c d
-        mk.first mk.second r
-        few kr cn dn ft fu binds small apart si ri tr mr yr cr mk.same_made mk.same_types mk.same_cells holds
-        mk.mine
-        (λ left. rw (← under_more x.theirs mk.first.cells (omega arith), ← cells_more mk.first (omega (arith, left))) at walk)
-        (put apart) in
+    communicates forms x z turns m.threads threads' m.made mk.made₁ m₁.made m.types mk.types₁ m₁.types m.cells mk.cells₁ m₁.cells m.known state c d
+    mk.first mk.second r
+    few kr cn dn ft fu binds small apart si ri tr mr yr cr mk.same_made mk.same_types mk.same_cells holds
+    mk.mine
+    (λ left. rw (← under_more x.theirs mk.first.cells (omega arith), ← cells_more mk.first (omega (arith, left))) at walk)
+    (put apart) in
     record {
       fits = xs.fits;
       taken = λ s yes. rw known (xs.taken s yes);

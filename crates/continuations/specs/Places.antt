@@ -1,5 +1,5 @@
 -- Products in their thread's place, where there is room.
-use Rattle.std.specs.Prelude.{Option, Some, None, is_some, ℕ, ◌+◌, ◌-◌, ◌<◌, ◌≤◌, ◌≡◌, List, ◌++◌, Bool, true, false, cond, ◌&&◌, leb, ltb, length, take, replicate}
+use Rattle.std.specs.Prelude.{Option, Some, None, is_some, ℕ, ◌+◌, ◌-◌, ◌<◌, ◌≤◌, ◌≡◌, List, ◌++◌, Bool, false, cond, ◌&&◌, leb, ltb, length, take, replicate}
 use Rattle.reading.specs.Syntax.{Process}
 use Rattle.decoding.specs.Tables.{process_in}
 use Rattle.inference.specs.Acts.{Component}

@@ -79,7 +79,12 @@ fn play_with<const CELLS: usize>(
 }
 
 // The same, with new tables.
-fn play_in<const CELLS: usize>(s: &[u8], script: &[u8], log: &mut [u8], forms: &mut [usize]) -> Answer
+fn play_in<const CELLS: usize>(
+    s: &[u8],
+    script: &[u8],
+    log: &mut [u8],
+    forms: &mut [usize],
+) -> Answer
     requires reads { Reads s.now }
     requires forms { length s.now ≤ length forms.old }
     requires cells { (1029 ≤ CELLS) × (CELLS ≤ 2304) }

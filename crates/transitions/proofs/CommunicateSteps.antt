@@ -1,16 +1,15 @@
 -- 04, return by return.
-use Prim.Native.Nat.{ℕ, ◌+◌, ◌-◌, ◌%◌, ◌<◌, ◌≤◌}
+use Prim.Native.Nat.{ℕ, ◌-◌, ◌%◌, ◌<◌, ◌≤◌}
 use mathlib.Core.Path.{◌≡◌, refl, sym, ap, ap₂, ◌∙◌}
 use mathlib.Core.List.{List, [], ◌∷◌, ◌++◌}
-use mathlib.Core.Option.{some, none}
+use mathlib.Core.Option.{some}
 use native.Mathlib.Omega.{arith}
 use native.Mathlib.Nat.{add-zero}
-use borrow.Author.Rules.{rules}
 use borrow.Author.Tests.{eq-eqb, ne_eqb}
 use lib.Dec.{eqb, lit<}
 use lib.ListN.{length, get_or, set, get_elem?}
 use Rattle.reading.specs.Syntax.{Process, nil, par, new, input, output, repl}
-use Rattle.std.specs.Prelude.{Option, Some, None, Result as Answer, Ok, Err}
+use Rattle.std.specs.Prelude.{Option, Some, Result as Answer, Err}
 use Rattle.decoding.specs.Tables.{process_in}
 use Rattle.running.specs.State.{Thread, State}
 use Rattle.running.specs.Products.{news}
@@ -23,7 +22,7 @@ use Rattle.continuations.specs.declared.Action.{Action}
 use Rattle.continuations.specs.declared.Exchange.{Exchange}
 use Rattle.transitions.specs.declared.Moved.{Moved}
 use Rattle.transitions.specs.declared.MoveRefusal.{MoveRefusal}
-use Rattle.transitions.specs.declared.MoveRefusal.TheVariants.{NoThread, OtherPrefix, OtherChannel, NoRoom}
+use Rattle.transitions.specs.declared.MoveRefusal.TheVariants.{NoThread, OtherPrefix, OtherChannel}
 use Rattle.continuations.specs.declared.Tables.{Tables}
 use Rattle.continuations.specs.declared.Prefix.{Prefix}
 use Rattle.continuations.specs.declared.Prefix.TheVariants as prefix
@@ -153,9 +152,9 @@ module _ {n : ℕ} (forms : List ℕ) (m : Communication) (z : Sizes) (tables : 
             let receive = b.prefixed.receives ∙ ap (receiving_of forms u) i in
             let exchanging' : Exchanging forms (pair forms m t u give take) z tables tables' placed = rw (em, ex) at exchanging in
             let xs =
-                exchanging' state v.component w.component turns (omega (arith, few, sized)) av.component aw.component (process_of_lem give.next av) (process_of_lem take.next aw)
-                (b.prefixed.binds take i) (a.prefixed.small give q)
-                (apart state m.sender m.receiver v w _ _ a.here b.here send receive) h in
+            exchanging' state v.component w.component turns (omega (arith, few, sized)) av.component aw.component (process_of_lem give.next av) (process_of_lem take.next aw)
+            (b.prefixed.binds take i) (a.prefixed.small give q)
+            (apart state m.sender m.receiver v w _ _ a.here b.here send receive) h in
             answers_placed forms turns tables'.threads tables'.types tables'.known tables'.cells state placed _ (exchanged forms (pair forms m t u give take) tables.cells state v.component w.component)
             (record_of 1 give.channel give.object v.component.number w.component.number) (communicate_step state m.sender m.receiver) z r
             (rw (communication forms m t u give take state v w a.here b.here send receive, eq-eqb give.channel take.channel ch)

@@ -5,18 +5,15 @@ use mathlib.Core.List.{List, [], ◌∷◌, ◌++◌}
 use mathlib.Core.Bool.{Bool, true, false}
 use native.Mathlib.Omega.{arith}
 use native.Mathlib.Numerals.{add-one}
-use borrow.Author.Rules.{rules}
 use borrow.Author.Tests.{le-leb, lt-leb}
 use lib.Dec.{lit<}
 use lib.ListN.{length, set, length-append}
 use lib.Seq.{length-take-le, take-suc-set, set_at, get_or-set_other}
-use Rattle.std.specs.Prelude.{Result as Answer, Ok, Err}
+use Rattle.std.specs.Prelude.{Ok, Err}
 use Rattle.running.specs.State.{State}
 use Rattle.running.specs.Moves.{guard, after, now_known, has_room, taken, record_of, state_after, record_bytes, environment_step}
 use Rattle.products.specs.declared.Sizes.{Sizes}
 use Rattle.products.specs.Held.{Holds}
-use Rattle.transitions.specs.declared.Moved.{Moved}
-use Rattle.transitions.specs.declared.MoveRefusal.{MoveRefusal}
 use Rattle.transitions.specs.declared.MoveRefusal.TheVariants.{NoRoom}
 use Rattle.transitions.specs.Steps.{Answers, sizes_after, line_of, Stepped}
 use Rattle.continuations.specs.declared.Tables.{Tables}

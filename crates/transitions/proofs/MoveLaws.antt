@@ -7,10 +7,10 @@ use mathlib.Core.Option.{some, none}
 use native.Mathlib.Omega.{arith}
 use native.Mathlib.Nat.{suc-add, mod-eq_of_lt}
 use borrow.Author.Tests.{ltb-true, ltb-false}
-use lib.Dec.{ltb, lit<}
+use lib.Dec.{ltb}
 use lib.ListN.{length, get_or, take, drop, set, get_elem?, replicate}
 use lib.Seq.{get_or-take, length-take-le, take-set-lt, set_out, get_or-set_other}
-use Rattle.std.specs.Prelude.{Option, Some, None, is_some, Result as Answer, Ok, Err}
+use Rattle.std.specs.Prelude.{Option, Some, None, is_some, Result as Answer, Err}
 use Rattle.decoding.specs.Tables.{process_in}
 use Rattle.memory.specs.Chains.{chain}
 use Rattle.inference.specs.Lists.{gather}

@@ -11,7 +11,7 @@ use Rattle.products.specs.declared.Sizes.{Sizes}
 use Rattle.script.specs.declared.Record.{Record}
 use Rattle.transitions.specs.declared.Moved.{Moved}
 use Rattle.transitions.specs.declared.MoveRefusal.{MoveRefusal}
-use Rattle.transitions.specs.declared.MoveRefusal.TheVariants.{NoThread, OtherPrefix, NotKnown, OtherType, OtherChannel, NoRoom}
+use Rattle.transitions.specs.declared.MoveRefusal.TheVariants.{NoRoom}
 use Rattle.transitions.specs.Steps.{number_of, refused_line, sizes_after, line_of, outcome_of, known_after}
 
 -- A value that is another one.

@@ -3,16 +3,15 @@ use Prim.Native.Nat.{ℕ, ◌+◌, ◌-◌, ◌%◌, ◌<◌, ◌≤◌}
 use mathlib.Core.Path.{◌≡◌, refl, sym, ap, ◌∙◌}
 use mathlib.Core.List.{List, [], ◌∷◌, ◌++◌}
 use mathlib.Core.Bool.{Bool, true, false, cond, not, ◌&&◌}
-use mathlib.Core.Option.{some, none}
+use mathlib.Core.Option.{some}
 use native.Mathlib.Omega.{arith}
 use native.Mathlib.Nat.{add-zero, mod-lt}
-use borrow.Author.Rules.{rules}
 use borrow.Author.Tests.{not-true, not-false, lt-ltb, ltb-true, ltb-false, eq-eqb, ne_eqb}
 use lib.Dec.{ltb, eqb, lit<}
 use lib.ListN.{length, get_or, take, set, get_elem?, get_or-eq_default}
 use lib.Seq.{length-take-le}
 use Rattle.reading.specs.Syntax.{Process}
-use Rattle.std.specs.Prelude.{Option, Some, None, Result as Answer, Ok, Err}
+use Rattle.std.specs.Prelude.{Option, Some, Result as Answer, Err}
 use Rattle.decoding.specs.Tables.{process_in}
 use Rattle.running.specs.State.{Thread, State}
 use Rattle.running.specs.Products.{news, threads_of}
@@ -28,7 +27,7 @@ use Rattle.products.proofs.GrowLaws.{all_kept_lem}
 use Rattle.continuations.specs.declared.Action.{Action}
 use Rattle.transitions.specs.declared.Moved.{Moved}
 use Rattle.transitions.specs.declared.MoveRefusal.{MoveRefusal}
-use Rattle.transitions.specs.declared.MoveRefusal.TheVariants.{NoThread, OtherPrefix, NotKnown, OtherType, NoRoom}
+use Rattle.transitions.specs.declared.MoveRefusal.TheVariants.{NoThread, OtherPrefix, NotKnown, OtherType}
 use Rattle.continuations.specs.declared.Tables.{Tables}
 use Rattle.continuations.specs.declared.Prefix.{Prefix}
 use Rattle.continuations.specs.declared.Prefix.TheVariants as prefix
@@ -36,7 +35,7 @@ use Rattle.continuations.specs.Prefixes.{continuation_of, receiving_of, PrefixFo
 use Rattle.continuations.specs.Places.{Ranged, remaining_at, changed, put, Holding, Replaces, Replacing, under_cell, with_cell}
 use Rattle.continuations.proofs.FormLaws.{no_receive}
 use Rattle.transitions.specs.Steps.{outcome_of, Stepped}
-use Rattle.transitions.proofs.MoveLaws.{Acts, record_bytes_lem, later, answers_refused, answers_placed, no_thread, after_one, look, known_is}
+use Rattle.transitions.proofs.MoveLaws.{Acts, record_bytes_lem, answers_refused, answers_placed, no_thread, after_one, look, known_is}
 
 same_threads : (z : Sizes) → (with_cell z).threads ≡ z.threads
 unfolding with_cell

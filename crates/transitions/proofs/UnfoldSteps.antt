@@ -2,13 +2,12 @@
 use Prim.Native.Nat.{ℕ, ◌-◌, ◌%◌, ◌<◌, ◌≤◌}
 use mathlib.Core.Path.{◌≡◌, refl, sym, ap, ◌∙◌}
 use mathlib.Core.List.{List}
-use mathlib.Core.Option.{some, none}
+use mathlib.Core.Option.{some}
 use native.Mathlib.Omega.{arith}
 use native.Mathlib.Nat.{add-zero, mod-lt}
-use borrow.Author.Rules.{rules}
 use lib.Dec.{lit<}
 use lib.ListN.{length, get_or, get_elem?}
-use Rattle.std.specs.Prelude.{Option, Some, None, Result as Answer, Err}
+use Rattle.std.specs.Prelude.{Option, Some, Result as Answer, Err}
 use Rattle.decoding.specs.Tables.{process_in}
 use Rattle.running.specs.State.{Thread, State}
 use Rattle.running.specs.Products.{news, threads_of}

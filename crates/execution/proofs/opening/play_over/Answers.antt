@@ -1,5 +1,4 @@
 -- `play_over`: the table of forms has a place for each byte, that of the cells enough for the script.
-use native.Mathlib.Omega.{arith}
 use borrow.Author.Rules.{rules}
 use Rattle.execution.proofs.PlaySteps.{few_enough, all_enough}
 use Rattle.execution.proofs.opening.play_over.Goals as goal

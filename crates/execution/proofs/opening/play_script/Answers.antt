@@ -11,11 +11,16 @@ returns-then-log-count g c =
     log_short _ _ _ c.args.tables.now _ _ c.count_moves-count.ensures.value c.if-count-eq65535.false c.if-log-count.true
 
 pub run-requires : goal.run-requires
-run-requires g c =
-    (search rules,
-    (run_begins _ _ _ c.args.tables.now _ _ c.count_moves-count.ensures.value c.if-count-eq65535.false c.if-log-count.false c.requires.standing,
-    (c.requires.cells,
-    counted_enough _ _ _ c.count_moves-count.ensures.upper_bound c.if-count-eq65535.false c.requires.enough)))
+run-requires g c = (
+  search rules,
+  (
+    run_begins _ _ _ c.args.tables.now _ _ c.count_moves-count.ensures.value c.if-count-eq65535.false c.if-log-count.false c.requires.standing,
+    (
+      c.requires.cells,
+      counted_enough _ _ _ c.count_moves-count.ensures.upper_bound c.if-count-eq65535.false c.requires.enough,
+    ),
+  ),
+)
 
 pub returns : goal.returns
 returns g c =

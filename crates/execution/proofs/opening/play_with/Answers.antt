@@ -25,19 +25,22 @@ returns-then-sizes-gt1024 g c =
     }) _ c.start-sizes.ensures c.if-sizes-gt1024.true
 
 pub play_script-requires : goal.play_script-requires
-play_script-requires g c =
-    (search rules,
-    (start_stands _ c.args.script.now c.args.log.now c.requires.reads _ _ _ c.start-sizes.ensures c.if-sizes-gt64.false c.if-sizes-gt1024.false,
-    (omega (arith, c.requires.blank.cell_few), c.requires.enough)))
+play_script-requires g c = (
+  search rules,
+  (
+    start_stands _ c.args.script.now c.args.log.now c.requires.reads _ _ _ c.start-sizes.ensures c.if-sizes-gt64.false c.if-sizes-gt1024.false,
+    (omega (arith, c.requires.blank.cell_few), c.requires.enough),
+  ),
+)
 
 pub returns : goal.returns
 returns g c = plays_on {m = g.row.CELLS} _ _ _ c.requires.reads _ (record {
-      threads = c.start-sizes.new.threads;
-      made = c.args.tables.now.made;
-      types = c.start-sizes.new.types;
-      known = c.start-sizes.new.known;
-      cells = c.start-sizes.new.cells;
-    }) _
+  threads = c.start-sizes.new.threads;
+  made = c.args.tables.now.made;
+  types = c.start-sizes.new.types;
+  known = c.start-sizes.new.known;
+  cells = c.start-sizes.new.cells;
+}) _
     c.start-sizes.ensures
     c.if-sizes-gt64.false
     c.if-sizes-gt1024.false

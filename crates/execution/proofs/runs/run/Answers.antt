@@ -1,6 +1,6 @@
 -- `run`: a move a turn. The invariant: what is logged, with what the moves left log, is the whole run's log, whichever run it is
 -- (`Running`). The measure is how many moves are left.
-use Rattle.execution.proofs.RunSteps.{run_steps, run_falls, run_next}
+use Rattle.execution.proofs.RunSteps.{run_steps, run_falls}
 use Rattle.execution.proofs.runs.run.Goals as goal
 
 pub loop-p-smaller : goal.loop-p-smaller

@@ -36,7 +36,7 @@ returns-in_default-back g c = record {
   known = refl;
   stepped =
       no_receiver _ _ _ c.args.tables.now (search rules) c.if-sizes-m.false c.if-sizes-m-2.false _ _ c.thread_at-sender.ensures c.thread_at-receiver.ensures _ c.prefix_of.ensures
-    _ (c.in-Some.is ∙ ap Some c.in-Sends.is) _ c.prefix_of-2.ensures
+      _ (c.in-Some.is ∙ ap Some c.in-Sends.is) _ c.prefix_of-2.ensures
       (λ d q. never c.in-Some-prefix_of.is (c.in_default-back.not-Receives d) q);
 }
 

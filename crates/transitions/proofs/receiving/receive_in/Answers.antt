@@ -1,6 +1,5 @@
 -- `receive_in`: 30, then 31 for each form that is no receive, 32, 33, then the products under the name received, or 35 (ReceiveSteps.antt).
 use mathlib.Core.Bool.{not}
-use native.Mathlib.Omega.{arith}
 use mathlib.Core.Path.{refl, ap, ◌∙◌}
 use borrow.Author.Rules.{rules}
 use Rattle.std.specs.Prelude.{Some}
@@ -42,10 +41,13 @@ returns-then-type_of-act-clause-stepped g c =
     _ c.is_known-2.ensures (ap not c.if-not-is_known-2.false) _ c.type_of.ensures c.if-type_of-act.true
 
 pub replace-requires : goal.replace-requires
-replace-requires g c =
-    (search rules,
-    ((search rules, wider_inside _ _ _ c.with_cell-wider.ensures c.if-sizes-m.false),
-    (wider_few _ _ c.with_cell-wider.ensures c.requires.few, c.requires.cells)))
+replace-requires g c = (
+  search rules,
+  (
+    (search rules, wider_inside _ _ _ c.with_cell-wider.ensures c.if-sizes-m.false),
+    (wider_few _ _ c.with_cell-wider.ensures c.requires.few, c.requires.cells),
+  ),
+)
 
 pub returns-in_default-replace-clause-stepped : goal.returns-in_default-replace-clause-stepped
 returns-in_default-replace-clause-stepped g c =

@@ -1,6 +1,6 @@
 -- `send_out`: 30, then 31 for each form that is no send, 32, then the products in place and the name known, or 35 (SendSteps.antt).
 use mathlib.Core.Bool.{not}
-use mathlib.Core.Path.{refl, ap, ◌∙◌}
+use mathlib.Core.Path.{ap, ◌∙◌}
 use borrow.Author.Rules.{rules}
 use Rattle.std.specs.Prelude.{Some}
 use Rattle.transitions.proofs.OutcomeSteps.{never}
