@@ -15,7 +15,6 @@ use reading::{Dialect, Spot};
 impl Walker<'_> {
     /// The process at a place, by its code byte: nothing (0), two parts in parallel (1), a new name (3), an input (5), an output (6), a
     /// repeat (7). What the reader would refuse counts as nothing. The place after it.
-    #[tactic(auto, using(crate::proofs::WalkSteps::walk_steps))]
     pub fn process(&mut self, spot: Spot, context: Context) -> usize
         ensures { Walked (process_tree spot.nest self.old.sheet.now spot.names spot.at)
             (acts (record { number = context.component; path = path_of context.path; purpose = 0 }) context.repeated
