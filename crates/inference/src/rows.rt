@@ -1,5 +1,5 @@
-// What is written into the table of what components need, and what is read back: `table` tells what stands in a row. Question 10 lets a
-// component disclose into the groups of its path alone.
+// What is written into the table of what components need; `table` tells what stands in a row, and reads it. Question 10 lets a component
+// disclose into the groups of its path alone.
 ghost use Rattle.std.specs.Prelude.{◌≡◌, ◌∷◌, ◌+◌, ◌-◌, ◌*◌, ◌%◌, ◌<◌, ◌≤◌, min, length, get_or, set};
 ghost use Rattle.reading.specs.Told.{path_of};
 ghost use Rattle.inference.specs.Rows.{
@@ -182,7 +182,7 @@ pub fn store_purpose(table: &mut [u16], component: usize, purpose: usize)
     put(table, component * ROW + PURPOSE, purpose);
 }
 
-// Stores a number in a cell, where there is one.
+// Stores a number in a cell of 16 bits, where there is one.
 fn put(table: &mut [u16], at: usize, value: usize)
     ensures { table.new ≡ set table.old at (value % 65536) }
 {

@@ -1,4 +1,4 @@
-// The shape of the table of what components need, and its rows and entries as they are read.
+// The table of what components need, in lent memory: its shape, and its rows and entries as they are read.
 // A row has 211 cells. Cell 0 is the length of its path, cells 1 to 8 its path; cell 9 is the number of its path's groups, cells 10 to
 // 17 these groups, rising; and from cell 18 on for each kind 11 counts, of disclosures into these groups, of reads, of writes and of
 // accesses, then a mark: 1 where anything of the kind is needed; the last cell is its purpose. 65,535 is unlimited.
