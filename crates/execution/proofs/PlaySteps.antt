@@ -26,11 +26,12 @@ use Rattle.running.specs.Play.{opened_from, opened, logged, outcome_of, played}
 use Rattle.script.specs.Told.{moves_in}
 use Rattle.script.proofs.ScriptLaws.{script_moves}
 use Rattle.script.proofs.CountSteps.{Counted, script_counted, script_refused}
-use Rattle.products.specs.Held.{Holds}
+use Rattle.continuations.specs.declared.Tables.{Tables}
+use Rattle.continuations.specs.Places.{Holding}
 use Rattle.products.specs.Starts.{Blank, Starts}
 use Rattle.products.specs.declared.Sizes.{Sizes}
 use Rattle.execution.specs.Told.{Played}
-use Rattle.execution.specs.Begins.{Reads, begun, start_of, listed, moves_of, ran_over, scripted, played_script, played_from, Comes, Standing, Enough, Lent}
+use Rattle.execution.specs.Begins.{Reads, begun, start_of, listed, moves_of, ran_over, scripted, played_script, played_from, Comes, Standing, Enough}
 use Rattle.execution.specs.Runs.{Going, Ongoing}
 use Rattle.execution.specs.declared.Point.{Point}
 
@@ -65,10 +66,10 @@ module _ (script log : List ℕ) (n : ℕ) (h : n ≡ moves_in (read_script scri
         let t : leb (8 * length c.moves) (length log) ≡ true = le-leb (8 * length c.moves) (length log) (omega (arith, c.count)) in
         record { answer = rw (c.is, t) (ap passed (sym c.count)); lent = rw (c.is, t) (rw (moves_are script c.is) at w) }
 
--- The same for every state that memory holds.
-module _ (forms script log threads types : List ℕ) (known : List Bool) (cells : List ℕ) (z : Sizes) (n : ℕ) (h : n ≡ moves_in (read_script script)) where
+-- The same for every state that the tables hold.
+module _ {m : ℕ} (forms script log : List ℕ) (tables : Tables m) (z : Sizes) (n : ℕ) (h : n ≡ moves_in (read_script script)) where
   abbrev PlayedSo : List ℕ → Answer → Type 0
-  PlayedSo log' a = (state : State) → Holds forms z 1 threads types known cells state → Comes (played_script state script log) log' a
+  PlayedSo log' a = (state : State) → Holding forms z 1 tables state → Comes (played_script state script log) log' a
 
   abbrev first_point : Point
   first_point = record { at = 0; done = 0; sizes = z }
@@ -81,8 +82,8 @@ module _ (forms script log threads types : List ℕ) (known : List Bool) (cells 
     log_short k state holds = short_so script log n h read state k
 
     module _ (k : n ≤ length log / 8) where
-      begins_so : (state : State) → Holds forms z 1 threads types known cells state
-          → Going forms script (run_log state (moves_of script)) n first_point log threads types known cells
+      begins_so : (state : State) → Holding forms z 1 tables state
+          → Going forms script (run_log state (moves_of script)) n first_point log tables
       begins_so state holds =
           let c = counted script log n h read in
           let same = moves_are script c.is in
@@ -98,27 +99,28 @@ module _ (forms script log threads types : List ℕ) (known : List Bool) (cells 
             room = omega arith;
           }
 
-      pub run_begins : Standing forms z threads types known cells → Ongoing forms script n first_point log threads types known cells
+      pub run_begins : Standing forms z tables → Ongoing forms script n first_point log tables
       run_begins held = record { run = run_log held.state (moves_of script); going = begins_so held.state held.holds }
 
       pub log_written : (log' : List ℕ)
-          → ((run : List ℕ) → Going forms script run n first_point log threads types known cells → log' ≡ ran_over run log)
+          → ((run : List ℕ) → Going forms script run n first_point log tables → log' ≡ ran_over run log)
           → PlayedSo log' (answer_case.Accepted n)
       log_written log' w state holds =
           written_so script log n h read state log' k (w (run_log state (moves_of script)) (begins_so state holds))
 
 -- The moves counted have their cells.
-pub counted_enough : (n : ℕ) (script cells : List ℕ) → ((n ≡ 65535 → ⊥) → (n ≤ 1024) × (n ≤ length script)) → (n ≡ 65535 → ⊥)
-    → Enough script cells → n + 1029 ≤ length cells
+pub counted_enough : (n : ℕ) (script : List ℕ) (cells : ℕ) → ((n ≡ 65535 → ⊥) → (n ≤ 1024) × (n ≤ length script)) → (n ≡ 65535 → ⊥)
+    → Enough script cells → n + 1029 ≤ cells
 unfolding Enough
 counted_enough n script cells few read enough = let k = few read in omega (arith, k.0, k.1)
 
 pub ruleset script_steps = (rules, script_fails, log_short, log_written, run_begins, counted_enough)
 
 -- Question 20.
-module _ (s script log : List ℕ) (reads : Reads s) (forms threads types : List ℕ) (known : List Bool) (cells : List ℕ) (z : Sizes)
-    (starts : (sheet : Sheet) (end : ℕ) → length s ≤ 4096 → read_sheet s ≡ got sheet end → Starts forms sheet threads types known cells z) where
-  here : Starts forms reads.tree threads types known cells z
+module _ {m : ℕ} (s script log : List ℕ) (reads : Reads s) (forms : List ℕ) (tables : Tables m) (z : Sizes)
+    (starts : (sheet : Sheet) (end : ℕ) → length s ≤ 4096 → read_sheet s ≡ got sheet end
+    → Starts forms sheet tables.threads tables.types tables.known tables.cells z) where
+  here : Starts forms reads.tree tables.threads tables.types tables.known tables.cells z
   here = starts reads.tree reads.end reads.short reads.reads
 
   begins : start_of s ≡ start reads.tree
@@ -143,14 +145,14 @@ module _ (s script log : List ℕ) (reads : Reads s) (forms threads types : List
       let t = lt-leb (length (start reads.tree).types) 1024 (omega (arith, here.named)) in
       no_room (rw begins (both (leb (length (start reads.tree).threads) 64) (leb (length (start reads.tree).types) 1024) t))
 
-  start_holds : z.threads ≤ 64 → z.names ≤ 1024 → Holds forms z 1 threads types known cells (start_of s)
+  start_holds : z.threads ≤ 64 → z.names ≤ 1024 → Holding forms z 1 tables (start_of s)
   start_holds h k = rw begins (here.holds h k)
 
-  pub start_stands : z.threads ≤ 64 → z.names ≤ 1024 → Standing forms z threads types known cells
+  pub start_stands : z.threads ≤ 64 → z.names ≤ 1024 → Standing forms z tables
   start_stands h k = record { state = start_of s; holds = start_holds h k }
 
   pub plays_on : z.threads ≤ 64 → z.names ≤ 1024 → (log' : List ℕ) (r : Answer)
-      → ((state : State) → Holds forms z 1 threads types known cells state → Comes (played_script state script log) log' r)
+      → ((state : State) → Holding forms z 1 tables state → Comes (played_script state script log) log' r)
       → Comes (played_from (start_of s) script log) log' r
   unfolding played_from played_script ask has_room
   plays_on h k log' r c =
@@ -162,22 +164,7 @@ module _ (s script log : List ℕ) (reads : Reads s) (forms threads types : List
       ) in
       rw t (c (start_of s) (start_holds h k))
 
-pub tables_from : (s forms threads made types : List ℕ) (known : List Bool) (cells threads' made' types' : List ℕ) (known' : List Bool) (cells' : List ℕ)
-    → Blank s forms threads types known cells → length made ≡ 128 → length threads' ≡ length threads → length made' ≡ length made
-    → length types' ≡ length types → length known' ≡ length known → length cells' ≡ length cells → Lent threads' made' types' known' cells'
-tables_from s forms threads made types known cells threads' made' types' known' cells' b m th ma ty k ce = record {
-  thread_room = th ∙ b.thread_room;
-  made_room = ma ∙ m;
-  type_room = ty ∙ b.type_room;
-  cell_room = omega (arith, ce, b.cell_few);
-  known_room = k ∙ b.known_room;
-}
-
-pub still_enough : (script cells cells' : List ℕ) → Enough script cells → length cells' ≡ length cells → Enough script cells'
-unfolding Enough
-still_enough script cells cells' h same = omega arith
-
-pub ruleset start_steps = (rules, crowded, overnamed, start_stands, plays_on, tables_from, still_enough)
+pub ruleset start_steps = (rules, crowded, overnamed, start_stands, plays_on)
 
 -- New tables.
 all_false : (n i : ℕ) → get_or (replicate n false) i false ≡ false
@@ -197,13 +184,13 @@ new_tables s forms n h least most = record {
   unknown = all_false 1024;
 }
 
-pub few_enough : (script : List ℕ) → length script ≤ 240 → Enough script (replicate 1280 0)
+pub few_enough : (script : List ℕ) → length script ≤ 240 → Enough script 1280
 unfolding Enough
-few_enough script h = omega (arith, length-replicate {A = ℕ} 1280 0)
+few_enough script h = omega arith
 
-pub all_enough : (script : List ℕ) → Enough script (replicate 2304 0)
+pub all_enough : (script : List ℕ) → Enough script 2304
 unfolding Enough
-all_enough script = omega (arith, length-replicate {A = ℕ} 2304 0)
+all_enough script = omega arith
 
 -- Questions 1 to 18.
 module _ (s c : List ℕ) (n : ℕ) (first : n ≡ first_failed (judged s c)) where
