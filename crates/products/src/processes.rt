@@ -76,13 +76,10 @@ impl<'a> Maker<'a> {
         ensures makes { thread.names + thread.nest < 128
             → MakesIn self.old thread (new name_type (process_in thread.nest self.old.forms.now thread.at)) sizes self.new result }
     {
-        if 128 <= thread.names {
-            return sizes;
-        }
         let given = self.give(name_type, thread.env, sizes);
         let inner = Thread {
             env: last_cell(given),
-            names: thread.names + 1,
+            names: thread.names.saturating_add(1),
             ..thread
         };
         self.make_process(inner, given)

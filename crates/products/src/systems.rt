@@ -68,15 +68,9 @@ impl<'a> Maker<'a> {
         ensures makes { thread.component < 32 → (own : OwnFields)
             → MakesSystemIn self.old thread (compₛ own (process_in thread.nest self.old.forms.now thread.at)) sizes self.new result }
     {
-        if 32 <= thread.component {
-            return MadeSystem {
-                components: thread.component,
-                sizes,
-            };
-        }
         let sizes = self.make_process(thread, sizes);
         MadeSystem {
-            components: thread.component + 1,
+            components: thread.component.saturating_add(1),
             sizes,
         }
     }
@@ -109,16 +103,10 @@ impl<'a> Maker<'a> {
         ensures makes { thread.names + thread.nest < 128 → thread.component + components (system_in thread.nest self.old.forms.now thread.at) ≤ 32
             → MakesSystemIn self.old thread (newₛ name_type (system_in thread.nest self.old.forms.now thread.at)) sizes self.new result }
     {
-        if 128 <= thread.names {
-            return MadeSystem {
-                components: thread.component,
-                sizes,
-            };
-        }
         let given = self.give(name_type, thread.env, sizes);
         let inner = Thread {
             env: last_cell(given),
-            names: thread.names + 1,
+            names: thread.names.saturating_add(1),
             ..thread
         };
         self.make_system(inner, given)
