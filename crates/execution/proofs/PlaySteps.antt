@@ -12,10 +12,9 @@ use Rattle.reading.specs.Read.{got}
 use Rattle.reading.specs.Syntax.{Sheet}
 use Rattle.reading.specs.System.{read_sheet}
 use Rattle.reading.proofs.TreeLaws.{sheet_parts}
-use Rattle.service.specs.Questions.{passed, failed, ask, after_reading, judged}
+use Rattle.service.specs.Questions.{passed, ask, after_reading, judged}
 use Rattle.service.specs.Told.{fault_number, first_failed}
 use Rattle.std.specs.Prelude.{Option, Some, None, Result as Answer, Ok, Err, IfOk}
-use Rattle.reading.specs.Told.{number_of}
 use Rattle.reading.specs.declared.Question.{Question}
 use Rattle.reading.specs.declared.Question.TheVariants as question
 use Rattle.service.proofs.JudgeSteps.{sheet_reads}

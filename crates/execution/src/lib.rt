@@ -30,12 +30,7 @@ pub struct Course<'a> {
 /// Plays a script on a sheet that its charter accepts: the number of moves, or the first question that fails. The answer and the
 /// log's final bytes are those of the definition `played`, for any bytes in all four slices.
 #[tactic(auto, using(crate::proofs::PlaySteps::play_steps))]
-pub fn play(
-    sheet: &[u8],
-    charter: &[u8],
-    script: &[u8],
-    log: &mut [u8],
-) -> Result<usize, Question>
+pub fn play(sheet: &[u8], charter: &[u8], script: &[u8], log: &mut [u8]) -> Result<usize, Question>
     ensures { Played sheet.now charter.now script.now log.old log.new result }
 {
     if let Some(question) = first_failed(sheet, charter) {
