@@ -8,7 +8,6 @@ use crate::{Action, Prefix};
 use decoding::words::item_at;
 use memory::Thread;
 use memory::chains::name_at;
-use memory::threads::unpack;
 use reading::{Act, Form};
 
 /// The thread at an index, which must be one.
@@ -16,7 +15,7 @@ pub fn thread_at(threads: &[usize], i: usize) -> Thread
     requires { i < length threads.now }
     ensures { result ≡ unpacked (get_or threads.now i 0) }
 {
-    unpack(threads[i])
+    Thread::unpack(threads[i])
 }
 
 // A receive, with the run name of its channel.

@@ -12,12 +12,14 @@ use Rattle.reading.specs.Read.{got}
 use Rattle.reading.specs.Syntax.{Sheet}
 use Rattle.reading.specs.System.{read_sheet}
 use Rattle.reading.proofs.TreeLaws.{sheet_parts}
-use Rattle.service.specs.Questions.{passed, failed, ask, after_reading, judged}
-use Rattle.service.specs.Told.{first_failed}
-use Rattle.service.specs.declared.Answer.{Answer}
-use Rattle.service.specs.declared.Answer.TheVariants as answer_case
+use Rattle.service.specs.Questions.{passed, ask, after_reading, judged}
+use Rattle.service.specs.Told.{fault_number, first_failed}
+use Rattle.std.specs.Prelude.{Option, Some, None, Result as Answer, Ok, Err, IfOk}
+use Rattle.reading.specs.declared.Question.{Question}
+use Rattle.reading.specs.declared.Question.TheVariants as question
 use Rattle.service.proofs.JudgeSteps.{sheet_reads}
-use Rattle.service.proofs.FirstLaws.{Passed, first_passes, first_fails}
+use Rattle.service.proofs.FirstLaws.{Passed}
+use Rattle.service.proofs.CheckSteps.{judged_fails, judged_passes}
 use Rattle.running.specs.State.{State}
 use Rattle.running.specs.Products.{start}
 use Rattle.running.specs.Moves.{Move, has_room, run_log}
@@ -40,26 +42,29 @@ moves_are : (script : List ℕ) {ms : List Move} {e : ℕ} → read_script scrip
 unfolding moves_of listed
 moves_are script h = rw h
 
-module _ (script log : List ℕ) (n : ℕ) (h : n ≡ moves_in (read_script script)) where
-  refused_so : (begin : State) → n ≡ 65535 → Comes (played_script begin script log) log (answer_case.Refused 21)
+module _ (script log : List ℕ) (r : Answer ℕ Question) (h : r ≡ moves_in (read_script script)) where
+  refused_so : (begin : State) (q : Question) → r ≡ Err q → Comes (played_script begin script log) log r
   unfolding played_script scripted logged outcome_of after_reading
-  refused_so begin k = let f = (script_refused script h k).1 in record { answer = rw f; lent = rw f }
+  refused_so begin q k =
+      let f = script_refused script h k in
+      let is : r ≡ Err question.Script = k ∙ ap (λ (x : Question). Err x) f.0 in
+      rw is (record { answer = rw f.1.1 refl; lent = rw f.1.1 refl })
 
-  module _ (read : n ≡ 65535 → ⊥) where
+  module _ (n : ℕ) (read : r ≡ Ok n) where
     counted : Counted script n
     counted = script_counted script h read
 
     -- Question 22.
-    short_so : (begin : State) → length log / 8 < n → Comes (played_script begin script log) log (answer_case.Refused 22)
+    short_so : (begin : State) → length log / 8 < n → Comes (played_script begin script log) log (Err question.Log)
     unfolding played_script scripted logged outcome_of after_reading ask
     short_so begin k =
         let c = counted in
         let t : leb (8 * length c.moves) (length log) ≡ false = lt-leb (8 * length c.moves) (length log) (omega (arith, c.count)) in
-        record { answer = rw (c.is, t); lent = rw (c.is, t) }
+        record { answer = rw (c.is, t) refl; lent = rw (c.is, t) refl }
 
     -- The run.
     written_so : (begin : State) (log' : List ℕ) → n ≤ length log / 8 → log' ≡ ran_over (run_log begin (moves_of script)) log
-        → Comes (played_script begin script log) log' (answer_case.Accepted n)
+        → Comes (played_script begin script log) log' (Ok n)
     unfolding played_script scripted logged outcome_of after_reading ask ran_over
     written_so begin log' k w =
         let c = counted in
@@ -67,25 +72,29 @@ module _ (script log : List ℕ) (n : ℕ) (h : n ≡ moves_in (read_script scri
         record { answer = rw (c.is, t) (ap passed (sym c.count)); lent = rw (c.is, t) (rw (moves_are script c.is) at w) }
 
 -- The same for every state that the tables hold.
-module _ {m : ℕ} (forms script log : List ℕ) (tables : Tables m) (z : Sizes) (n : ℕ) (h : n ≡ moves_in (read_script script)) where
-  abbrev PlayedSo : List ℕ → Answer → Type 0
+module _ {m : ℕ} (forms script log : List ℕ) (tables : Tables m) (z : Sizes) (r : Answer ℕ Question) (h : r ≡ moves_in (read_script script)) where
+  abbrev PlayedSo : List ℕ → Answer ℕ Question → Type 0
   PlayedSo log' a = (state : State) → Holding forms z 1 tables state → Comes (played_script state script log) log' a
 
   abbrev first_point : Point
   first_point = record { at = 0; done = 0; sizes = z }
 
-  pub script_fails : n ≡ 65535 → PlayedSo log (answer_case.Refused 21)
-  script_fails k state holds = refused_so script log n h state k
+  pub script_fails : ((n : ℕ) → r ≡ Ok n → ⊥) → PlayedSo log r
+  script_fails not state holds = go r refl
+    where
+      go : (x : Answer ℕ Question) → r ≡ x → Comes (played_script state script log) log r
+      go (Ok n) e = absurd (not n e)
+      go (Err q) e = refused_so script log r h state q e
 
-  module _ (read : n ≡ 65535 → ⊥) where
-    pub log_short : length log / 8 < n → PlayedSo log (answer_case.Refused 22)
-    log_short k state holds = short_so script log n h read state k
+  module _ (n : ℕ) (read : r ≡ Ok n) where
+    pub log_short : length log / 8 < n → PlayedSo log (Err question.Log)
+    log_short k state holds = short_so script log r h n read state k
 
     module _ (k : n ≤ length log / 8) where
       begins_so : (state : State) → Holding forms z 1 tables state
           → Going forms script (run_log state (moves_of script)) n first_point log tables
       begins_so state holds =
-          let c = counted script log n h read in
+          let c = counted script log r h n read in
           let same = moves_are script c.is in
           let told = script_moves script c.is in
           record {
@@ -104,15 +113,15 @@ module _ {m : ℕ} (forms script log : List ℕ) (tables : Tables m) (z : Sizes)
 
       pub log_written : (log' : List ℕ)
           → ((run : List ℕ) → Going forms script run n first_point log tables → log' ≡ ran_over run log)
-          → PlayedSo log' (answer_case.Accepted n)
+          → PlayedSo log' (Ok n)
       log_written log' w state holds =
-          written_so script log n h read state log' k (w (run_log state (moves_of script)) (begins_so state holds))
+          written_so script log r h n read state log' k (w (run_log state (moves_of script)) (begins_so state holds))
 
 -- The moves counted have their cells.
-pub counted_enough : (n : ℕ) (script : List ℕ) (cells : ℕ) → ((n ≡ 65535 → ⊥) → (n ≤ 1024) × (n ≤ length script)) → (n ≡ 65535 → ⊥)
+pub counted_enough : (r : Answer ℕ Question) (n : ℕ) (script : List ℕ) (cells : ℕ) → IfOk r (λ m. (m ≤ 1024) × (m ≤ length script)) → r ≡ Ok n
     → Enough script cells → n + 1029 ≤ cells
 unfolding Enough
-counted_enough n script cells few read enough = let k = few read in omega (arith, k.0, k.1)
+counted_enough r n script cells few is enough = let k : (n ≤ 1024) × (n ≤ length script) = rw is at few in omega (arith, k.0, k.1)
 
 pub ruleset script_steps = (rules, script_fails, log_short, log_written, run_begins, counted_enough)
 
@@ -131,15 +140,15 @@ module _ {m : ℕ} (s script log : List ℕ) (reads : Reads s) (forms : List ℕ
   both true b h = h
   both false b h = refl
 
-  no_room : has_room (start_of s) ≡ false → Comes (played_from (start_of s) script log) log (answer_case.Refused 20)
+  no_room : has_room (start_of s) ≡ false → Comes (played_from (start_of s) script log) log (Err question.Start)
   unfolding played_from logged outcome_of ask
-  no_room h = record { answer = rw h; lent = rw h }
+  no_room h = record { answer = rw h refl; lent = rw h refl }
 
-  pub crowded : 64 < z.threads → Comes (played_from (start_of s) script log) log (answer_case.Refused 20)
+  pub crowded : 64 < z.threads → Comes (played_from (start_of s) script log) log (Err question.Start)
   unfolding has_room
   crowded h = no_room (rw (begins, lt-leb (length (start reads.tree).threads) 64 (omega (arith, here.crowded))))
 
-  pub overnamed : 1024 < z.names → Comes (played_from (start_of s) script log) log (answer_case.Refused 20)
+  pub overnamed : 1024 < z.names → Comes (played_from (start_of s) script log) log (Err question.Start)
   unfolding has_room
   overnamed h =
       let t = lt-leb (length (start reads.tree).types) 1024 (omega (arith, here.named)) in
@@ -151,7 +160,7 @@ module _ {m : ℕ} (s script log : List ℕ) (reads : Reads s) (forms : List ℕ
   pub start_stands : z.threads ≤ 64 → z.names ≤ 1024 → Standing forms z tables
   start_stands h k = record { state = start_of s; holds = start_holds h k }
 
-  pub plays_on : z.threads ≤ 64 → z.names ≤ 1024 → (log' : List ℕ) (r : Answer)
+  pub plays_on : z.threads ≤ 64 → z.names ≤ 1024 → (log' : List ℕ) (r : Answer ℕ Question)
       → ((state : State) → Holding forms z 1 tables state → Comes (played_script state script log) log' r)
       → Comes (played_from (start_of s) script log) log' r
   unfolding played_from played_script ask has_room
@@ -193,16 +202,14 @@ unfolding Enough
 all_enough script = omega arith
 
 -- Questions 1 to 18.
-module _ (s c : List ℕ) (n : ℕ) (first : n ≡ first_failed (judged s c)) where
-  pub refuses : (script log : List ℕ) → n < 64 → Played s c script log log (answer_case.Refused n)
+module _ (s c : List ℕ) (fault : Option Question) (first : fault_number fault ≡ first_failed (judged s c)) where
+  pub refuses : (script log : List ℕ) (q : Question) → fault ≡ Some q → Played s c script log log (Err q)
   unfolding played opened opened_from logged outcome_of
-  refuses script log h =
-      let e : judged s c ≡ failed n = first_fails s c (omega (arith, first)) ∙ ap failed (sym first) in
-      record { answer = rw e; lent = rw e }
+  refuses script log q h = let e = judged_fails s c fault first q h in record { answer = rw e refl; lent = rw e refl }
 
-  module _ (h : 64 ≤ n) where
+  module _ (h : fault ≡ None) where
     accepted : Passed s c
-    accepted = first_passes s c (omega (arith, first))
+    accepted = judged_passes s c fault first h
 
     read_so : read_sheet s ≡ got accepted.accepted.sheet accepted.end
     read_so = sheet_reads s c accepted.accepted.sheet accepted.end accepted.reads
@@ -219,7 +226,7 @@ module _ (s c : List ℕ) (n : ℕ) (first : n ≡ first_failed (judged s c)) wh
     unfolding start_of begun
     starts_so = rw read_so
 
-    pub plays : (script log log' : List ℕ) (r : Answer) → Comes (played_from (start_of s) script log) log' r → Played s c script log log' r
+    pub plays : (script log log' : List ℕ) (r : Answer ℕ Question) → Comes (played_from (start_of s) script log) log' r → Played s c script log log' r
     unfolding played opened opened_from played_from scripted
     plays script log log' r d =
         let w = rw starts_so at d in

@@ -22,10 +22,8 @@ use Rattle.script.specs.Told.{move_of, move_read, bytes_of}
 use Rattle.script.specs.declared.Move.{Move as Step}
 use Rattle.script.specs.declared.Move.TheVariants as step_case
 use Rattle.script.specs.declared.MovePlace.{MovePlace}
-use Rattle.script.specs.declared.MoveRead.{MoveRead}
-use Rattle.script.specs.declared.MoveRead.TheVariants as move_read_variants
 use Rattle.script.proofs.ScriptLaws.{More, more_moves, no_more}
-use Rattle.std.specs.Prelude.{Result as Outcome}
+use Rattle.std.specs.Prelude.{Result as Outcome, Ok, Err}
 use Rattle.continuations.specs.declared.Tables.{Tables}
 use Rattle.transitions.specs.Steps.{TypeFits, Stepped, sizes_after, line_of}
 use Rattle.transitions.specs.declared.Moved.{Moved}
@@ -67,7 +65,7 @@ fits_so (step_case.ReceiveIn p) h = h
 fits_so (step_case.Communicate p) h = h
 fits_so (step_case.EnvironmentName t) h = h
 
-pub move_fits : (s : List ℕ) (at : ℕ) (r : MoveRead) (f : MovePlace) → move_read r ≡ move_at s at → r ≡ move_read_variants.Found f → TypeFits f.step
+pub move_fits : (s : List ℕ) (at : ℕ) (r : Outcome MovePlace Refusal) (f : MovePlace) → move_read r ≡ move_at s at → r ≡ Ok f → TypeFits f.step
 move_fits s at r f e found = fits_so f.step (of_found Brings (move_at s at) (brings s at) (sym e ∙ ap move_read found))
 
 module _ {n : ℕ} (forms script run : List ℕ) (count : ℕ) (p : Point) (log : List ℕ) (tables : Tables n)
@@ -86,11 +84,11 @@ module _ {n : ℕ} (forms script run : List ℕ) (count : ℕ) (p : Point) (log 
       go (yes f) = absurd (omega (arith, g.all, ap length (no_more (1024 - p.done) script p.at g.reads f)))
       go (no f) = more_moves (1024 - p.done) script p.at g.reads f
 
-  module _ (h : p.done < count) (r : MoveRead) (e : move_read r ≡ move_at script p.at) where
-    pub never_refused : (q : Refusal) → r ≡ move_read_variants.Refused q → Turned forms script run count p log log tables p
+  module _ (h : p.done < count) (r : Outcome MovePlace Refusal) (e : move_read r ≡ move_at script p.at) where
+    pub never_refused : (q : Refusal) → r ≡ Err q → Turned forms script run count p log log tables p
     never_refused q f = never (ap move_read (sym f) ∙ e ∙ (next_there h).next.first)
 
-    module _ (f : MovePlace) (found : r ≡ move_read_variants.Found f) where
+    module _ (f : MovePlace) (found : r ≡ Ok f) where
       record Reached : Type 0 where
         others : List Move
         all : g.rest ≡ move_of f.step ∷ others
@@ -140,12 +138,12 @@ module _ {n : ℕ} (forms script run : List ℕ) (count : ℕ) (p : Point) (log 
 
 -- The same for every run that goes on so.
 module _ {n : ℕ} (forms script : List ℕ) (count : ℕ) (p : Point) (log : List ℕ) (tables : Tables n) (h : p.done < count)
-    (r : MoveRead) (e : move_read r ≡ move_at script p.at) where
-  pub none_refused : (q : Refusal) → r ≡ move_read_variants.Refused q → (run : List ℕ) → Going forms script run count p log tables
+    (r : Outcome MovePlace Refusal) (e : move_read r ≡ move_at script p.at) where
+  pub none_refused : (q : Refusal) → r ≡ Err q → (run : List ℕ) → Going forms script run count p log tables
       → Turned forms script run count p log log tables p
   none_refused q f run g = never_refused forms script run count p log tables g h r e q f
 
-  pub all_turned : (f : MovePlace) → r ≡ move_read_variants.Found f → (tables' : Tables n) (outcome : Outcome Moved MoveRefusal) (moved : Moved) (log' : List ℕ)
+  pub all_turned : (f : MovePlace) → r ≡ Ok f → (tables' : Tables n) (outcome : Outcome Moved MoveRefusal) (moved : Moved) (log' : List ℕ)
       → count + 1029 ≤ n
       → Stepped forms p.sizes tables tables' (λ state. step state (move_of f.step)) outcome
       → moved ≡ record { sizes = sizes_after p.sizes outcome; line = line_of outcome }

@@ -1,12 +1,12 @@
 -- A run before its first move: its start, its script, the tables lent to it, and the outcome from the questions left on.
-use Rattle.std.specs.Prelude.{ℕ, ◌+◌, ◌≤◌, min, ◌≡◌, List, [], ◌++◌, length, drop}
+use Rattle.std.specs.Prelude.{Result as Answer, ℕ, ◌+◌, ◌≤◌, min, ◌≡◌, List, [], ◌++◌, length, drop}
 use Rattle.reading.specs.Read.{Read, got, refused}
 use Rattle.reading.specs.Syntax.{Sheet}
 use Rattle.reading.specs.System.{read_sheet}
 use Rattle.service.specs.Questions.{Asked, passed, ask, after_reading}
 use Rattle.service.specs.Check.{Outcome}
 use Rattle.service.specs.Told.{told}
-use Rattle.service.specs.declared.Answer.{Answer}
+use Rattle.reading.specs.declared.Question.{Question}
 use Rattle.running.specs.State.{State}
 use Rattle.running.specs.Products.{start}
 use Rattle.running.specs.Moves.{Move, has_room}
@@ -54,7 +54,7 @@ unfoldable pub played_from : State → List ℕ → List ℕ → Outcome
 played_from begin script log = outcome_of log (logged log (ask 20 (has_room begin) (scripted begin script)))
 
 -- An answer and a lent log that are those of an outcome.
-pub record Comes (outcome : Outcome) (log' : List ℕ) (r : Answer) : Type 0 where
+pub record Comes (outcome : Outcome) (log' : List ℕ) (r : Answer ℕ Question) : Type 0 where
   pub answer : told r ≡ outcome.answer
   pub lent : log' ≡ outcome.lent
 

@@ -10,8 +10,8 @@ use crate::{Course, Point};
 use continuations::Tables;
 use products::Sizes;
 use products::start::start;
+use reading::Question;
 use script::moves::count_moves;
-use service::Answer;
 
 // Questions 21 and 22, and the run, from the start in the tables on.
 #[tactic(auto, using(crate::proofs::PlaySteps::script_steps))]
@@ -21,18 +21,18 @@ fn play_script<const CELLS: usize>(
     script: &[u8],
     sizes: Sizes,
     log: &mut [u8],
-) -> Answer
+) -> Result<usize, Question>
     requires standing { Standing forms.now sizes tables.old }
     requires cells { CELLS ≤ 2304 }
     requires enough { Enough script.now CELLS }
     ensures { (state : State) → Holding forms.now sizes 1 tables.old state → Comes (played_script state script.now log.old) log.new result }
 {
-    let count = count_moves(script);
-    if count == 65535 {
-        return Answer::Refused(21);
-    }
+    let counted = count_moves(script);
+    let Ok(count) = counted else {
+        return counted;
+    };
     if log.len() / 8 < count {
-        return Answer::Refused(22);
+        return Err(Question::Log);
     }
     let begin = Point {
         at: 0,
@@ -45,7 +45,7 @@ fn play_script<const CELLS: usize>(
         count,
     };
     run(tables, course, begin, log);
-    Answer::Accepted(count)
+    Ok(count)
 }
 
 // Question 20, then 21 and 22, and the run, with blank tables.
@@ -55,7 +55,7 @@ fn play_with<const CELLS: usize>(
     script: &[u8],
     log: &mut [u8],
     forms: &mut [usize],
-) -> Answer
+) -> Result<usize, Question>
     requires reads { Reads s.now }
     requires blank { Blank s.now forms.old tables.old.threads tables.old.types tables.old.known tables.old.cells }
     requires enough { Enough script.now CELLS }
@@ -70,10 +70,10 @@ fn play_with<const CELLS: usize>(
         &mut tables.cells,
     );
     if 64 < sizes.threads {
-        return Answer::Refused(20);
+        return Err(Question::Start);
     }
     if 1024 < sizes.names {
-        return Answer::Refused(20);
+        return Err(Question::Start);
     }
     play_script(tables, forms, script, sizes, log)
 }
@@ -84,7 +84,7 @@ fn play_in<const CELLS: usize>(
     script: &[u8],
     log: &mut [u8],
     forms: &mut [usize],
-) -> Answer
+) -> Result<usize, Question>
     requires reads { Reads s.now }
     requires forms { length s.now ≤ length forms.old }
     requires cells { (1029 ≤ CELLS) × (CELLS ≤ 2304) }
@@ -103,7 +103,7 @@ fn play_in<const CELLS: usize>(
 
 // The same, with a new table of `FORMS` forms. A script of at most 240 bytes has few moves, and so a smaller table of cells to clear:
 // to clear them all takes a quarter of a short run.
-fn play_over<const FORMS: usize>(s: &[u8], script: &[u8], log: &mut [u8]) -> Answer
+fn play_over<const FORMS: usize>(s: &[u8], script: &[u8], log: &mut [u8]) -> Result<usize, Question>
     requires reads { Reads s.now }
     requires forms { (length s.now ≤ FORMS) × (FORMS ≤ 4096) }
     ensures { Comes (played_from (start_of s.now) script.now log.old) log.new result }
@@ -117,7 +117,7 @@ fn play_over<const FORMS: usize>(s: &[u8], script: &[u8], log: &mut [u8]) -> Ans
 
 /// Questions 20 to 22, and the run, of a sheet that passes questions 1 to 6. A sheet of at most 64 bytes has a small table of forms to
 /// clear, one of at most 256 a larger one.
-pub fn play_accepted(s: &[u8], script: &[u8], log: &mut [u8]) -> Answer
+pub fn play_accepted(s: &[u8], script: &[u8], log: &mut [u8]) -> Result<usize, Question>
     requires { Reads s.now }
     ensures { Comes (played_from (start_of s.now) script.now log.old) log.new result }
 {

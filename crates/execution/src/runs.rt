@@ -5,7 +5,6 @@ ghost use Rattle.execution.specs.Runs.{Going, Ongoing, Turned};
 
 use crate::{Course, Point};
 use continuations::Tables;
-use script::MoveRead;
 use script::moves::move_at;
 use script::records::write_record;
 use transitions::moves::step;
@@ -27,7 +26,7 @@ fn turn<const CELLS: usize>(
         → Turned course.entry.forms.now course.entry.script.now run course.entry.count p log.old log.new tables.new result }
 {
     let read = move_at(course.script, p.at);
-    let MoveRead::Found(found) = read else {
+    let Ok(found) = read else {
         return p;
     };
     let outcome = step(tables, course.forms, found.step, p.sizes);

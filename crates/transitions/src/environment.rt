@@ -5,7 +5,7 @@ ghost use Rattle.transitions.specs.Steps.{Stepped};
 
 use crate::{MoveRefusal, Moved};
 use continuations::Tables;
-use memory::names::{know, store_type};
+use memory::put;
 use products::Sizes;
 use script::Record;
 
@@ -24,8 +24,8 @@ pub fn environment_name<const CELLS: usize>(
     if 1024 <= name {
         return Err(MoveRefusal::NoRoom);
     }
-    store_type(&mut tables.types, name, t);
-    know(&mut tables.known, name);
+    put(&mut tables.types, name, t as u32);
+    put(&mut tables.known, name, true);
     Ok(Moved {
         sizes: Sizes {
             names: name + 1,

@@ -3,7 +3,7 @@ ghost use Rattle.std.specs.Prelude.{◌≡◌};
 ghost use Rattle.transitions.specs.Steps.{number_of, refused_line, sizes_after, line_of, known_after};
 
 use crate::{MoveRefusal, Moved};
-use memory::names::know;
+use memory::put;
 use products::Sizes;
 use script::Record;
 
@@ -42,6 +42,6 @@ pub fn know_sent(known: &mut [bool], sizes: Sizes, name: usize)
     ensures { known.new ≡ known_after sizes name known.old }
 {
     if name < sizes.names {
-        know(known, name);
+        put(known, name, true);
     }
 }

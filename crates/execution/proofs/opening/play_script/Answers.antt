@@ -3,25 +3,25 @@ use Rattle.execution.proofs.PlaySteps.{script_fails, log_short, log_written, run
 use borrow.Author.Rules.{rules}
 use Rattle.execution.proofs.opening.play_script.Goals as goal
 
-pub returns-then-count-eq65535 : goal.returns-then-count-eq65535
-returns-then-count-eq65535 g c = script_fails _ _ _ c.args.tables.now _ _ c.count_moves-count.ensures.value c.if-count-eq65535.true
+pub returns-in_default : goal.returns-in_default
+returns-in_default g c = script_fails _ _ _ c.args.tables.now _ _ c.count_moves-counted.ensures.value c.in_default.not-Ok
 
 pub returns-then-log-count : goal.returns-then-log-count
 returns-then-log-count g c =
-    log_short _ _ _ c.args.tables.now _ _ c.count_moves-count.ensures.value c.if-count-eq65535.false c.if-log-count.true
+    log_short _ _ _ c.args.tables.now _ _ c.count_moves-counted.ensures.value _ c.in-Ok.is c.if-log-count.true
 
 pub run-requires : goal.run-requires
 run-requires g c = (
   search rules,
   (
-    run_begins _ _ _ c.args.tables.now _ _ c.count_moves-count.ensures.value c.if-count-eq65535.false c.if-log-count.false c.requires.standing,
+    run_begins _ _ _ c.args.tables.now _ _ c.count_moves-counted.ensures.value _ c.in-Ok.is c.if-log-count.false c.requires.standing,
     (
       c.requires.cells,
-      counted_enough _ _ _ c.count_moves-count.ensures.upper_bound c.if-count-eq65535.false c.requires.enough,
+      counted_enough _ _ _ _ c.count_moves-counted.ensures.upper_bound c.in-Ok.is c.requires.enough,
     ),
   ),
 )
 
 pub returns : goal.returns
 returns g c =
-    log_written _ _ _ c.args.tables.now _ _ c.count_moves-count.ensures.value c.if-count-eq65535.false c.if-log-count.false _ c.run.ensures
+    log_written _ _ _ c.args.tables.now _ _ c.count_moves-counted.ensures.value _ c.in-Ok.is c.if-log-count.false _ c.run.ensures

@@ -10,7 +10,7 @@ returns-in_default g c = search turn_steps
 
 pub step-outcome-requires : goal.step-outcome-requires
 step-outcome-requires g c =
-    (search rules, (c.requires.ongoing.going.holds.few, (c.requires.cells, move_fits _ _ _ _ c.move_at-read.ensures c.in-Found.is)))
+    (search rules, (c.requires.ongoing.going.holds.few, (c.requires.cells, move_fits _ _ _ _ c.move_at-read.ensures c.in-Ok.is)))
 
 pub write_record-requires : goal.write_record-requires
 write_record-requires g c =
@@ -18,5 +18,5 @@ write_record-requires g c =
 
 pub returns : goal.returns
 returns g c =
-    all_turned _ _ _ _ _ c.args.tables.now c.requires.left _ c.move_at-read.ensures _ c.in-Found.is c.step-outcome.new.tables _ _ _
+    all_turned _ _ _ _ _ c.args.tables.now c.requires.left _ c.move_at-read.ensures _ c.in-Ok.is c.step-outcome.new.tables _ _ _
     c.requires.enough c.step-outcome.ensures c.logged-moved.ensures c.write_record.ensures

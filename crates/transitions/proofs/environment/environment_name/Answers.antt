@@ -9,4 +9,4 @@ returns-then-name-ge1024-clause-stepped g c forms =
 
 pub returns-clause-stepped : goal.returns-clause-stepped
 returns-clause-stepped g c forms =
-    name_given forms _ _ c.args.tables.now (search rules) (search rules) (search rules) _ _ c.if-name-ge1024.false c.store_type.ensures c.know.ensures
+    name_given forms _ _ c.args.tables.now (search rules) (search rules) (search rules) _ _ c.if-name-ge1024.false c.put.ensures c.put-2.ensures
