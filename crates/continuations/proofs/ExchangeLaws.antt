@@ -9,6 +9,7 @@ use borrow.Author.Tests.{ltb-true, ltb-false}
 use lib.Dec.{ltb}
 use lib.ListN.{length, take, drop, set, replicate, length-append, length-take}
 use lib.Seq.{length-take-le, take-take, take_at, drop_at, take-add, set_comm}
+use Rattle.std.specs.Prelude.{Option, Some, None, is_some}
 use Rattle.decoding.specs.Tables.{process_in}
 use Rattle.inference.specs.Lists.{gather}
 use Rattle.inference.specs.Acts.{Component}
@@ -27,9 +28,8 @@ use Rattle.products.specs.Makes.{Ready, Makes, crowd}
 use Rattle.products.proofs.PairLaws.{pairs_take, pairs_drop, pairs_length}
 use Rattle.products.proofs.GrowLaws.{shorter, all_kept_lem, crowd_counts}
 use Rattle.continuations.specs.declared.Exchange.{Exchange}
-use Rattle.continuations.specs.declared.Placed.{Placed}
 use Rattle.continuations.specs.Places.{Ranged, remaining_at, room_for}
-use Rattle.continuations.specs.Exchanges.{exchanged, both_replaced, swapped, PutsBoth, Exchanges}
+use Rattle.continuations.specs.Exchanges.{exchanged, both_replaced, swapped, PutsBoth}
 use Rattle.continuations.proofs.RoomLaws.{few_threads, few_names}
 use Rattle.continuations.proofs.PlaceLaws.{pairs_replaced, leb_cong, quiet_take}
 
@@ -113,7 +113,7 @@ module _ {R : ℕ → Thread → Type 0} (m k : ℕ) (made : List ℕ) (ps qs : 
 
 -- The products of both continuations, put in the places of the two threads.
 module _ (forms : List ℕ) (x : Exchange) (z : Sizes) (turns : ℕ) (threads threads' made made₁ made' types types₁ types' cells cells₁ cells' : List ℕ)
-    (known : List Bool) (state : State) (c d : Component) (first second : Sizes) (r : Placed) where
+    (known : List Bool) (state : State) (c d : Component) (first second : Sizes) (r : Option Sizes) where
   abbrev before : Sizes
   before = record { threads = 0; names = z.names; cells = z.cells }
 
@@ -136,6 +136,14 @@ module _ (forms : List ℕ) (x : Exchange) (z : Sizes) (turns : ℕ) (threads th
   theirs =
       threads_of d (chain cells x.theirs.names x.theirs.env ++ (x.sent ∷ []))
       (length state.types + length (news (remaining_at forms x.mine))) (remaining_at forms x.theirs)
+
+  -- What is shown: the communication, or nothing of what was held is lost.
+  pub record ExchangesIn : Type 0 where
+    pub fits : is_some r ≡ has_room (exchanged forms x cells state c d)
+    pub taken : (s : Sizes) → r ≡ Some s → Holds forms s (turns + 1) threads' types' known cells' (exchanged forms x cells state c d)
+    pub kept : r ≡ None → (later top : ℕ) → top ≤ z.cells
+        → Holds forms (record { threads = z.threads; names = z.names; cells = top }) later threads types known cells state
+        → Holds forms (record { threads = z.threads; names = z.names; cells = top }) later threads' types' known cells' state
 
   module _ (few : turns + 1029 ≤ length cells) (known_room : length known ≡ 1024) (number_mine : c.number ≡ x.mine.component) (number_theirs : d.number ≡ x.theirs.component)
       (fits_mine : Ranged x.mine z.cells) (fits_theirs : Ranged x.theirs z.cells) (binds : x.theirs.names + x.theirs.nest < 128) (small : x.sent < 65536)
@@ -249,7 +257,7 @@ module _ (forms : List ℕ) (x : Exchange) (z : Sizes) (turns : ℕ) (threads th
           unfolding remaining_at
           names_grown = omega (arith, m.grows.names, n.grows.names)
 
-          room_same : r.fits ≡ has_room (exchanged forms x cells state c d)
+          room_same : is_some r ≡ has_room (exchanged forms x cells state c d)
           unfolding has_room exchanged after room_for
           room_same =
               p.fits ∙ ap₂ (λ a b. a && b)
@@ -261,12 +269,12 @@ module _ (forms : List ℕ) (x : Exchange) (z : Sizes) (turns : ℕ) (threads th
           abbrev fitted : Sizes
           fitted = record { threads = z.threads - 2 + second.threads; names = second.names; cells = second.cells }
 
-          module _ (yes : r.fits ≡ true) where
+          module _ (s : Sizes) (yes : r ≡ Some s) where
             few_made : z.threads - 2 + second.threads ≤ 64
-            few_made = few_threads (z.threads - 2) (second) (sym p.fits ∙ yes)
+            few_made = few_threads (z.threads - 2) (second) (sym p.fits ∙ ap is_some yes)
 
             few_given : second.names ≤ 1024
-            few_given = few_names (z.threads - 2) (second) (sym p.fits ∙ yes)
+            few_given = few_names (z.threads - 2) (second) (sym p.fits ∙ ap is_some yes)
 
             few_first : first.threads ≤ 64
             few_first = omega (arith, few_made, mine_first)
@@ -304,7 +312,7 @@ module _ (forms : List ℕ) (x : Exchange) (z : Sizes) (turns : ℕ) (threads th
                 (swapped state.threads x.sender x.receiver mine theirs)
             threads_held =
                 let stay = all_kept_lem forms cells cells' z.cells second.cells all_cells_kept (omega (arith, m.grows.cells, n.grows.cells)) holds.threads in
-                rw (p.placed yes) (pairs_swapped x.sender x.receiver stay
+                rw (p.placed s yes) (pairs_swapped x.sender x.receiver stay
                 (pairs_first first.threads (second.threads - first.threads) made' mine theirs made_both count_mine)
                 (pairs_second first.threads (second.threads - first.threads) made' mine theirs made_both count_mine))
 
@@ -330,22 +338,24 @@ module _ (forms : List ℕ) (x : Exchange) (z : Sizes) (turns : ℕ) (threads th
               quiet = λ i h. holds.quiet i (omega (arith, new_names));
             }
 
-          holds_kept : r.fits ≡ false → Holds forms z turns threads' types' known cells' state
-          holds_kept full = record {
-            few = holds.few;
-            given = holds.given;
-            slack = holds.slack;
-            threads = rw (p.kept full).1 (all_kept_lem forms cells cells' z.cells z.cells all_cells_kept (omega arith) holds.threads);
-            types = shorter z.names first.names types' types₁ (omega (arith, m.grows.names, holds.given)) n.before ∙ m.before ∙ holds.types;
-            known = holds.known;
-            quiet = holds.quiet;
+          holds_kept : r ≡ None → (later top : ℕ) → top ≤ z.cells
+              → Holds forms (record { threads = z.threads; names = z.names; cells = top }) later threads types known cells state
+              → Holds forms (record { threads = z.threads; names = z.names; cells = top }) later threads' types' known cells' state
+          holds_kept full later top below held = record {
+            few = held.few;
+            given = held.given;
+            slack = held.slack;
+            threads = rw (p.kept full) (all_kept_lem forms cells cells' top top (shorter top z.cells cells' cells below all_cells_kept) (omega arith) held.threads);
+            types = shorter z.names first.names types' types₁ (omega (arith, m.grows.names, holds.given)) n.before ∙ m.before ∙ held.types;
+            known = held.known;
+            quiet = held.quiet;
           }
 
-          exchanges : Exchanges forms x z turns threads' types' known cells cells' state c d r
+          exchanges : ExchangesIn
           exchanges = record {
             fits = room_same;
-            taken = λ yes. rw (p.sizes yes) (holds_fitted yes);
-            kept = λ full. ((p.kept full).0, holds_kept full);
+            taken = λ s yes. rw (p.sizes s yes) (holds_fitted s yes);
+            kept = holds_kept;
           }
 
     -- One walk after the other, and what they made put in its places.
@@ -354,7 +364,7 @@ module _ (forms : List ℕ) (x : Exchange) (z : Sizes) (turns : ℕ) (threads th
         → (cell ≤ 2300 → Ready place begun made₁ types₁ widened
         → Makes forms place (process_in place.nest forms place.at) begun made₁ made' types₁ types' widened cells' second)
         → (first.threads ≤ second.threads → PutsBoth z x (record { mine = first.threads; sizes = second }) made' threads threads' r)
-        → Exchanges forms x z turns threads' types' known cells cells' state c d r
+        → ExchangesIn
     communicates walk_mine walk_theirs put =
         let m = walk_mine ready_mine in
         let n = walk_theirs (cell_left m) (ready_theirs m) in

@@ -7,40 +7,35 @@ use native.Mathlib.Omega.{arith}
 use borrow.Author.Rules.{rules}
 use borrow.Author.Tests.{lt-ltb, le-ltb, not-true, not-false}
 use lib.ListN.{length, take, drop}
+use Rattle.std.specs.Prelude.{Option, Some, None, ◌⊎◌}
+use Rattle.std.proofs.Common.{inl, inr}
 use Rattle.decoding.specs.Tables.{process_in}
-use Rattle.inference.specs.Acts.{Component}
-use Rattle.running.specs.State.{State}
 use Rattle.memory.specs.Threads.{replaced}
 use Rattle.memory.specs.Chains.{bound}
 use Rattle.memory.specs.declared.Thread.{Thread as Place}
 use Rattle.products.specs.declared.Sizes.{Sizes}
-use Rattle.products.specs.Held.{Holds}
 use Rattle.products.specs.Makes.{Ready, Makes}
 use Rattle.continuations.specs.declared.BothMade.{BothMade}
 use Rattle.continuations.specs.declared.Exchange.{Exchange}
 use Rattle.continuations.specs.declared.Part.{Part}
-use Rattle.continuations.specs.declared.Placed.{Placed}
-use Rattle.continuations.specs.Places.{Ranged, Tables, room_for, under_cell, with_cell}
-use Rattle.continuations.specs.Exchanges.{Walks, MakesBoth, part_of, both_replaced, swapped, PutsBoth, Exchanges, Exchanging}
+use Rattle.continuations.specs.declared.Tables.{Tables}
+use Rattle.continuations.specs.Places.{room_for, under_cell, with_cell}
+use Rattle.continuations.specs.Exchanges.{Walks, MakesBoth, part_of, both_replaced, swapped, PutsBoth, Exchanging}
 use Rattle.continuations.proofs.ExchangeLaws.{communicates}
 use Rattle.continuations.proofs.WidenSteps.{under_more, cells_more}
 
--- What each walk makes.
-pub walk_theirs : (forms : List ℕ) (t inner : Place) (sent : ℕ) (z begun : Sizes) (made made' types types' cells cells₁ cells' : List ℕ) (r : Sizes)
-    → inner ≡ under_cell t z.cells → begun ≡ with_cell z → cells₁ ≡ bound cells z.cells t.env sent
-    → (Ready inner begun made types cells₁ → Makes forms inner (process_in inner.nest forms inner.at) begun made made' types types' cells₁ cells' r)
-    → Walks forms (under_cell t z.cells) (with_cell z) made made' types types' (bound cells z.cells t.env sent) cells' r
+-- What both walks make, one after the other.
+pub both_made : {n : ℕ} (forms : List ℕ) (x : Exchange) (z : Sizes) (m m' : Tables n) (inner : Place) (begun first second : Sizes)
+    (made₁ types₁ cells₁ cells₂ : List ℕ)
+    → length made₁ ≡ length m.made → length types₁ ≡ length m.types → length cells₁ ≡ length m.cells
+    → (Ready x.mine z m.made m.types m.cells
+    → Makes forms x.mine (process_in x.mine.nest forms x.mine.at) z m.made made₁ m.types types₁ m.cells cells₁ first)
+    → inner ≡ under_cell x.theirs first.cells → begun ≡ with_cell first → cells₂ ≡ bound cells₁ first.cells x.theirs.env x.sent
+    → (Ready inner begun made₁ types₁ cells₂
+    → Makes forms inner (process_in inner.nest forms inner.at) begun made₁ m'.made types₁ m'.types cells₂ m'.cells second)
+    → MakesBoth forms x z m m' (record { mine = first.threads; sizes = second })
 unfolding Walks
-walk_theirs forms t inner sent z begun made made' types types' cells cells₁ cells' r e f g m = rw (e, f, g) at m
-
-pub both_made : (forms : List ℕ) (x : Exchange) (z : Sizes) (made made₁ made' types types₁ types' cells cells₁ cells' : List ℕ) (first second : Sizes)
-    → length made₁ ≡ length made → length types₁ ≡ length types → length cells₁ ≡ length cells
-    → (Ready x.mine z made types cells → Makes forms x.mine (process_in x.mine.nest forms x.mine.at) z made made₁ types types₁ cells cells₁ first)
-    → Walks forms (under_cell x.theirs first.cells) (with_cell (first)) made₁ made' types₁ types'
-    (bound cells₁ first.cells x.theirs.env x.sent) cells' second
-    → MakesBoth forms x z made made' types types' cells cells' (record { mine = first.threads; sizes = second })
-unfolding Walks
-both_made forms x z made made₁ made' types types₁ types' cells cells₁ cells' first second a b c m n = record {
+both_made forms x z m m' inner begun first second made₁ types₁ cells₁ cells₂ a b c w e f g v = record {
   first = first;
   second = second;
   made₁ = made₁;
@@ -49,12 +44,12 @@ both_made forms x z made made₁ made' types types₁ types' cells cells₁ cell
   same_made = a;
   same_types = b;
   same_cells = c;
-  mine = m;
-  theirs = n;
+  mine = w;
+  theirs = rw (e, f, g) at v;
   result = refl;
 }
 
-pub ruleset both_steps = (rules, walk_theirs, both_made)
+pub ruleset both_steps = (rules, both_made)
 
 -- Two parts put in their places, the later one first.
 pub spliced_two : (len : ℕ) (a b : Part) (made threads threads₁ threads' : List ℕ) → a.at < b.at → b.at < len
@@ -89,72 +84,64 @@ pub ruleset swap_steps = (rules, spliced_two, sender_first, receiver_first)
 
 -- What was made, put in its places.
 module _ (z : Sizes) (x : Exchange) (b : BothMade) (made threads : List ℕ) where
-  pub put_two_taken : (threads' : List ℕ) → b.mine ≤ b.sizes.threads → room_for (z.threads - 2) b.sizes ≡ true
+  pub put_met : (r : Option Sizes) → (x.sender ≡ x.receiver ⊎ b.sizes.threads < b.mine)
+      → (x.sender ≡ x.receiver → ⊥) → b.mine ≤ b.sizes.threads → PutsBoth z x b made threads threads r
+  put_met r (inl e) ne h = absurd (ne e)
+  put_met r (inr k) ne h = absurd (omega arith)
+
+  pub put_refused : (q : Bool) → q ≡ room_for (z.threads - 2) b.sizes → not q ≡ true
+      → (x.sender ≡ x.receiver → ⊥) → b.mine ≤ b.sizes.threads → PutsBoth z x b made threads threads None
+  put_refused q e h ne k = record {
+    fits = sym (not-true q h) ∙ e;
+    sizes = λ s i. let w : ◌≡◌ {A = ℕ} 0 1 = cc in absurd (omega arith);
+    placed = λ s i. let w : ◌≡◌ {A = ℕ} 0 1 = cc in absurd (omega arith);
+    kept = λ i. refl;
+  }
+
+  pub put_done : (q : Bool) (threads' : List ℕ) → q ≡ room_for (z.threads - 2) b.sizes → not q ≡ false
       → take (z.threads - 2 + (b.mine + (b.sizes.threads - b.mine))) threads'
       ≡ swapped (take z.threads threads) x.sender x.receiver
       (part_of (record { at = x.sender; first = 0; count = b.mine }) made)
       (part_of (record { at = x.receiver; first = b.mine; count = b.sizes.threads - b.mine }) made)
-      → PutsBoth z x b made threads threads'
-      (record { fits = true; sizes = record { threads = z.threads - 2 + b.sizes.threads; names = b.sizes.names; cells = b.sizes.cells } })
+      → (x.sender ≡ x.receiver → ⊥) → b.mine ≤ b.sizes.threads → PutsBoth z x b made threads threads'
+      (Some (record { threads = z.threads - 2 + b.sizes.threads; names = b.sizes.names; cells = b.sizes.cells }))
   unfolding part_of
-  put_two_taken threads' h room e =
+  put_done q threads' e h d ne k =
       let same : b.mine + (b.sizes.threads - b.mine) ≡ b.sizes.threads = omega arith in
       record {
-        fits = sym room;
-        sizes = λ i. refl;
-        placed = λ i. rw same at e;
+        fits = sym (not-false q h) ∙ e;
+        sizes = λ s i. cc;
+        placed = λ s i. rw same at d;
         kept = λ i. let w : ◌≡◌ {A = ℕ} 0 1 = cc in absurd (omega arith);
       }
-
-  pub put_same : (r : Placed) → x.sender ≡ x.receiver → (x.sender ≡ x.receiver → ⊥) → b.mine ≤ b.sizes.threads → PutsBoth z x b made threads threads r
-  put_same r e ne h = absurd (ne e)
-
-  pub put_short : (r : Placed) → b.sizes.threads < b.mine → (x.sender ≡ x.receiver → ⊥) → b.mine ≤ b.sizes.threads → PutsBoth z x b made threads threads r
-  put_short r k ne h = absurd (omega arith)
-
-  pub put_refused : (q : Bool) → q ≡ room_for (z.threads - 2) b.sizes → not q ≡ true
-      → (x.sender ≡ x.receiver → ⊥) → b.mine ≤ b.sizes.threads → PutsBoth z x b made threads threads (record { fits = false; sizes = z })
-  put_refused q e h ne k = record {
-    fits = sym (not-true q h) ∙ e;
-    sizes = λ i. let w : ◌≡◌ {A = ℕ} 0 1 = cc in absurd (omega arith);
-    placed = λ i. let w : ◌≡◌ {A = ℕ} 0 1 = cc in absurd (omega arith);
-    kept = λ i. (refl, refl);
-  }
-
-  pub put_done : (threads' : List ℕ) (r : Placed) → PutsBoth z x b made threads threads' r
-      → (x.sender ≡ x.receiver → ⊥) → b.mine ≤ b.sizes.threads → PutsBoth z x b made threads threads' r
-  put_done threads' r p ne k = p
 
 pub room_true : (kept : ℕ) (z : Sizes) (q : Bool) → q ≡ room_for kept z → not q ≡ false → room_for kept z ≡ true
 room_true kept z q e h = sym e ∙ not-false q h
 
-pub ruleset put_both_steps = (rules, put_two_taken, put_same, put_short, put_refused, put_done)
+pub ruleset put_both_steps = (rules, put_met, put_refused, put_done)
 
 -- What both continuations make, put in its places, is the communication.
-module _ (forms : List ℕ) (x : Exchange) (z : Sizes) (threads threads' made made' types types' cells cells' : List ℕ) (b : BothMade) (r : Placed) where
-  abbrev before : Sizes
-  before = record { threads = 0; names = z.names; cells = z.cells }
-
-  met : x.sender < z.threads → x.receiver < z.threads → length threads ≡ 128 → length made ≡ 128 → length types ≡ 1024 → length cells ≤ 2304
-      → MakesBoth forms x before made made' types types' cells cells' b
-      → ((x.sender ≡ x.receiver → ⊥) → b.mine ≤ b.sizes.threads → PutsBoth z x b made' threads threads' r)
-      → (state : State) (c d : Component) (turns : ℕ) (known : List Bool) → turns + 1029 ≤ length cells → length known ≡ 1024 → c.number ≡ x.mine.component → d.number ≡ x.theirs.component
-      → Ranged x.mine z.cells → Ranged x.theirs z.cells → x.theirs.names + x.theirs.nest < 128 → x.sent < 65536 → (x.sender ≡ x.receiver → ⊥)
-      → Holds forms z turns threads types known cells state → Exchanges forms x z turns threads' types' known cells cells' state c d r
-  unfolding Walks
-  met si ri tr mr yr cr mk p state c d turns known few kr cn dn ft fu binds small apart holds =
-      let walk = mk.theirs in
-      let put = rw mk.result at p in
-      communicates forms x z turns threads threads' made mk.made₁ made' types mk.types₁ types' cells mk.cells₁ cells' known state c d mk.first mk.second r
-      few kr cn dn ft fu binds small apart si ri tr mr yr cr mk.same_made mk.same_types mk.same_cells holds
-      mk.mine
-      (λ left. rw (← under_more x.theirs mk.first.cells (omega arith), ← cells_more mk.first (omega (arith, left))) at walk)
-      (put apart)
-
-  pub exchange_step : (z₀ : Sizes) → x.sender < z.threads → x.receiver < z.threads
-      → Tables z threads made types cells
-      → z₀ ≡ before → MakesBoth forms x z₀ made made' types types' cells cells' b
-      → ((x.sender ≡ x.receiver → ⊥) → b.mine ≤ b.sizes.threads → PutsBoth z x b made' threads threads' r)
-      → Exchanging forms x z threads types cells threads' types' cells' r
-  exchange_step z₀ si ri tables e mk p =
-      met si ri tables.thread_room tables.made_room tables.type_room tables.cell_room (rw e at mk) p
+pub exchange_step : {n : ℕ} (forms : List ℕ) (x : Exchange) (z z₀ : Sizes) (m m₁ : Tables n) (threads' : List ℕ) (b : BothMade) (r : Option Sizes)
+    → x.sender < z.threads → x.receiver < z.threads
+    → length m.threads ≡ 128 → length m.made ≡ 128 → length m.types ≡ 1024 → length m.known ≡ 1024 → length m.cells ≤ 2304
+    → z₀ ≡ record { threads = 0; names = z.names; cells = z.cells }
+    → m₁.threads ≡ m.threads → m₁.known ≡ m.known → MakesBoth forms x z₀ m m₁ b
+    → ((x.sender ≡ x.receiver → ⊥) → b.mine ≤ b.sizes.threads → PutsBoth z x b m₁.made m₁.threads threads' r)
+    → Exchanging forms x z m (record { threads = threads'; made = m₁.made; types = m₁.types; known = m₁.known; cells = m₁.cells }) r
+unfolding Walks
+exchange_step forms x z z₀ m m₁ threads' b r si ri tr mr yr kr cr e stay known both p state c d turns few cn dn ft fu binds small apart holds =
+    let mk : MakesBoth forms x (record { threads = 0; names = z.names; cells = z.cells }) m m₁ b = rw e at both in
+    let walk = mk.theirs in
+    let put = rw (mk.result, stay) at p in
+    let xs =
+    communicates forms x z turns m.threads threads' m.made mk.made₁ m₁.made m.types mk.types₁ m₁.types m.cells mk.cells₁ m₁.cells m.known state c d
+    mk.first mk.second r
+    few kr cn dn ft fu binds small apart si ri tr mr yr cr mk.same_made mk.same_types mk.same_cells holds
+    mk.mine
+    (λ left. rw (← under_more x.theirs mk.first.cells (omega arith), ← cells_more mk.first (omega (arith, left))) at walk)
+    (put apart) in
+    record {
+      fits = xs.fits;
+      taken = λ s yes. rw known (xs.taken s yes);
+      kept = λ full. rw known (xs.kept full);
+    }

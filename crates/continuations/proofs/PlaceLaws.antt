@@ -9,6 +9,7 @@ use borrow.Author.Tests.{leb-true, leb-false}
 use lib.Dec.{leb}
 use lib.ListN.{length, get_or, take, replicate, length-append}
 use lib.Seq.{length-take-le}
+use Rattle.std.specs.Prelude.{Option, Some, None, is_some}
 use Rattle.decoding.specs.Tables.{process_in}
 use Rattle.inference.specs.Acts.{Component}
 use Rattle.running.specs.State.{Thread, State}
@@ -23,9 +24,8 @@ use Rattle.products.specs.Pairs.{Pairs, none}
 use Rattle.products.specs.Held.{Runs, Holds}
 use Rattle.products.specs.Makes.{Ready, Makes, crowd}
 use Rattle.products.proofs.PairLaws.{pairs_append, pairs_take, pairs_drop, pairs_length}
-use Rattle.products.proofs.GrowLaws.{all_kept_lem, crowd_counts}
-use Rattle.continuations.specs.declared.Placed.{Placed}
-use Rattle.continuations.specs.Places.{Ranged, remaining_at, changed, put, room_for, Puts, Replaces}
+use Rattle.products.proofs.GrowLaws.{shorter, all_kept_lem, crowd_counts}
+use Rattle.continuations.specs.Places.{Ranged, remaining_at, changed, put, room_for, Puts}
 use Rattle.continuations.proofs.RoomLaws.{few_threads, few_names}
 
 pub pairs_replaced : {A B : Type 0} {R : A → B → Type 0} (at from : ℕ) {xs ys : List A} {bs ds : List B} → Pairs R xs bs → Pairs R ys ds
@@ -59,7 +59,7 @@ quiet_take (x ∷ known) (suc n) j h q =
 
 -- The products of a process, put in the place of threads.
 module _ (forms : List ℕ) (process : Place) (at from : ℕ) (z : Sizes) (turns : ℕ) (threads threads' made made' types types' cells cells' : List ℕ)
-    (known : List Bool) (state : State) (c : Component) (products : Sizes) (r : Placed) where
+    (known : List Bool) (state : State) (c : Component) (products : Sizes) (r : Option Sizes) where
   abbrev before : Sizes
   before = record { threads = 0; names = z.names; cells = z.cells }
 
@@ -105,7 +105,7 @@ module _ (forms : List ℕ) (process : Place) (at from : ℕ) (z : Sizes) (turns
       all_names : length (state.types ++ news (remaining_at forms process)) ≡ z.names + length (news (remaining_at forms process))
       all_names = omega (arith, length-append state.types (news (remaining_at forms process)), named)
 
-      room_same : r.fits ≡ has_room (put forms process at from cells state c)
+      pub room_same : is_some r ≡ has_room (put forms process at from cells state c)
       unfolding has_room put changed remaining_at room_for
       room_same =
           p.fits ∙ ap₂ (λ a b. a && b)
@@ -117,49 +117,45 @@ module _ (forms : List ℕ) (process : Place) (at from : ℕ) (z : Sizes) (turns
       abbrev fitted : Sizes
       fitted = record { threads = at + (z.threads - from) + products.threads; names = products.names; cells = products.cells }
 
-      module _ (yes : r.fits ≡ true) where
+      module _ (s : Sizes) (yes : r ≡ Some s) where
         few_made : at + (z.threads - from) + products.threads ≤ 64
-        few_made = few_threads (at + (z.threads - from)) (products) (sym p.fits ∙ yes)
+        few_made = few_threads (at + (z.threads - from)) (products) (sym p.fits ∙ ap is_some yes)
 
         few_given : products.names ≤ 1024
-        few_given = few_names (at + (z.threads - from)) (products) (sym p.fits ∙ yes)
+        few_given = few_names (at + (z.threads - from)) (products) (sym p.fits ∙ ap is_some yes)
 
         new_names : products.names ≡ z.names + length (news (remaining_at forms process))
         unfolding remaining_at
         new_names = omega (arith, m.grows.names, few_given)
 
-        holds_fitted : Holds forms fitted turns threads' types' known cells' (put forms process at from cells state c)
+        pub holds_fitted : Holds forms s turns threads' types' known cells' (put forms process at from cells state c)
         unfolding put changed remaining_at
-        holds_fitted = record {
+        holds_fitted = rw (p.sizes s yes) (record {
           few = few_made;
           given = few_given;
           slack = omega (arith, m.grows.slack, holds.slack);
           threads =
               let made_threads = m.products (omega (arith, few_made)) few_given c number [] none in
               let mine_are : Pairs (Runs forms cells' products.cells) (take products.threads made') mine = rw (← named) at made_threads in
-              rw (p.placed yes) (pairs_replaced at from (all_kept_lem forms cells cells' z.cells products.cells m.grows.kept m.grows.cells holds.threads) mine_are);
+              rw (p.placed s yes) (pairs_replaced at from (all_kept_lem forms cells cells' z.cells products.cells m.grows.kept m.grows.cells holds.threads) mine_are);
           types = m.given few_given ∙ ap (λ l. l ++ news (remaining_at forms process)) holds.types;
           known =
               ap (λ k. take k known) new_names
               ∙ quiet_take known z.names (length (news (remaining_at forms process))) (omega (arith, few_given, new_names)) holds.quiet
               ∙ ap (λ l. l ++ replicate (length (news (remaining_at forms process))) false) holds.known;
           quiet = λ i h. holds.quiet i (omega (arith, new_names));
-        }
+        })
 
-      holds_kept : r.fits ≡ false → Holds forms z turns threads' types' known cells' state
-      holds_kept full = record {
-        few = holds.few;
-        given = holds.given;
-        slack = holds.slack;
-        threads = rw (p.kept full).1 (all_kept_lem forms cells cells' z.cells z.cells m.grows.kept (omega arith) holds.threads);
-        types = m.before ∙ holds.types;
-        known = holds.known;
-        quiet = holds.quiet;
-      }
-
-      pub replaces : Replaces forms process at from z turns threads' types' known cells cells' state c r
-      replaces = record {
-        fits = room_same;
-        taken = λ yes. rw (p.sizes yes) (holds_fitted yes);
-        kept = λ full. ((p.kept full).0, holds_kept full);
+      pub holds_kept : r ≡ None → (later top : ℕ) → top ≤ z.cells
+          → Holds forms (record { threads = z.threads; names = z.names; cells = top }) later threads types known cells state
+          → Holds forms (record { threads = z.threads; names = z.names; cells = top }) later threads' types' known cells' state
+      holds_kept full later top below held = record {
+        few = held.few;
+        given = held.given;
+        slack = held.slack;
+        threads =
+            rw (p.kept full) (all_kept_lem forms cells cells' top top (shorter top z.cells cells' cells below m.grows.kept) (omega arith) held.threads);
+        types = m.before ∙ held.types;
+        known = held.known;
+        quiet = held.quiet;
       }

@@ -1,5 +1,5 @@
 -- Products in their thread's place, where there is room.
-use Rattle.std.specs.Prelude.{ℕ, ◌+◌, ◌-◌, ◌<◌, ◌≤◌, ◌≡◌, List, ◌++◌, Bool, true, false, cond, ◌&&◌, leb, ltb, length, take, replicate}
+use Rattle.std.specs.Prelude.{Option, Some, None, is_some, ℕ, ◌+◌, ◌-◌, ◌<◌, ◌≤◌, ◌≡◌, List, ◌++◌, Bool, false, cond, ◌&&◌, leb, ltb, length, take, replicate}
 use Rattle.reading.specs.Syntax.{Process}
 use Rattle.decoding.specs.Tables.{process_in}
 use Rattle.inference.specs.Acts.{Component}
@@ -11,15 +11,11 @@ use Rattle.memory.specs.Chains.{chain}
 use Rattle.memory.specs.declared.Thread.{Thread as Place}
 use Rattle.products.specs.declared.Sizes.{Sizes}
 use Rattle.products.specs.Held.{Holds}
-use Rattle.continuations.specs.declared.Placed.{Placed}
+use Rattle.continuations.specs.declared.Tables.{Tables}
 
--- The tables lent to a move have their lengths, and its threads are few.
-pub record Tables (z : Sizes) (threads made types cells : List ℕ) : Type 0 where
-  pub few : z.threads ≤ 64
-  pub thread_room : length threads ≡ 128
-  pub made_room : length made ≡ 128
-  pub type_room : length types ≡ 1024
-  pub cell_room : length cells ≤ 2304
+-- A state in the tables of a run.
+abbrev pub Holding : {n : ℕ} → List ℕ → Sizes → ℕ → Tables n → State → Type 0
+Holding forms z turns m state = Holds forms z turns m.threads m.types m.known m.cells state
 
 -- A process to be taken apart: its component, names, nesting and place in their ranges, its run names among the cells in use.
 pub record Ranged (t : Place) (top : ℕ) : Type 0 where
@@ -52,14 +48,20 @@ changed state threads types = record {
 unfoldable pub room_for : ℕ → Sizes → Bool
 room_for kept z = leb (kept + z.threads) 64 && leb z.names 1024
 
--- What was made, put in place of the threads from `at` up to `from`.
-pub record Puts (z : Sizes) (at from : ℕ) (after : Sizes) (made threads threads' : List ℕ) (r : Placed) : Type 0 where
-  pub fits : r.fits ≡ room_for (at + (z.threads - from)) after
-  pub sizes : r.fits ≡ true
-      → r.sizes ≡ record { threads = at + (z.threads - from) + after.threads; names = after.names; cells = after.cells }
-  pub placed : r.fits ≡ true → take (at + (z.threads - from) + after.threads) threads'
+-- What was made, put in place of the threads from `at` up to `from`: the sizes afterwards, where there is room.
+pub record Puts (z : Sizes) (at from : ℕ) (after : Sizes) (made threads threads' : List ℕ) (r : Option Sizes) : Type 0 where
+  pub fits : is_some r ≡ room_for (at + (z.threads - from)) after
+  pub sizes : (s : Sizes) → r ≡ Some s
+      → s ≡ record { threads = at + (z.threads - from) + after.threads; names = after.names; cells = after.cells }
+  pub placed : (s : Sizes) → r ≡ Some s → take (at + (z.threads - from) + after.threads) threads'
       ≡ replaced (take z.threads threads) at from (take after.threads made)
-  pub kept : r.fits ≡ false → (r.sizes ≡ z) × (threads' ≡ threads)
+  pub kept : r ≡ None → threads' ≡ threads
+
+-- What the tables held before, with no more cells in use than now, they hold afterwards.
+abbrev pub Keeps : {n : ℕ} → List ℕ → Sizes → Tables n → Tables n → State → Type 0
+Keeps forms z m m' state =
+    (turns top : ℕ) → top ≤ z.cells → Holding forms (record { threads = z.threads; names = z.names; cells = top }) turns m state
+    → Holding forms (record { threads = z.threads; names = z.names; cells = top }) turns m' state
 
 -- The state with a process's products in place of the threads from `at` up to `from`; `cells` are those before.
 unfoldable pub put : List ℕ → Place → ℕ → ℕ → List ℕ → State → Component → State
@@ -67,15 +69,14 @@ put forms process at from cells state c =
     changed state (replaced state.threads at from
     (threads_of c (chain cells process.names process.env) (length state.types) (remaining_at forms process))) (news (remaining_at forms process))
 
-pub record Replaces (forms : List ℕ) (process : Place) (at from : ℕ) (z : Sizes) (turns : ℕ) (threads' types' : List ℕ) (known : List Bool)
-    (cells cells' : List ℕ) (state : State) (c : Component) (r : Placed) : Type 0 where
-  pub fits : r.fits ≡ has_room (put forms process at from cells state c)
-  pub taken : r.fits ≡ true → Holds forms r.sizes turns threads' types' known cells' (put forms process at from cells state c)
-  pub kept : r.fits ≡ false → (r.sizes ≡ z) × Holds forms z turns threads' types' known cells' state
+pub record Replaces {n : ℕ} (forms : List ℕ) (process : Place) (at from : ℕ) (z : Sizes) (turns : ℕ) (m m' : Tables n) (state : State)
+    (c : Component) (r : Option Sizes) : Type 0 where
+  pub fits : is_some r ≡ has_room (put forms process at from m.cells state c)
+  pub taken : (s : Sizes) → r ≡ Some s → Holding forms s turns m' (put forms process at from m.cells state c)
+  pub kept : r ≡ None → Keeps forms z m m' state
 
--- The same for every state that memory holds before, with cells for its turns, whichever names are known.
-abbrev pub Replacing : List ℕ → Place → ℕ → ℕ → Sizes → List ℕ → List ℕ → List ℕ → List ℕ → List ℕ → List ℕ → Placed → Type 0
-Replacing forms process at from z threads types cells threads' types' cells' r =
-    (state : State) (c : Component) (turns : ℕ) (known : List Bool) → turns + 1028 ≤ length cells → length known ≡ 1024 → c.number ≡ process.component
-    → Ranged process z.cells → Holds forms z turns threads types known cells state
-    → Replaces forms process at from z turns threads' types' known cells cells' state c r
+-- The same for every state that the tables hold before, with cells for its turns.
+abbrev pub Replacing : {n : ℕ} → List ℕ → Place → ℕ → ℕ → Sizes → Tables n → Tables n → Option Sizes → Type 0
+Replacing forms process at from z m m' r =
+    (state : State) (c : Component) (turns : ℕ) → turns + 1028 ≤ length m.cells → c.number ≡ process.component → Ranged process z.cells
+    → Holding forms z turns m state → Replaces forms process at from z turns m m' state c r

@@ -1,63 +1,19 @@
 // A communication's products, each in its own thread's place, where there is room; the sender's new names come first.
 ghost use Rattle.std.specs.Prelude.{◌≡◌, true, ◌+◌, ◌-◌, ◌<◌, ◌≤◌, length, take};
-ghost use Rattle.memory.specs.Chains.{bound};
-ghost use Rattle.continuations.specs.Places.{Tables, room_for, under_cell, with_cell};
-ghost use Rattle.continuations.specs.Exchanges.{part_of, both_replaced, swapped, Walks, MakesBoth, PutsBoth, Exchanging};
+ghost use Rattle.continuations.specs.Places.{room_for};
+ghost use Rattle.continuations.specs.Exchanges.{part_of, both_replaced, swapped, MakesBoth, PutsBoth, Exchanging};
 
 use crate::placing::{has_room, none_made};
 use crate::widening::{under_cell, with_cell};
-use crate::{BothMade, Exchange, Part, Placed};
-use memory::Thread;
+use crate::{BothMade, Exchange, Part, Tables};
 use memory::chains::bind;
 use memory::threads::splice;
 use products::Sizes;
 use products::processes::make_process;
 
-// What the receiver's continuation makes, under the name disclosed, which takes the next cell.
-fn make_theirs(
-    forms: &[usize],
-    t: Thread,
-    sent: usize,
-    sizes: Sizes,
-    made: &mut [usize],
-    types: &mut [u32],
-    cells: &mut [u32],
-) -> Sizes
-    ensures { Walks forms.now (under_cell t sizes.cells) (with_cell sizes) made.old made.new
-        types.old types.new
-        (bound cells.old sizes.cells t.env sent) cells.new result }
-{
-    let cell = sizes.cells;
-    let inner = under_cell(t, cell);
-    let begun = with_cell(sizes);
-    bind(cells, cell, t.env, sent);
-    make_process(forms, inner, begun, made, types, cells)
-}
-
-// What both continuations make, the sender's first.
-fn make_both(
-    forms: &[usize],
-    x: Exchange,
-    sizes: Sizes,
-    made: &mut [usize],
-    types: &mut [u32],
-    cells: &mut [u32],
-) -> BothMade
-    ensures { MakesBoth forms.now x sizes made.old made.new
-        types.old types.new cells.old cells.new result }
-{
-    let sender = x.mine;
-    let receiver = x.theirs;
-    let so_far = make_process(forms, sender, sizes, made, types, cells);
-    let all = make_theirs(forms, receiver, x.sent, so_far, made, types, cells);
-    BothMade {
-        mine: so_far.threads,
-        sizes: all,
-    }
-}
-
 // Of a list of `len` threads, replaces two by what was made for each; `a` is for the earlier one. The later one goes first, so
 // that the index of the earlier one stays valid.
+#[tactic(auto, using(crate::proofs::ExchangeSteps::swap_steps))]
 fn splice_two(threads: &mut [usize], len: usize, a: Part, b: Part, made: &[usize])
     requires { (a.at < b.at) × (b.at < len) × (len ≤ 64) × (len + (a.count + b.count) ≤ 66)
         × (a.first + a.count ≤ length made.now)
@@ -72,6 +28,7 @@ fn splice_two(threads: &mut [usize], len: usize, a: Part, b: Part, made: &[usize
 }
 
 // The same, whichever is the earlier one.
+#[tactic(auto, using(crate::proofs::ExchangeSteps::swap_steps))]
 fn swap(threads: &mut [usize], len: usize, mine: Part, theirs: Part, made: &[usize])
     requires { (mine.at < len) × (theirs.at < len) × (mine.at ≡ theirs.at → ⊥)
         × (len ≤ 64) × (len + (mine.count + theirs.count) ≤ 66)
@@ -88,21 +45,29 @@ fn swap(threads: &mut [usize], len: usize, mine: Part, theirs: Part, made: &[usi
     splice_two(threads, len, theirs, mine, made);
 }
 
-// Puts what was made in place of the two threads.
-fn put_two(
+// Puts what was made in place of the two threads, where there is room. Neither two equal indices nor fewer threads in all than the
+// sender's can be met; what is asked of them keeps every index in its table.
+#[tactic(auto, using(crate::proofs::ExchangeSteps::put_both_steps))]
+fn put_both(
     threads: &mut [usize],
     sizes: Sizes,
     x: Exchange,
     made: &[usize],
     products: BothMade,
-) -> Placed
+) -> Option<Sizes>
     requires { (x.sender < sizes.threads) × (x.receiver < sizes.threads)
-        × (x.sender ≡ x.receiver → ⊥) × (sizes.threads ≤ 64)
-        × (products.mine ≤ products.sizes.threads) × (room_for (sizes.threads - 2) products.sizes ≡ true)
-        × (length threads.old ≡ 128) × (length made.now ≡ 128) }
-    ensures { PutsBoth sizes x products made.now threads.old threads.new result }
+        × (sizes.threads ≤ 64) × (length threads.old ≡ 128) × (length made.now ≡ 128) }
+    ensures { (x.sender ≡ x.receiver → ⊥) → products.mine ≤ products.sizes.threads
+        → PutsBoth sizes x products made.now threads.old threads.new result }
 {
     let after = products.sizes;
+    if x.sender == x.receiver || after.threads < products.mine {
+        return None;
+    }
+    let kept = sizes.threads - 2;
+    if !has_room(kept, after) {
+        return None;
+    }
     let mine = Part {
         at: x.sender,
         first: 0,
@@ -113,61 +78,56 @@ fn put_two(
         first: products.mine,
         count: after.threads - products.mine,
     };
-    let total = Sizes {
-        threads: sizes.threads - 2 + after.threads,
-        names: after.names,
-        cells: after.cells,
-    };
     swap(threads, sizes.threads, mine, theirs, made);
-    Placed {
-        fits: true,
-        sizes: total,
-    }
+    Some(Sizes {
+        threads: kept + after.threads,
+        ..after
+    })
 }
 
-// Puts what was made in place of the two threads, where there is room.
-fn put_both(
-    threads: &mut [usize],
-    sizes: Sizes,
-    x: Exchange,
-    made: &[usize],
-    products: BothMade,
-) -> Placed
-    requires { (x.sender < sizes.threads) × (x.receiver < sizes.threads)
-        × (sizes.threads ≤ 64) × (length threads.old ≡ 128) × (length made.now ≡ 128) }
-    ensures { (x.sender ≡ x.receiver → ⊥) → products.mine ≤ products.sizes.threads
-        → PutsBoth sizes x products made.now threads.old threads.new result }
-{
-    let after = products.sizes;
-    if x.sender == x.receiver {
-        return Placed { fits: false, sizes };
+impl<const CELLS: usize> Tables<CELLS> {
+    // What both continuations make, the sender's first, and then the receiver's under the name disclosed, which takes the next cell.
+    #[tactic(auto, using(crate::proofs::ExchangeSteps::both_steps))]
+    fn make_both(&mut self, forms: &[usize], x: Exchange, sizes: Sizes) -> BothMade
+        ensures threads { self.new.threads ≡ self.old.threads }
+        ensures known { self.new.known ≡ self.old.known }
+        ensures made { MakesBoth forms.now x sizes self.old self.new result }
+    {
+        let first = make_process(
+            forms,
+            x.mine,
+            sizes,
+            &mut self.made,
+            &mut self.types,
+            &mut self.cells,
+        );
+        bind(&mut self.cells, first.cells, x.theirs.env, x.sent);
+        let theirs = under_cell(x.theirs, first.cells);
+        let begun = with_cell(first);
+        let all = make_process(
+            forms,
+            theirs,
+            begun,
+            &mut self.made,
+            &mut self.types,
+            &mut self.cells,
+        );
+        BothMade {
+            mine: first.threads,
+            sizes: all,
+        }
     }
-    if after.threads < products.mine {
-        return Placed { fits: false, sizes };
-    }
-    let kept = sizes.threads - 2;
-    if !has_room(kept, after) {
-        return Placed { fits: false, sizes };
-    }
-    put_two(threads, sizes, x, made, products)
-}
 
-// Replaces a sender and a receiver by what their continuations make.
-pub fn exchange(
-    forms: &[usize],
-    x: Exchange,
-    sizes: Sizes,
-    threads: &mut [usize],
-    made: &mut [usize],
-    types: &mut [u32],
-    cells: &mut [u32],
-) -> Placed
-    requires { (x.sender < sizes.threads) × (x.receiver < sizes.threads)
-        × Tables sizes threads.old made.old types.old cells.old }
-    ensures { Exchanging forms.now x sizes threads.old types.old cells.old
-        threads.new types.new cells.new result }
-{
-    let before = none_made(sizes);
-    let products = make_both(forms, x, before, made, types, cells);
-    put_both(threads, sizes, x, made, products)
+    /// Replaces a sender and a receiver by what their continuations make; the sizes afterwards, if there is room (35).
+    pub fn exchange(&mut self, forms: &[usize], x: Exchange, sizes: Sizes) -> Option<Sizes>
+        requires there { (x.sender < sizes.threads) × (x.receiver < sizes.threads) }
+        requires few { sizes.threads ≤ 64 }
+        requires cells { CELLS ≤ 2304 }
+        ensures known { self.new.known ≡ self.old.known }
+        ensures exchanged { Exchanging forms.now x sizes self.old self.new result }
+    {
+        let before = none_made(sizes);
+        let products = self.make_both(forms, x, before);
+        put_both(&mut self.threads, sizes, x, &self.made, products)
+    }
 }

@@ -1,7 +1,4 @@
 // What follows an act of a run: a thread's prefix, its continuation, and what that makes, put in the thread's place.
-//
-// Four tables are lent: `threads`, the threads in order; `made`, room for what a move makes; `types`, the type of each name
-// given so far; and `cells`, the run names of the binders passed.
 #![tactic(auto)]
 
 pub mod exchanging;
@@ -12,32 +9,37 @@ pub mod widening;
 use memory::Thread;
 use products::Sizes;
 
-// A send or receive in front of a thread: its channel, what it sends or the type that it binds, and the place of its continuation.
-#[derive(Clone, Copy)]
+/// The tables of a run: `threads`, the threads in order; `made`, room for what a move makes; `types`, the type of each name given so
+/// far; `known`, which names are known to the environment; and `cells`, the run names of the binders passed. How many of each are in
+/// use stands beside them, in `Sizes`, which a register holds and not memory.
+#[derive(Drop)]
+pub struct Tables<const CELLS: usize> {
+    pub threads: [usize; 128],
+    pub made: [usize; 128],
+    pub types: [u32; 1024],
+    pub known: [bool; 1024],
+    pub cells: [u32; CELLS],
+}
+
+/// A send or receive in front of a thread: the run name of its channel, what it sends or the type that it binds, and the place of
+/// its continuation.
+#[derive(Clone, Copy, PartialEq, Eq, Debug)]
 pub struct Action {
     pub channel: usize,
     pub object: usize,
     pub next: usize,
 }
 
-// The prefix of a thread (document 01: the form it stands at).
-#[derive(Clone, Copy)]
+/// The prefix of a thread that a move can act on (document 01: the form it stands at); a repeat has the place of what it repeats.
+#[derive(Clone, Copy, PartialEq, Eq, Debug)]
 pub enum Prefix {
-    Nothing,
     Repeats(usize),
     Receives(Action),
     Sends(Action),
 }
 
-// Whether a move's products have room, and the sizes afterwards.
-#[derive(Clone, Copy)]
-pub struct Placed {
-    pub fits: bool,
-    pub sizes: Sizes,
-}
-
-// Two threads that communicate: their indices, the continuations of both, and the name disclosed. The receiver's continuation does not yet
-// have that name in scope.
+/// Two threads that communicate: their indices, the continuations of both, and the name disclosed. The receiver's continuation does
+/// not yet have that name in scope.
 #[derive(Clone, Copy)]
 pub struct Exchange {
     pub sender: usize,
@@ -47,15 +49,15 @@ pub struct Exchange {
     pub sent: usize,
 }
 
-// What a communication makes: how many threads are the sender's, and the sizes with both continuations' products.
+/// What a communication makes: how many threads are the sender's, and the sizes with both continuations' products.
 #[derive(Clone, Copy)]
 pub struct BothMade {
     pub mine: usize,
     pub sizes: Sizes,
 }
 
-// Threads that were made, for the place of one: its index, the first of them in their table, and how many they are.
-#[derive(Clone, Copy)]
+/// Threads that were made, for the place of one: its index, the first of them in their table, and how many they are.
+#[derive(Clone, Copy, PartialEq, Eq, Debug)]
 pub struct Part {
     pub at: usize,
     pub first: usize,

@@ -8,18 +8,18 @@ use crate::{Action, Prefix};
 use decoding::words::item_at;
 use memory::Thread;
 use memory::chains::name_at;
-use memory::threads::unpack;
 use reading::{Act, Form};
 
-// The thread at an index, which must be one.
+/// The thread at an index, which must be one.
 pub fn thread_at(threads: &[usize], i: usize) -> Thread
     requires { i < length threads.now }
     ensures { result ≡ unpacked (get_or threads.now i 0) }
 {
-    unpack(threads[i])
+    Thread::unpack(threads[i])
 }
 
 // A receive, with the run name of its channel.
+#[tactic(auto, using(crate::proofs::PrefixSteps::prefix_steps))]
 fn receives(act: Act, next: usize, t: Thread, cells: &[u32]) -> Prefix
     ensures { result ≡ Prefix.Receives (record {
       channel = get_or (chain cells.now t.names t.env) act.channel 65535;
@@ -35,6 +35,7 @@ fn receives(act: Act, next: usize, t: Thread, cells: &[u32]) -> Prefix
 }
 
 // A send, with the run names of its channel and of what it sends.
+#[tactic(auto, using(crate::proofs::PrefixSteps::prefix_steps))]
 fn sends(act: Act, next: usize, t: Thread, cells: &[u32]) -> Prefix
     ensures { result ≡ Prefix.Sends (record {
       channel = get_or (chain cells.now t.names t.env) act.channel 65535;
@@ -49,44 +50,31 @@ fn sends(act: Act, next: usize, t: Thread, cells: &[u32]) -> Prefix
     })
 }
 
-// The prefix of a thread, with run names for its own.
-pub fn prefix_of(forms: &[usize], t: Thread, cells: &[u32]) -> Prefix
+/// The prefix of a thread, with run names for its own; none where no move can act on what it begins with.
+#[tactic(auto, using(crate::proofs::PrefixSteps::prefix_steps))]
+pub fn prefix_of(forms: &[usize], t: Thread, cells: &[u32]) -> Option<Prefix>
     ensures { PrefixFound forms.now cells.now t result }
 {
     if t.nest == 0 {
-        return Prefix::Nothing;
+        return None;
     }
     let item = item_at(forms, t.at);
-    let next = item.next;
-    let form = item.form;
-    match form {
-        Form::Nil => Prefix::Nothing,
-        Form::Par => Prefix::Nothing,
-        Form::New(_) => Prefix::Nothing,
-        Form::Input(act) => receives(act, next, t, cells),
-        Form::Output(act) => sends(act, next, t, cells),
-        Form::Replicate => Prefix::Repeats(next),
-        Form::Group(_) => Prefix::Nothing,
-        Form::Component(_) => Prefix::Nothing,
+    match item.form {
+        Form::Input(act) => Some(receives(act, item.next, t, cells)),
+        Form::Output(act) => Some(sends(act, item.next, t, cells)),
+        Form::Replicate => Some(Prefix::Repeats(item.next)),
+        _ => None,
     }
 }
 
-// One less, or nothing.
-fn less(nest: usize) -> usize
-    ensures { result ≡ nest - 1 }
-{
-    if nest == 0 { 0 } else { nest - 1 }
-}
-
-// What follows at `next`, under the same names.
+/// What follows at `next`, under the same names.
+#[tactic(auto, using(crate::proofs::PrefixSteps::prefix_steps))]
 pub fn continuation(t: Thread, next: usize) -> Thread
     ensures { result ≡ continuation_of t next }
 {
     Thread {
-        component: t.component,
-        env: t.env,
-        names: t.names,
-        nest: less(t.nest),
+        nest: t.nest.saturating_sub(1),
         at: next % 8192,
+        ..t
     }
 }

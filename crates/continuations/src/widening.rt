@@ -5,7 +5,8 @@ ghost use Rattle.continuations.specs.Places.{under_cell, with_cell};
 use memory::Thread;
 use products::Sizes;
 
-// A process under one name more, in cell `cell`.
+/// A process under one name more, in cell `cell`; the same where no more names can be in scope.
+#[tactic(auto, using(crate::proofs::WidenSteps::widen_steps))]
 pub fn under_cell(t: Thread, cell: usize) -> Thread
     ensures { result ≡ under_cell t cell }
 {
@@ -13,15 +14,14 @@ pub fn under_cell(t: Thread, cell: usize) -> Thread
         return t;
     }
     Thread {
-        component: t.component,
         env: cell,
         names: t.names + 1,
-        nest: t.nest,
-        at: t.at,
+        ..t
     }
 }
 
-// The sizes with one cell more.
+/// The sizes with one cell more; the same where all cells are in use.
+#[tactic(auto, using(crate::proofs::WidenSteps::widen_steps))]
 pub fn with_cell(sizes: Sizes) -> Sizes
     ensures { result ≡ with_cell sizes }
 {
@@ -29,8 +29,7 @@ pub fn with_cell(sizes: Sizes) -> Sizes
         return sizes;
     }
     Sizes {
-        threads: sizes.threads,
-        names: sizes.names,
         cells: sizes.cells + 1,
+        ..sizes
     }
 }

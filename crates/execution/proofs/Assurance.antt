@@ -12,7 +12,7 @@ use Rattle.reading.specs.Read.{Read, got, refused}
 use Rattle.service.specs.Questions.{Asked, passed, failed, ask, after_reading, Accepted, judged}
 use Rattle.service.specs.Check.{interface_for, written, checked}
 use Rattle.service.specs.Told.{Checked}
-use Rattle.service.specs.declared.Answer.TheVariants as answer_case
+use Rattle.std.specs.Prelude.{Ok}
 use Rattle.running.specs.State.{State}
 use Rattle.running.specs.Products.{start}
 use Rattle.running.specs.Moves.{Move, unfold_repl, send_out, receive_in, communicate, environment_name, Result, refuses, guard, given, word, record_of, taken, unfold_step, send_step, receive_step, communicate_step, environment_step, step, state_after, record_bytes, has_room, run_log}
@@ -29,7 +29,7 @@ never : {R : Type 0} {A : Type 0} {n : ℕ} {a : A} → failed n ≡ passed a �
 never e = let z : ◌≡◌ {A = ℕ} 0 1 = cc in absurd (omega arith)
 
 -- If `check` answers accepted.
-pub check_assures : (sheet charter output output' : List ℕ) (n : ℕ) → Checked sheet charter output output' (answer_case.Accepted n) → Assured sheet charter
+pub check_assures : (sheet charter output output' : List ℕ) (n : ℕ) → Checked sheet charter output output' (Ok n) → Assured sheet charter
 unfolding checked interface_for written
 check_assures sheet charter output output' n c = go (judged sheet charter) refl c.answer
   where
@@ -76,7 +76,7 @@ run_length s (m ∷ ms) =
     ∙ omega (arith, (eight_step s m).long, run_length (state_after s (step s m)) ms)
 
 -- Whatever `play` logs.
-pub play_assures : (sheet charter script log log' : List ℕ) (n : ℕ) → Played sheet charter script log log' (answer_case.Accepted n)
+pub play_assures : (sheet charter script log log' : List ℕ) (n : ℕ) → Played sheet charter script log log' (Ok n)
     → AssuredRun sheet charter script log log' n
 unfolding played opened opened_from logged outcome_of ask after_reading assured
 play_assures sheet charter script log log' n p = judging (judged sheet charter) refl p.answer p.lent

@@ -12,12 +12,14 @@ use Rattle.reading.specs.Read.{got}
 use Rattle.reading.specs.Syntax.{Sheet}
 use Rattle.reading.specs.System.{read_sheet}
 use Rattle.reading.proofs.TreeLaws.{sheet_parts}
-use Rattle.service.specs.Questions.{passed, failed, ask, after_reading, judged}
-use Rattle.service.specs.Told.{first_failed}
-use Rattle.service.specs.declared.Answer.{Answer}
-use Rattle.service.specs.declared.Answer.TheVariants as answer_case
+use Rattle.service.specs.Questions.{passed, ask, after_reading, judged}
+use Rattle.service.specs.Told.{fault_number, first_failed}
+use Rattle.std.specs.Prelude.{Option, Some, None, Result as Answer, Ok, Err, IfOk}
+use Rattle.reading.specs.declared.Question.{Question}
+use Rattle.reading.specs.declared.Question.TheVariants as question
 use Rattle.service.proofs.JudgeSteps.{sheet_reads}
-use Rattle.service.proofs.FirstLaws.{Passed, first_passes, first_fails}
+use Rattle.service.proofs.FirstLaws.{Passed}
+use Rattle.service.proofs.CheckSteps.{judged_fails, judged_passes}
 use Rattle.running.specs.State.{State}
 use Rattle.running.specs.Products.{start}
 use Rattle.running.specs.Moves.{Move, has_room, run_log}
@@ -26,11 +28,12 @@ use Rattle.running.specs.Play.{opened_from, opened, logged, outcome_of, played}
 use Rattle.script.specs.Told.{moves_in}
 use Rattle.script.proofs.ScriptLaws.{script_moves}
 use Rattle.script.proofs.CountSteps.{Counted, script_counted, script_refused}
-use Rattle.products.specs.Held.{Holds}
+use Rattle.continuations.specs.declared.Tables.{Tables}
+use Rattle.continuations.specs.Places.{Holding}
 use Rattle.products.specs.Starts.{Blank, Starts}
 use Rattle.products.specs.declared.Sizes.{Sizes}
 use Rattle.execution.specs.Told.{Played}
-use Rattle.execution.specs.Begins.{Reads, begun, start_of, listed, moves_of, ran_over, scripted, played_script, played_from, Comes, Standing, Enough, Lent}
+use Rattle.execution.specs.Begins.{Reads, begun, start_of, listed, moves_of, ran_over, scripted, played_script, played_from, Comes, Standing, Enough}
 use Rattle.execution.specs.Runs.{Going, Ongoing}
 use Rattle.execution.specs.declared.Point.{Point}
 
@@ -39,52 +42,59 @@ moves_are : (script : List ℕ) {ms : List Move} {e : ℕ} → read_script scrip
 unfolding moves_of listed
 moves_are script h = rw h
 
-module _ (script log : List ℕ) (n : ℕ) (h : n ≡ moves_in (read_script script)) where
-  refused_so : (begin : State) → n ≡ 65535 → Comes (played_script begin script log) log (answer_case.Refused 21)
+module _ (script log : List ℕ) (r : Answer ℕ Question) (h : r ≡ moves_in (read_script script)) where
+  refused_so : (begin : State) (q : Question) → r ≡ Err q → Comes (played_script begin script log) log r
   unfolding played_script scripted logged outcome_of after_reading
-  refused_so begin k = let f = (script_refused script h k).1 in record { answer = rw f; lent = rw f }
+  refused_so begin q k =
+      let f = script_refused script h k in
+      let is : r ≡ Err question.Script = k ∙ ap (λ (x : Question). Err x) f.0 in
+      rw is (record { answer = rw f.1.1 refl; lent = rw f.1.1 refl })
 
-  module _ (read : n ≡ 65535 → ⊥) where
+  module _ (n : ℕ) (read : r ≡ Ok n) where
     counted : Counted script n
     counted = script_counted script h read
 
     -- Question 22.
-    short_so : (begin : State) → length log / 8 < n → Comes (played_script begin script log) log (answer_case.Refused 22)
+    short_so : (begin : State) → length log / 8 < n → Comes (played_script begin script log) log (Err question.Log)
     unfolding played_script scripted logged outcome_of after_reading ask
     short_so begin k =
         let c = counted in
         let t : leb (8 * length c.moves) (length log) ≡ false = lt-leb (8 * length c.moves) (length log) (omega (arith, c.count)) in
-        record { answer = rw (c.is, t); lent = rw (c.is, t) }
+        record { answer = rw (c.is, t) refl; lent = rw (c.is, t) refl }
 
     -- The run.
     written_so : (begin : State) (log' : List ℕ) → n ≤ length log / 8 → log' ≡ ran_over (run_log begin (moves_of script)) log
-        → Comes (played_script begin script log) log' (answer_case.Accepted n)
+        → Comes (played_script begin script log) log' (Ok n)
     unfolding played_script scripted logged outcome_of after_reading ask ran_over
     written_so begin log' k w =
         let c = counted in
         let t : leb (8 * length c.moves) (length log) ≡ true = le-leb (8 * length c.moves) (length log) (omega (arith, c.count)) in
         record { answer = rw (c.is, t) (ap passed (sym c.count)); lent = rw (c.is, t) (rw (moves_are script c.is) at w) }
 
--- The same for every state that memory holds.
-module _ (forms script log threads types : List ℕ) (known : List Bool) (cells : List ℕ) (z : Sizes) (n : ℕ) (h : n ≡ moves_in (read_script script)) where
-  abbrev PlayedSo : List ℕ → Answer → Type 0
-  PlayedSo log' a = (state : State) → Holds forms z 1 threads types known cells state → Comes (played_script state script log) log' a
+-- The same for every state that the tables hold.
+module _ {m : ℕ} (forms script log : List ℕ) (tables : Tables m) (z : Sizes) (r : Answer ℕ Question) (h : r ≡ moves_in (read_script script)) where
+  abbrev PlayedSo : List ℕ → Answer ℕ Question → Type 0
+  PlayedSo log' a = (state : State) → Holding forms z 1 tables state → Comes (played_script state script log) log' a
 
   abbrev first_point : Point
   first_point = record { at = 0; done = 0; sizes = z }
 
-  pub script_fails : n ≡ 65535 → PlayedSo log (answer_case.Refused 21)
-  script_fails k state holds = refused_so script log n h state k
+  pub script_fails : ((n : ℕ) → r ≡ Ok n → ⊥) → PlayedSo log r
+  script_fails not state holds = go r refl
+    where
+      go : (x : Answer ℕ Question) → r ≡ x → Comes (played_script state script log) log r
+      go (Ok n) e = absurd (not n e)
+      go (Err q) e = refused_so script log r h state q e
 
-  module _ (read : n ≡ 65535 → ⊥) where
-    pub log_short : length log / 8 < n → PlayedSo log (answer_case.Refused 22)
-    log_short k state holds = short_so script log n h read state k
+  module _ (n : ℕ) (read : r ≡ Ok n) where
+    pub log_short : length log / 8 < n → PlayedSo log (Err question.Log)
+    log_short k state holds = short_so script log r h n read state k
 
     module _ (k : n ≤ length log / 8) where
-      begins_so : (state : State) → Holds forms z 1 threads types known cells state
-          → Going forms script (run_log state (moves_of script)) n first_point log threads types known cells
+      begins_so : (state : State) → Holding forms z 1 tables state
+          → Going forms script (run_log state (moves_of script)) n first_point log tables
       begins_so state holds =
-          let c = counted script log n h read in
+          let c = counted script log r h n read in
           let same = moves_are script c.is in
           let told = script_moves script c.is in
           record {
@@ -98,27 +108,28 @@ module _ (forms script log threads types : List ℕ) (known : List Bool) (cells 
             room = omega arith;
           }
 
-      pub run_begins : Standing forms z threads types known cells → Ongoing forms script n first_point log threads types known cells
+      pub run_begins : Standing forms z tables → Ongoing forms script n first_point log tables
       run_begins held = record { run = run_log held.state (moves_of script); going = begins_so held.state held.holds }
 
       pub log_written : (log' : List ℕ)
-          → ((run : List ℕ) → Going forms script run n first_point log threads types known cells → log' ≡ ran_over run log)
-          → PlayedSo log' (answer_case.Accepted n)
+          → ((run : List ℕ) → Going forms script run n first_point log tables → log' ≡ ran_over run log)
+          → PlayedSo log' (Ok n)
       log_written log' w state holds =
-          written_so script log n h read state log' k (w (run_log state (moves_of script)) (begins_so state holds))
+          written_so script log r h n read state log' k (w (run_log state (moves_of script)) (begins_so state holds))
 
 -- The moves counted have their cells.
-pub counted_enough : (n : ℕ) (script cells : List ℕ) → ((n ≡ 65535 → ⊥) → (n ≤ 1024) × (n ≤ length script)) → (n ≡ 65535 → ⊥)
-    → Enough script cells → n + 1029 ≤ length cells
+pub counted_enough : (r : Answer ℕ Question) (n : ℕ) (script : List ℕ) (cells : ℕ) → IfOk r (λ m. (m ≤ 1024) × (m ≤ length script)) → r ≡ Ok n
+    → Enough script cells → n + 1029 ≤ cells
 unfolding Enough
-counted_enough n script cells few read enough = let k = few read in omega (arith, k.0, k.1)
+counted_enough r n script cells few is enough = let k : (n ≤ 1024) × (n ≤ length script) = rw is at few in omega (arith, k.0, k.1)
 
 pub ruleset script_steps = (rules, script_fails, log_short, log_written, run_begins, counted_enough)
 
 -- Question 20.
-module _ (s script log : List ℕ) (reads : Reads s) (forms threads types : List ℕ) (known : List Bool) (cells : List ℕ) (z : Sizes)
-    (starts : (sheet : Sheet) (end : ℕ) → length s ≤ 4096 → read_sheet s ≡ got sheet end → Starts forms sheet threads types known cells z) where
-  here : Starts forms reads.tree threads types known cells z
+module _ {m : ℕ} (s script log : List ℕ) (reads : Reads s) (forms : List ℕ) (tables : Tables m) (z : Sizes)
+    (starts : (sheet : Sheet) (end : ℕ) → length s ≤ 4096 → read_sheet s ≡ got sheet end
+    → Starts forms sheet tables.threads tables.types tables.known tables.cells z) where
+  here : Starts forms reads.tree tables.threads tables.types tables.known tables.cells z
   here = starts reads.tree reads.end reads.short reads.reads
 
   begins : start_of s ≡ start reads.tree
@@ -129,28 +140,28 @@ module _ (s script log : List ℕ) (reads : Reads s) (forms threads types : List
   both true b h = h
   both false b h = refl
 
-  no_room : has_room (start_of s) ≡ false → Comes (played_from (start_of s) script log) log (answer_case.Refused 20)
+  no_room : has_room (start_of s) ≡ false → Comes (played_from (start_of s) script log) log (Err question.Start)
   unfolding played_from logged outcome_of ask
-  no_room h = record { answer = rw h; lent = rw h }
+  no_room h = record { answer = rw h refl; lent = rw h refl }
 
-  pub crowded : 64 < z.threads → Comes (played_from (start_of s) script log) log (answer_case.Refused 20)
+  pub crowded : 64 < z.threads → Comes (played_from (start_of s) script log) log (Err question.Start)
   unfolding has_room
   crowded h = no_room (rw (begins, lt-leb (length (start reads.tree).threads) 64 (omega (arith, here.crowded))))
 
-  pub overnamed : 1024 < z.names → Comes (played_from (start_of s) script log) log (answer_case.Refused 20)
+  pub overnamed : 1024 < z.names → Comes (played_from (start_of s) script log) log (Err question.Start)
   unfolding has_room
   overnamed h =
       let t = lt-leb (length (start reads.tree).types) 1024 (omega (arith, here.named)) in
       no_room (rw begins (both (leb (length (start reads.tree).threads) 64) (leb (length (start reads.tree).types) 1024) t))
 
-  start_holds : z.threads ≤ 64 → z.names ≤ 1024 → Holds forms z 1 threads types known cells (start_of s)
+  start_holds : z.threads ≤ 64 → z.names ≤ 1024 → Holding forms z 1 tables (start_of s)
   start_holds h k = rw begins (here.holds h k)
 
-  pub start_stands : z.threads ≤ 64 → z.names ≤ 1024 → Standing forms z threads types known cells
+  pub start_stands : z.threads ≤ 64 → z.names ≤ 1024 → Standing forms z tables
   start_stands h k = record { state = start_of s; holds = start_holds h k }
 
-  pub plays_on : z.threads ≤ 64 → z.names ≤ 1024 → (log' : List ℕ) (r : Answer)
-      → ((state : State) → Holds forms z 1 threads types known cells state → Comes (played_script state script log) log' r)
+  pub plays_on : z.threads ≤ 64 → z.names ≤ 1024 → (log' : List ℕ) (r : Answer ℕ Question)
+      → ((state : State) → Holding forms z 1 tables state → Comes (played_script state script log) log' r)
       → Comes (played_from (start_of s) script log) log' r
   unfolding played_from played_script ask has_room
   plays_on h k log' r c =
@@ -162,22 +173,7 @@ module _ (s script log : List ℕ) (reads : Reads s) (forms threads types : List
       ) in
       rw t (c (start_of s) (start_holds h k))
 
-pub tables_from : (s forms threads made types : List ℕ) (known : List Bool) (cells threads' made' types' : List ℕ) (known' : List Bool) (cells' : List ℕ)
-    → Blank s forms threads types known cells → length made ≡ 128 → length threads' ≡ length threads → length made' ≡ length made
-    → length types' ≡ length types → length known' ≡ length known → length cells' ≡ length cells → Lent threads' made' types' known' cells'
-tables_from s forms threads made types known cells threads' made' types' known' cells' b m th ma ty k ce = record {
-  thread_room = th ∙ b.thread_room;
-  made_room = ma ∙ m;
-  type_room = ty ∙ b.type_room;
-  cell_room = omega (arith, ce, b.cell_few);
-  known_room = k ∙ b.known_room;
-}
-
-pub still_enough : (script cells cells' : List ℕ) → Enough script cells → length cells' ≡ length cells → Enough script cells'
-unfolding Enough
-still_enough script cells cells' h same = omega arith
-
-pub ruleset start_steps = (rules, crowded, overnamed, start_stands, plays_on, tables_from, still_enough)
+pub ruleset start_steps = (rules, crowded, overnamed, start_stands, plays_on)
 
 -- New tables.
 all_false : (n i : ℕ) → get_or (replicate n false) i false ≡ false
@@ -197,25 +193,23 @@ new_tables s forms n h least most = record {
   unknown = all_false 1024;
 }
 
-pub few_enough : (script : List ℕ) → length script ≤ 240 → Enough script (replicate 1280 0)
+pub few_enough : (script : List ℕ) → length script ≤ 240 → Enough script 1280
 unfolding Enough
-few_enough script h = omega (arith, length-replicate {A = ℕ} 1280 0)
+few_enough script h = omega arith
 
-pub all_enough : (script : List ℕ) → Enough script (replicate 2304 0)
+pub all_enough : (script : List ℕ) → Enough script 2304
 unfolding Enough
-all_enough script = omega (arith, length-replicate {A = ℕ} 2304 0)
+all_enough script = omega arith
 
 -- Questions 1 to 18.
-module _ (s c : List ℕ) (n : ℕ) (first : n ≡ first_failed (judged s c)) where
-  pub refuses : (script log : List ℕ) → n < 64 → Played s c script log log (answer_case.Refused n)
+module _ (s c : List ℕ) (fault : Option Question) (first : fault_number fault ≡ first_failed (judged s c)) where
+  pub refuses : (script log : List ℕ) (q : Question) → fault ≡ Some q → Played s c script log log (Err q)
   unfolding played opened opened_from logged outcome_of
-  refuses script log h =
-      let e : judged s c ≡ failed n = first_fails s c (omega (arith, first)) ∙ ap failed (sym first) in
-      record { answer = rw e; lent = rw e }
+  refuses script log q h = let e = judged_fails s c fault first q h in record { answer = rw e refl; lent = rw e refl }
 
-  module _ (h : 64 ≤ n) where
+  module _ (h : fault ≡ None) where
     accepted : Passed s c
-    accepted = first_passes s c (omega (arith, first))
+    accepted = judged_passes s c fault first h
 
     read_so : read_sheet s ≡ got accepted.accepted.sheet accepted.end
     read_so = sheet_reads s c accepted.accepted.sheet accepted.end accepted.reads
@@ -232,7 +226,7 @@ module _ (s c : List ℕ) (n : ℕ) (first : n ≡ first_failed (judged s c)) wh
     unfolding start_of begun
     starts_so = rw read_so
 
-    pub plays : (script log log' : List ℕ) (r : Answer) → Comes (played_from (start_of s) script log) log' r → Played s c script log log' r
+    pub plays : (script log log' : List ℕ) (r : Answer ℕ Question) → Comes (played_from (start_of s) script log) log' r → Played s c script log log' r
     unfolding played opened opened_from played_from scripted
     plays script log log' r d =
         let w = rw starts_so at d in

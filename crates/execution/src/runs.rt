@@ -1,77 +1,60 @@
 // A run under a script: a move a turn, and its record of eight bytes.
-ghost use Rattle.std.specs.Prelude.{◌≡◌, List, ℕ, ◌+◌, ◌<◌, ◌≤◌, length};
-ghost use Rattle.execution.specs.Begins.{ran_over, Lent};
+ghost use Rattle.std.specs.Prelude.{◌≡◌, List, ℕ, ◌+◌, ◌<◌, ◌≤◌};
+ghost use Rattle.execution.specs.Begins.{ran_over};
 ghost use Rattle.execution.specs.Runs.{Going, Ongoing, Turned};
 
-use crate::Point;
-use script::MoveRead;
+use crate::{Course, Point};
+use continuations::Tables;
 use script::moves::move_at;
 use script::records::write_record;
 use transitions::moves::step;
+use transitions::outcomes::logged;
 
-// Makes the next of `count` moves and writes its record.
-fn turn(
-    forms: &[usize],
-    script: &[u8],
-    count: usize,
+// Makes the next move and writes its record.
+#[tactic(auto, using(crate::proofs::RunSteps::turn_steps))]
+fn turn<const CELLS: usize>(
+    tables: &mut Tables<CELLS>,
+    course: Course<'_>,
     p: Point,
     log: &mut [u8],
-    threads: &mut [usize],
-    made: &mut [usize],
-    types: &mut [u32],
-    known: &mut [bool],
-    cells: &mut [u32],
 ) -> Point
-    requires { Ongoing forms.now script.now count p log.old threads.old types.old known.old cells.old
-        × Lent threads.old made.old types.old known.old cells.old × (p.done < count) × (count + 1029 ≤ length cells.old) }
-    ensures { (run : List ℕ)
-        → Going forms.now script.now run count p log.old
-        threads.old types.old known.old cells.old
-        → Turned forms.now script.now run count p
-        log.old log.new threads.new types.new known.new cells.new result }
+    requires ongoing { Ongoing course.forms.now course.script.now course.count p log.old tables.old }
+    requires left { p.done < course.count }
+    requires cells { CELLS ≤ 2304 }
+    requires enough { course.count + 1029 ≤ CELLS }
+    ensures { (run : List ℕ) → Going course.entry.forms.now course.entry.script.now run course.entry.count p log.old tables.old
+        → Turned course.entry.forms.now course.entry.script.now run course.entry.count p log.old log.new tables.new result }
 {
-    let at = p.done * 8;
-    let done = p.done + 1;
-    let read = move_at(script, p.at);
-    let MoveRead::Found(found) = read else {
+    let read = move_at(course.script, p.at);
+    let Ok(found) = read else {
         return p;
     };
-    let next = found.next;
-    let m = found.step;
-    let moved = step(forms, m, p.sizes, threads, made, types, known, cells);
-    let sizes = moved.sizes;
-    write_record(log, at, moved.line);
+    let outcome = step(tables, course.forms, found.step, p.sizes);
+    let moved = logged(outcome, p.sizes);
+    write_record(log, p.done * 8, moved.line);
     Point {
-        at: next,
-        done,
-        sizes,
+        at: found.next,
+        done: p.done + 1,
+        sizes: moved.sizes,
     }
 }
 
-// Makes the moves left of `count` moves.
-pub fn run(
-    forms: &[usize],
-    script: &[u8],
-    count: usize,
+/// Makes the moves that are left, and writes their records.
+#[tactic(auto, using(crate::proofs::RunSteps::run_steps))]
+pub fn run<const CELLS: usize>(
+    tables: &mut Tables<CELLS>,
+    course: Course<'_>,
     begin: Point,
     log: &mut [u8],
-    threads: &mut [usize],
-    made: &mut [usize],
-    types: &mut [u32],
-    known: &mut [bool],
-    cells: &mut [u32],
 )
-    requires { Ongoing forms.now script.now count begin log.old threads.old types.old known.old cells.old
-        × Lent threads.old made.old types.old known.old cells.old × (count + 1029 ≤ length cells.old) }
-    ensures { (run : List ℕ)
-        → Going forms.now script.now run count begin log.old
-        threads.old types.old known.old cells.old
+    requires ongoing { Ongoing course.forms.now course.script.now course.count begin log.old tables.old }
+    requires cells { CELLS ≤ 2304 }
+    requires enough { course.count + 1029 ≤ CELLS }
+    ensures { (run : List ℕ) → Going course.entry.forms.now course.entry.script.now run course.entry.count begin log.old tables.old
         → log.new ≡ ran_over run log.old }
 {
     let mut p = begin;
-    while p.done < count {
-        p = turn(
-            forms, script, count, p, log, threads, made, types, known, cells,
-        );
+    while p.done < course.count {
+        p = turn(tables, course, p, log);
     }
 }

@@ -49,7 +49,8 @@ use Rattle.wellformed.specs.Faults.{policy_fault}
 use Rattle.fit.specs.Satisfies.{has_tree, path_reached, covered}
 use Rattle.fit.specs.Faults.{entry_fault, entries_fault}
 use Rattle.fit.specs.Uncovered.{first, first_missing, Uncovered, or_further, first_uncovered}
-use Rattle.fit.proofs.EntryLaws.{is_none, missing_first}
+use Rattle.fit.proofs.EntryLaws.{missing_first}
+use Rattle.fit.proofs.EntrySteps.{is_none}
 use Rattle.fit.proofs.SearchLaws.{uncovered_none}
 use Rattle.naming.specs.Names.{Names, read_names}
 use Rattle.naming.specs.Sentence.{sentence, group_in_range, Numbered}

@@ -1,6 +1,6 @@
 -- What each return of the service has to show, over plain values: that its answer and what it leaves in the line are those of the
 -- definition, from what questions 1 to 18 came to and the tables that they left.
-use Prim.Native.Nat.{ℕ, ◌<◌, ◌≤◌}
+use Prim.Native.Nat.{ℕ, ◌<◌}
 use mathlib.Core.Path.{◌≡◌, refl, sym, ap, ◌∙◌}
 use mathlib.Core.List.{List}
 use mathlib.Core.Option.{Option}
@@ -8,7 +8,7 @@ use Rattle.std.specs.Prelude.{None, Some, Result, Ok, Err}
 use Rattle.std.specs.Prelude.{Option as Answer}
 use native.Mathlib.Omega.{arith}
 use borrow.Author.Rules.{rules}
-use borrow.Author.Tests.{ne_eqb, lt-ltb, le-ltb}
+use borrow.Author.Tests.{ne_eqb}
 use Rattle.reading.specs.Read.{Read, got, refused}
 use Rattle.reading.specs.Syntax.{Sheet}
 use Rattle.reading.proofs.Parts.{never}
@@ -39,7 +39,7 @@ use Rattle.service.specs.Check.{written}
 use Rattle.service.specs.Told.{fault_number, Reads, Ready, HoldsPolicy, Delivered, Judges}
 use Rattle.service.specs.declared.Judged.{Judged}
 use Rattle.service.proofs.CheckSteps.{judged_fails, judged_passes}
-use Rattle.service.proofs.JudgeSteps.{unread_failed, few_ready, all_ready}
+use Rattle.service.proofs.JudgeSteps.{no_question, unread_failed, few_ready, all_ready}
 use Rattle.slack.specs.Told.{Tells}
 use Rattle.slack.proofs.TellSteps.{unread_refused}
 use Rattle.explaining.specs.Explain.{uncovered_in, said, explanation, explained}
@@ -110,10 +110,10 @@ other_number question.Purposes h e = omega arith
 
 -- From what questions 1 to 18 came to.
 module _ (sheet charter names table nodes : List ℕ) (j : Judged) (line : List ℕ) where
-  pub nothing_explained : j.fault ≡ None → Reads sheet charter → Judges sheet charter table nodes j → Explained sheet charter names line line (Ok 0)
+  pub nothing_explained : ((q : Question) → j.fault ≡ Some q → ⊥) → Reads sheet charter → Judges sheet charter table nodes j → Explained sheet charter names line line (Ok 0)
   unfolding explained explanation written
   nothing_explained h reads judges =
-      let p = judged_passes sheet charter j.fault judges.first h in
+      let p = judged_passes sheet charter j.fault judges.first (no_question j.fault h) in
       record { answer = rw p.passes refl; lent = rw p.passes refl }
 
   pub other_question : (q : Question) → j.fault ≡ Some q → (q ≡ question.Covered → ⊥) → Reads sheet charter → Judges sheet charter table nodes j

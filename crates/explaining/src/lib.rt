@@ -100,9 +100,9 @@ fn explain_judged(
     let Some(question) = judged.fault else {
         return Ok(0);
     };
-    if question != Question::Covered {
+    let Question::Covered = question else {
         return Err(question);
-    }
+    };
     let policy = Policy {
         charter,
         nodes,

@@ -1,4 +1,4 @@
-// What a policy grants of what an entry needs (document 02, Q-5): which needed flags are granted and, for each group disclosed to, the
+// What a policy grants of what an entry needs: which needed flags are granted and, for each group disclosed to, the
 // granted sum beside the needed one; and the first of them that is not covered.
 ghost use Rattle.std.specs.Prelude.{◌≡◌, List, ℕ, ◌<◌, ◌≤◌, ◌-◌, length, take};
 ghost use Rattle.inference.specs.Counts.{at_most};
@@ -129,7 +129,7 @@ impl<'a> Case<'a> {
         ensures few { result.sums.len ≤ 8 }
     {
         let policy = self.policy;
-        // Never so; said for the compiler, which then tests no index of the table again.
+        // Never so; said for speed: the compiler then tests no index of the table again.
         if policy.nodes.len() != 384 {
             return NOTHING;
         }

@@ -47,7 +47,7 @@ pub fn tree_of(trees: Trees, kind: usize) -> Option<Span>
 }
 
 // What the scan of a tree tells of a group: that it is not in the path, that no node of it is reached so far, or else the row of its first
-// node that is.
+// node that is; in a byte, of which the definitions `Marked` and `row_in` speak.
 const OUTSIDE: u8 = 65;
 
 const UNREACHED: u8 = 64;

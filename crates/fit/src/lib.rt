@@ -9,7 +9,8 @@ pub mod uncovered;
 
 use policy::Policy;
 
-/// What gives to a path: for each of its groups the row of the group's first reached node, or 64.
+/// What gives to a path: for each of its groups the row of the group's first reached node, or 64. (The definitions `giver_in` and
+/// `given_at` speak of rows by these numbers.)
 #[derive(Clone, Copy)]
 pub struct Givers {
     rows: [usize; 8],

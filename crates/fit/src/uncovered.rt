@@ -1,4 +1,4 @@
-// The first permission of an interface that the policy does not cover (document 02, Q-1): entries in order; read, write, access, then
+// The first permission of an interface that the policy does not cover: entries in order; read, write, access, then
 // disclose by group.
 ghost use Rattle.std.specs.Prelude.{◌≡◌, IfSome, List, cond, ℕ, ◌<◌, ◌≤◌};
 ghost use Rattle.std.proofs.Math.Option.{none};

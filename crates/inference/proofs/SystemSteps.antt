@@ -208,25 +208,4 @@ module _ (w v w' : Walker) (t : Grown Process) (names : ℕ) (own : OwnFields) (
     lent = h.lent ∙ lent;
   }
 
-pub ruleset system_steps = (
-  rules,
-  nest_left,
-  room_to_open,
-  no_form,
-  by_form,
-  new_opens,
-  group_opens,
-  group_small,
-  head_small,
-  head_opens,
-  head_number,
-  form_nil,
-  form_input,
-  form_output,
-  form_repl,
-  form_par,
-  form_new,
-  form_head,
-  form_group,
-  component_found,
-)
+pub ruleset system_steps = (rules, nest_left, room_to_open, new_opens, head_small, head_opens, head_number)

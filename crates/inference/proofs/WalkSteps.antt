@@ -5,7 +5,6 @@ use mathlib.Core.List.{List, [], ◌∷◌, ◌++◌, map}
 use mathlib.Core.Option.{Option, some}
 use mathlib.Core.Path.{◌≡◌, refl, sym, subst, ◌∙◌}
 use native.Mathlib.Omega.{arith}
-use borrow.Author.Rules.{rules}
 use lib.ListN.{length, take, set, get_or, get_elem?}
 use Rattle.std.specs.Prelude.{Result, Ok, Err}
 use Rattle.reading.proofs.TotalLaws.{process_step}
@@ -122,11 +121,6 @@ module _ (n : ℕ) (names at : ℕ) (c : Component) (b : Bool) (w v w' : Walker)
     lent = i.lent ∙ h.lent;
   })
 
--- A type that was read.
-pub type_found : (s : List ℕ) (at : ℕ) (r : Result Number Refusal) (t : Number) → r ≡ Ok t → number r ≡ type_at s at
-    → type_at s at ≡ got t.value t.next
-type_found s at r t f told = sym (rw f at told)
-
 -- The arms of the match on a code byte.
 module _ (w : Walker) (e : Context) (at nest names : ℕ) where
   abbrev s : List ℕ
@@ -229,22 +223,3 @@ module _ (w : Walker) (e : Context) (at nest names : ℕ) where
         par_walked l q left right =
             grown Par (at + 1) (par_at s at nest names deep here q) w' k
             (after_left (nest - 1) names (at + 1) (of_context e) e.repeated w v w' l k left right)
-
-pub ruleset walk_steps = (
-  rules,
-  no_nest,
-  no_byte,
-  at_nil,
-  at_no_code,
-  new_room,
-  input_room,
-  short_output,
-  untyped_new,
-  untyped_input,
-  type_found,
-  new_walked,
-  repl_walked,
-  input_walked,
-  output_walked,
-  par_walked,
-)

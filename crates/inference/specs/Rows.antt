@@ -1,4 +1,4 @@
--- The table of what components need: rows of 211 cells (src/rows.rt). Its cells are the counts that acts need together
+-- The table of what components need: rows of 211 cells (src/table.rt). Its cells are the counts that acts need together
 -- (`charged_count` of the crate interface's proofs/CellLaws.antt).
 use Rattle.std.specs.Prelude.{ℕ, zero, suc, ◌+◌, ◌*◌, ◌%◌, ◌<◌, min, ◌≡◌, List, [], ◌∷◌, map, Bool, true, false, cond, not, ◌&&◌, length, get_or, set, take, drop, ltb, eqb, Option, Some, None}
 use Rattle.needs.specs.declared.Need.{Need}

@@ -1,22 +1,18 @@
-// What is written into the table of what components need, and what is read back: `table` tells what stands in a row. Question 10 lets a
-// component disclose into the groups of its path alone.
+// What is written into the table of what components need; `table` tells what stands in a row, and reads it. Question 10 lets a component
+// disclose into the groups of its path alone.
 ghost use Rattle.std.specs.Prelude.{◌≡◌, ◌∷◌, ◌+◌, ◌-◌, ◌*◌, ◌%◌, ◌<◌, ◌≤◌, min, length, get_or, set};
 ghost use Rattle.reading.specs.Told.{path_of};
 ghost use Rattle.inference.specs.Rows.{
   bumped,
-  cell_of,
   charge,
   charge_cell,
   charge_column,
   found_group,
   found_place,
-  group_at,
   group_count,
   marked,
   next_group,
-  path_at,
   place_from,
-  purpose_at,
   rising_groups,
   stored,
   with_groups,
@@ -25,8 +21,8 @@ ghost use Rattle.inference.specs.Rows.{
 };
 
 use crate::table::{
-    ACCESSES, COLUMNS, GROUP_COUNT, GROUPS, HEAD, KINDS, MARK, PURPOSE, READS, ROW, UNLIMITED,
-    WRITES,
+    ACCESSES, GROUP_COUNT, GROUPS, KINDS, MARK, PURPOSE, READS, ROW, Row, UNLIMITED, WRITES,
+    cell_of,
 };
 use needs::Need;
 use reading::Path;
@@ -43,15 +39,6 @@ fn bump(count: u16, repeated: bool) -> u16
     } else {
         count
     }
-}
-
-/// The place of the cell of a component, a kind and a column.
-#[tactic(auto, using(crate::proofs::RowSteps::row_steps))]
-pub fn cell_of(component: usize, kind: usize, column: usize) -> usize
-    requires { (component < 32) × (kind < 16) × (column < 12) }
-    ensures { result ≡ cell_of component kind column }
-{
-    component * ROW + (HEAD + (kind * COLUMNS + column))
 }
 
 // Counts once in the cell of a component's row for a kind and a column.
@@ -89,34 +76,16 @@ fn charge_column(table: &mut [u16], component: usize, kind: usize, column: usize
     charge_cell(table, component, kind, column, repeated);
 }
 
-/// How many groups a component's path has.
-#[tactic(auto, using(crate::proofs::RowSteps::row_steps))]
-pub fn group_count(table: &[u16], component: usize) -> usize
-    requires { component < 32 }
-    ensures value { result ≡ group_count table.now component }
-    ensures few { result ≤ 8 }
-{
-    cell_at(table, component * ROW + GROUP_COUNT).min(GROUPS)
-}
-
-/// The group at a place among these groups, which rise.
-#[tactic(auto, using(crate::proofs::RowSteps::row_steps))]
-pub fn group_at(table: &[u16], component: usize, place: usize) -> usize
-    requires { (component < 32) × (place < 8) }
-    ensures { result ≡ group_at table.now component place }
-{
-    cell_at(table, component * ROW + (GROUP_COUNT + 1 + place))
-}
-
-// The place of a group among them, if it is one of them.
+// The place of a group among those of a component's path, if it is one of them.
 #[tactic(auto, using(crate::proofs::RowSteps::row_steps))]
 fn place_of(table: &[u16], component: usize, group: usize) -> Option<usize>
     requires { component < 32 }
     ensures { result ≡ found_place (place_from table.now component group 0 (group_count table.now component)) }
 {
-    let count = group_count(table, component);
+    let row = Row { table, component };
+    let count = row.group_count();
     for place in 0..count {
-        if group_at(table, component, place) == group {
+        if row.group_at(place) == group {
             return Some(place);
         }
     }
@@ -213,44 +182,11 @@ pub fn store_purpose(table: &mut [u16], component: usize, purpose: usize)
     put(table, component * ROW + PURPOSE, purpose);
 }
 
-/// The purpose in a component's row.
-#[tactic(auto, unfolding(crate::specs::Rows::purpose_at))]
-pub fn purpose_of(table: &[u16], component: usize) -> usize
-    requires { component < 32 }
-    ensures { result ≡ purpose_at table.now component }
-{
-    cell_at(table, component * ROW + PURPOSE)
-}
-
-/// What stands in a cell, 0 past the table's end.
-pub fn cell_at(table: &[u16], at: usize) -> usize
-    ensures { result ≡ get_or table.now at 0 }
-{
-    table.get(at).copied().unwrap_or(0) as usize
-}
-
-// Stores a number in a cell, where there is one.
+// Stores a number in a cell of 16 bits, where there is one.
 fn put(table: &mut [u16], at: usize, value: usize)
     ensures { table.new ≡ set table.old at (value % 65536) }
 {
     if at < table.len() {
         table[at] = (value % 65536) as u16;
-    }
-}
-
-/// The path in a component's row.
-#[tactic(auto, using(crate::proofs::PathRows::path_rows))]
-pub fn path_of(table: &[u16], component: usize) -> Path
-    requires { component < 32 }
-    ensures { path_of result ≡ path_at table.now component }
-{
-    let row = component * ROW;
-    let mut groups = [0u16; GROUPS];
-    for place in 0..GROUPS {
-        groups[place] = table.get(row + (1 + place)).copied().unwrap_or(0);
-    }
-    Path {
-        groups,
-        len: cell_at(table, row).min(table.len().saturating_sub(row + 1)),
     }
 }

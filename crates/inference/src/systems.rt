@@ -67,21 +67,14 @@ impl Walker<'_> {
         match form {
             Form::Nil => inner.at,
             Form::Par => {
-                let next = self.system(inner, path);
-                let rest = Spot {
-                    at: next,
-                    nest: inner.nest,
-                    names: inner.names,
-                };
+                let mut rest = inner;
+                rest.at = self.system(inner, path);
                 self.system(rest, path)
             }
             Form::Group(g) => self.system(inner, path.with(g)),
             Form::New(t) => {
-                let deeper = Spot {
-                    at: inner.at,
-                    nest: inner.nest,
-                    names: inner.names + 1,
-                };
+                let mut deeper = inner;
+                deeper.names += 1;
                 self.scope[inner.names] = t;
                 self.system(deeper, path)
             }

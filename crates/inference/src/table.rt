@@ -1,11 +1,11 @@
-// The shape of the table of what components need, and its rows and entries as they are read.
+// The table of what components need, in lent memory: its shape, and its rows and entries as they are read.
 // A row has 211 cells. Cell 0 is the length of its path, cells 1 to 8 its path; cell 9 is the number of its path's groups, cells 10 to
 // 17 these groups, rising; and from cell 18 on for each kind 11 counts, of disclosures into these groups, of reads, of writes and of
 // accesses, then a mark: 1 where anything of the kind is needed; the last cell is its purpose. 65,535 is unlimited.
 
-ghost use Rattle.std.specs.Prelude.{◌≡◌, ◌<◌, ◌≤◌};
+ghost use Rattle.std.specs.Prelude.{◌≡◌, ◌<◌, ◌≤◌, get_or};
+ghost use Rattle.inference.specs.Rows.{cell_of};
 
-use crate::rows;
 use reading::Path;
 
 /// The most components that a sheet has, and the rows of a whole table.
@@ -53,6 +53,22 @@ pub const CELLS: usize = COMPONENTS * ROW;
 /// The count that is unlimited.
 pub const UNLIMITED: u16 = 65535;
 
+/// The place of the cell of a component, a kind and a column.
+#[tactic(auto, using(crate::proofs::RowSteps::row_steps))]
+pub fn cell_of(component: usize, kind: usize, column: usize) -> usize
+    requires { (component < 32) × (kind < 16) × (column < 12) }
+    ensures { result ≡ cell_of component kind column }
+{
+    component * ROW + (HEAD + (kind * COLUMNS + column))
+}
+
+// What stands in a cell, 0 past the table's end.
+fn cell_at(table: &[u16], at: usize) -> usize
+    ensures { result ≡ get_or table.now at 0 }
+{
+    table.get(at).copied().unwrap_or(0) as usize
+}
+
 /// The row of a component in a table.
 #[derive(Clone, Copy)]
 pub struct Row<'a> {
@@ -85,33 +101,45 @@ impl<'a> Row<'a> {
     }
 
     /// How many groups the component's path has.
+    #[tactic(auto, using(crate::proofs::RowSteps::row_steps))]
     pub fn group_count(self) -> usize
         ensures value { result ≡ group_count self.entry.table.now self.entry.component }
         ensures few { result ≤ 8 }
     {
-        rows::group_count(self.table, self.component)
+        cell_at(self.table, self.component * ROW + GROUP_COUNT).min(GROUPS)
     }
 
     /// The group at a place among these groups, which rise.
+    #[tactic(auto, using(crate::proofs::RowSteps::row_steps))]
     pub fn group_at(self, place: usize) -> usize
         requires { place < 8 }
         ensures { result ≡ group_at self.entry.table.now self.entry.component place }
     {
-        rows::group_at(self.table, self.component, place)
+        cell_at(self.table, self.component * ROW + (GROUP_COUNT + 1 + place))
     }
 
     /// The component's path.
+    #[tactic(auto, using(crate::proofs::PathRows::path_rows))]
     pub fn path(self) -> Path
         ensures { path_of result ≡ path_at self.entry.table.now self.entry.component }
     {
-        rows::path_of(self.table, self.component)
+        let row = self.component * ROW;
+        let mut groups = [0u16; GROUPS];
+        for place in 0..GROUPS {
+            groups[place] = self.table.get(row + (1 + place)).copied().unwrap_or(0);
+        }
+        Path {
+            groups,
+            len: cell_at(self.table, row).min(self.table.len().saturating_sub(row + 1)),
+        }
     }
 
     /// The component's purpose.
+    #[tactic(auto, unfolding(crate::specs::Rows::purpose_at))]
     pub fn purpose(self) -> usize
         ensures { result ≡ purpose_at self.entry.table.now self.entry.component }
     {
-        rows::purpose_of(self.table, self.component)
+        cell_at(self.table, self.component * ROW + PURPOSE)
     }
 
     /// The component's entry of a kind.
@@ -163,7 +191,7 @@ impl<'a> Entry<'a> {
         requires { column < 12 }
         ensures { result ≡ cell self.entry.table.now self.entry.component self.entry.kind column }
     {
-        rows::cell_at(self.table, rows::cell_of(self.component, self.kind, column))
+        cell_at(self.table, cell_of(self.component, self.kind, column))
     }
 
     /// Does the component need anything of the kind?

@@ -15,7 +15,6 @@ use reading::{Dialect, Spot};
 impl Walker<'_> {
     /// The process at a place, by its code byte: nothing (0), two parts in parallel (1), a new name (3), an input (5), an output (6), a
     /// repeat (7). What the reader would refuse counts as nothing. The place after it.
-    #[tactic(auto, using(crate::proofs::WalkSteps::walk_steps))]
     pub fn process(&mut self, spot: Spot, context: Context) -> usize
         ensures { Walked (process_tree spot.nest self.old.sheet.now spot.names spot.at)
             (acts (record { number = context.component; path = path_of context.path; purpose = 0 }) context.repeated
@@ -32,26 +31,14 @@ impl Walker<'_> {
         if sheet.len() <= at {
             return at;
         }
-        let nest = spot.nest - 1;
+        let mut inner = spot;
+        inner.nest -= 1;
         match sheet[at] {
             0 => at + 1,
             1 => {
-                let next = self.process(
-                    Spot {
-                        at: at + 1,
-                        nest,
-                        names,
-                    },
-                    context,
-                );
-                self.process(
-                    Spot {
-                        at: next,
-                        nest,
-                        names,
-                    },
-                    context,
-                )
+                inner.at = at + 1;
+                inner.at = self.process(inner, context);
+                self.process(inner, context)
             }
             3 => {
                 if 64 <= names {
@@ -61,12 +48,9 @@ impl Walker<'_> {
                 let Ok(t) = read else {
                     return at;
                 };
-                let inner = Spot {
-                    at: t.next,
-                    nest,
-                    names: names + 1,
-                };
                 self.scope[names] = t.value;
+                inner.at = t.next;
+                inner.names += 1;
                 self.process(inner, context)
             }
             5 => {
@@ -79,12 +63,9 @@ impl Walker<'_> {
                 };
                 let channel = self.type_of(names, byte_in(sheet, at + 1));
                 self.act(false, channel, Some(t.value), context);
-                let inner = Spot {
-                    at: t.next,
-                    nest,
-                    names: names + 1,
-                };
                 self.scope[names] = t.value;
+                inner.at = t.next;
+                inner.names += 1;
                 self.process(inner, context)
             }
             6 => {
@@ -94,24 +75,13 @@ impl Walker<'_> {
                 let channel = self.type_of(names, byte_in(sheet, at + 1));
                 let object = self.type_of(names, byte_in(sheet, at + 2));
                 self.act(true, channel, object, context);
-                let inner = Spot {
-                    at: at + 3,
-                    nest,
-                    names,
-                };
+                inner.at = at + 3;
                 self.process(inner, context)
             }
             7 => {
-                let inner = Spot {
-                    at: at + 1,
-                    nest,
-                    names,
-                };
-                let under = Context {
-                    component: context.component,
-                    path: context.path,
-                    repeated: true,
-                };
+                let mut under = context;
+                under.repeated = true;
+                inner.at = at + 1;
                 self.process(inner, under)
             }
             _ => at,

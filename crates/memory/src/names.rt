@@ -35,13 +35,6 @@ pub fn type_of(types: &[u32], names: usize, name: usize) -> usize
     given(types, names, name, 0) as usize
 }
 
-/// Stores a number in a table, where there is such a place.
-pub fn store(table: &mut [usize], at: usize, n: usize)
-    ensures { table.new ≡ set table.old at n }
-{
-    put(table, at, n);
-}
-
 /// Stores the type of a name, where there is such a place.
 pub fn store_type(types: &mut [u32], name: usize, t: usize)
     requires { t < 4294967296 }

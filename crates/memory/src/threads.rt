@@ -35,13 +35,6 @@ impl Thread {
     }
 }
 
-/// A thread as a number.
-pub fn pack(t: Thread) -> usize
-    ensures { result ≡ packed t }
-{
-    t.pack()
-}
-
 /// The thread that a number stands for.
 pub fn unpack(w: usize) -> Thread
     ensures { result ≡ unpacked w }

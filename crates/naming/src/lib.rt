@@ -1,4 +1,4 @@
-// The names of groups and kinds (document 02, Q-1): the reader of a names file, question 40, and the sentence for an uncovered
+// The names of groups and kinds: the reader of a names file, question 40, and the sentence for an uncovered
 // permission.
 #![tactic(auto)]
 

@@ -1,5 +1,5 @@
 -- What a process makes, return by return: what the parts of a form make is what the form makes.
-use Prim.Native.Nat.{ℕ, ◌+◌, ◌-◌, ◌*◌, ◌<◌, ◌≤◌}
+use Prim.Native.Nat.{ℕ, ◌+◌, ◌-◌, ◌^◌, ◌<◌, ◌≤◌, min}
 use mathlib.Core.Bool.{Bool, true, false}
 use mathlib.Core.Path.{◌≡◌, refl, sym, ap, ◌∙◌}
 use mathlib.Core.List.{List, [], ◌∷◌, ◌++◌, append_assoc, append-nil}
@@ -52,12 +52,9 @@ pub no_nest : (forms : List ℕ) (t : Place) (z : Sizes) (made types cells : Lis
 unfolding process_in
 no_nest forms t z made types cells e = nothing forms t (process_in t.nest forms t.at) z made types cells (rw e refl)
 
--- How far down the walk is.
+-- Where the nesting is not 0, some is left.
 pub nest_left : (n : ℕ) → (n ≡ 0 → ⊥) → 0 < n
 nest_left n h = omega arith
-
-pub falls : (n m : ℕ) → 0 < n → n * 3 ≡ m → (n - 1) * 3 + 2 < m
-falls n m h e = omega arith
 
 -- A thread: a process that makes itself.
 record IsThread (p : Process) : Type 0 where
@@ -269,11 +266,6 @@ module _ (forms : List ℕ) (t : Place) (u : ℕ) (p : Process) (z z₁ : Sizes)
             rw (g.widened fits, g.number fits) at q;
       }
 
--- Names that are too many for that.
-pub no_scope : (forms : List ℕ) (t : Place) (u : ℕ) (p : Process) (z : Sizes) (made types cells : List ℕ) → 128 ≤ t.names
-    → t.names + t.nest < 128 → Ready t z made types cells → Makes forms t (new u p) z made made types types cells cells z
-no_scope forms t u p z made types cells h lt ready = absurd (omega arith)
-
 -- The same in the tables that a walk is lent: a thread made, one process after another, and a process under a new name.
 module _ (m m' : Maker) (t : Place) (item : Item) (e : item ≡ item_at m.forms.now t.at) (left : 0 < t.nest) (z r : Sizes)
     (p : PushesIn m z t m' r) where
@@ -306,21 +298,21 @@ module _ (m m₁ m' : Maker) (t : Place) where
       after_left m.forms.now t second z z₁ r m.made.now m₁.made.now m'.made.now m.types.now m₁.types.now m'.types.now
       m.cells.now m₁.cells.now m'.cells.now k.made_length k.types_length k.cells_length mine (rw k.forms at theirs) near ready
 
-  pub made_under : (u : ℕ) (z z₁ : Sizes) (env : ℕ) (r : Sizes) → GivesIn m z u t.env m₁ z₁ → env ≡ z₁.cells - 1
-      → MakesIn m₁ (record { component = t.component; env = env; names = t.names + 1; nest = t.nest; at = t.at })
+  pub made_under : (u : ℕ) (z z₁ : Sizes) (env names : ℕ) (r : Sizes) → GivesIn m z u t.env m₁ z₁ → env ≡ z₁.cells - 1
+      → names ≡ min (t.names + 1) (2 ^ 64 - 1)
+      → MakesIn m₁ (record { component = t.component; env = env; names = names; nest = t.nest; at = t.at })
       (process_in t.nest m₁.forms.now t.at) z₁ m' r
       → t.names + t.nest < 128 → MakesIn m t (new u (process_in t.nest m.forms.now t.at)) z m' r
-  made_under u z z₁ env r g ie makes few ready =
+  made_under u z z₁ env names r g ie ne makes few ready =
+      let n : names ≡ t.names + 1 = omega (arith, ne) in
       under_new m.forms.now t u (process_in t.nest m.forms.now t.at) z z₁ env m.made.now m'.made.now m.types.now m₁.types.now m'.types.now
-      m.cells.now m₁.cells.now m'.cells.now r g.gives ie (rw (g.kept.forms, g.made) at makes) few ready
+      m.cells.now m₁.cells.now m'.cells.now r g.gives ie (rw (g.kept.forms, g.made, n) at makes) few ready
 
 pub ruleset make_steps = (
   rules,
   no_nest,
   nest_left,
-  falls,
   new_fits_lem,
-  no_scope,
   form_none,
   form_par,
   form_new,

@@ -1,5 +1,5 @@
 -- What a system makes, return by return: what the parts of a form make is what the form makes.
-use Prim.Native.Nat.{ℕ, ◌+◌, ◌-◌, ◌*◌, ◌<◌, ◌≤◌}
+use Prim.Native.Nat.{ℕ, ◌+◌, ◌-◌, ◌^◌, ◌<◌, ◌≤◌, min}
 use mathlib.Core.Path.{◌≡◌, refl, sym, ap, ◌∙◌}
 use mathlib.Core.List.{List, [], ◌∷◌, ◌++◌, append_assoc, append-nil}
 use Rattle.std.proofs.Common.{◌⊎◌, inl, inr}
@@ -26,7 +26,7 @@ use Rattle.products.specs.Makes.{Ready, Makes, MakesSystem, Gives, system_crowd}
 use Rattle.products.specs.Makers.{Kept, GivesIn, MakesSystemIn}
 use Rattle.products.proofs.GrowLaws.{grows_then, grows_cong, all_kept_lem}
 use Rattle.products.proofs.GiveLaws.{grows_none, ready_deeper, ready_after, name_given}
-use Rattle.products.proofs.MakeSteps.{nest_left, falls, new_fits_lem}
+use Rattle.products.proofs.MakeSteps.{new_fits_lem}
 
 -- Nothing is made.
 nothing : (forms : List ℕ) (t : Place) (p : System) (z : Sizes) (made types cells : List ℕ) → p ≡ nilₛ → Ready t z made types cells
@@ -44,10 +44,6 @@ pub no_nest : (forms : List ℕ) (t : Place) (z : Sizes) (made types cells : Lis
     → MakesSystem forms t (system_in t.nest forms t.at) z made made types types cells cells (record { components = t.component; sizes = z })
 unfolding system_in
 no_nest forms t z made types cells e few = nothing forms t (system_in t.nest forms t.at) z made types cells (rw e refl)
-
--- How far down the walk is.
-pub falls_group : (n m : ℕ) → 0 < n → n * 3 ≡ m → (n - 1) * 3 + 1 < m
-falls_group n m h e = omega arith
 
 -- The arms of the match on a form.
 module _ (forms : List ℕ) (t : Place) (item : Item) (e : item ≡ item_at forms t.at) (left : 0 < t.nest)
@@ -145,28 +141,19 @@ module _ (forms : List ℕ) (t : Place) (item : Item) (e : item ≡ item_at form
 
 -- A component: its process.
 module _ (forms : List ℕ) (t : Place) (p : Process) (z z₁ : Sizes) (made made' types types' cells cells' : List ℕ) where
-  pub component_made : (Ready t z made types cells → Makes forms t p z made made' types types' cells cells' z₁)
+  pub component_made : (number : ℕ) → number ≡ min (t.component + 1) (2 ^ 64 - 1)
+      → (Ready t z made types cells → Makes forms t p z made made' types types' cells cells' z₁)
       → t.component < 32 → (own : OwnFields) → Ready t z made types cells
-      → MakesSystem forms t (compₛ own p) z made made' types types' cells cells' (record { components = t.component + 1; sizes = z₁ })
+      → MakesSystem forms t (compₛ own p) z made made' types types' cells cells' (record { components = number; sizes = z₁ })
   unfolding components system_crowd system_news system_threads component_at
-  component_made makes few own ready =
+  component_made number ne makes few own ready =
       let m = makes ready in
       record {
-        number = refl;
+        number = omega (arith, ne);
         grows = m.grows;
         given = m.given;
         products = λ few given path ts ps. m.products few given (component_at t.component path own) refl ts ps;
       }
-
--- Components and names that are too many for that.
-pub no_number : (forms : List ℕ) (t : Place) (p : Process) (z : Sizes) (made types cells : List ℕ) (r : MadeSystem) → 32 ≤ t.component → t.component < 32
-    → (own : OwnFields) → Ready t z made types cells → MakesSystem forms t (compₛ own p) z made made types types cells cells r
-no_number forms t p z made types cells r h few = absurd (omega arith)
-
-pub no_scope : (forms : List ℕ) (t : Place) (u : ℕ) (p : System) (z : Sizes) (made types cells : List ℕ) (r : MadeSystem) → 128 ≤ t.names
-    → t.names + t.nest < 128 → t.component + components p ≤ 32 → Ready t z made types cells
-    → MakesSystem forms t (newₛ u p) z made made types types cells cells r
-no_scope forms t u p z made types cells r h lt = absurd (omega arith)
 
 -- One system after another.
 module _ (forms : List ℕ) (t : Place) (second : ℕ) (z : Sizes) (made made₁ made' types types₁ types' cells cells₁ cells' : List ℕ) (l r : MadeSystem)
@@ -257,25 +244,22 @@ module _ (m m₁ m' : Maker) (t : Place) where
       after_left m.forms.now t second z m.made.now m₁.made.now m'.made.now m.types.now m₁.types.now m'.types.now
       m.cells.now m₁.cells.now m'.cells.now l r k.made_length k.types_length k.cells_length mine (rw k.forms at theirs) near few ready
 
-  pub made_under : (u : ℕ) (z z₁ : Sizes) (env : ℕ) (r : MadeSystem) → GivesIn m z u t.env m₁ z₁ → env ≡ z₁.cells - 1
+  pub made_under : (u : ℕ) (z z₁ : Sizes) (env names : ℕ) (r : MadeSystem) → GivesIn m z u t.env m₁ z₁ → env ≡ z₁.cells - 1
+      → names ≡ min (t.names + 1) (2 ^ 64 - 1)
       → (t.component + components (system_in t.nest m₁.forms.now t.at) ≤ 32
-      → MakesSystemIn m₁ (record { component = t.component; env = env; names = t.names + 1; nest = t.nest; at = t.at })
+      → MakesSystemIn m₁ (record { component = t.component; env = env; names = names; nest = t.nest; at = t.at })
       (system_in t.nest m₁.forms.now t.at) z₁ m' r)
       → t.names + t.nest < 128 → t.component + components (system_in t.nest m.forms.now t.at) ≤ 32
       → MakesSystemIn m t (newₛ u (system_in t.nest m.forms.now t.at)) z m' r
-  made_under u z z₁ env r g ie makes few components ready =
+  made_under u z z₁ env names r g ie ne makes few components ready =
+      let n : names ≡ t.names + 1 = omega (arith, ne) in
       under_new m.forms.now t u (system_in t.nest m.forms.now t.at) z z₁ env m.made.now m'.made.now m.types.now m₁.types.now m'.types.now
-      m.cells.now m₁.cells.now m'.cells.now r g.gives ie (rw (g.kept.forms, g.made) at makes) few components ready
+      m.cells.now m₁.cells.now m'.cells.now r g.gives ie (rw (g.kept.forms, g.made, n) at makes) few components ready
 
 pub ruleset system_steps = (
   rules,
   no_nest,
-  nest_left,
-  falls,
-  falls_group,
   new_fits_lem,
-  no_number,
-  no_scope,
   form_none,
   form_par,
   form_new,

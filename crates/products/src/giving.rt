@@ -7,12 +7,12 @@ use memory::chains::bind;
 use memory::{Thread, put};
 
 impl<'a> Maker<'a> {
-    /// Gives a name of type `t` the next number; its cell comes after `env`. Where no number or no cell is left, the names count as
+    /// Gives a name of this type the next number; its cell comes after `env`. Where no number or no cell is left, the names count as
     /// too many.
     #[tactic(auto, using(crate::proofs::GivingSteps::giving_steps))]
-    pub fn give(&mut self, sizes: Sizes, t: usize, env: usize) -> Sizes
-        requires { t < 4294967296 }
-        ensures { GivesIn self.old sizes t env self.new result }
+    pub fn give(&mut self, name_type: usize, env: usize, sizes: Sizes) -> Sizes
+        requires { name_type < 4294967296 }
+        ensures { GivesIn self.old sizes name_type env self.new result }
     {
         let name = sizes.names;
         let cell = sizes.cells;
@@ -22,7 +22,7 @@ impl<'a> Maker<'a> {
                 ..sizes
             };
         }
-        put(self.types, name, t as u32);
+        put(self.types, name, name_type as u32);
         bind(self.cells, cell, env, name);
         Sizes {
             names: name + 1,
@@ -33,8 +33,8 @@ impl<'a> Maker<'a> {
 
     /// A thread stands after those made so far; where there is no room for it, the threads count as too many.
     #[tactic(auto, using(crate::proofs::GivingSteps::giving_steps))]
-    pub fn push(&mut self, sizes: Sizes, t: Thread) -> Sizes
-        ensures { PushesIn self.old sizes t self.new result }
+    pub fn push(&mut self, thread: Thread, sizes: Sizes) -> Sizes
+        ensures { PushesIn self.old sizes thread self.new result }
     {
         let n = sizes.threads;
         if MAX_THREADS <= n {
@@ -43,7 +43,7 @@ impl<'a> Maker<'a> {
                 ..sizes
             };
         }
-        put(self.made, n, t.pack());
+        put(self.made, n, thread.pack());
         Sizes {
             threads: n + 1,
             ..sizes

@@ -18,85 +18,86 @@ impl<'a> Maker<'a> {
     /// Makes the threads and the new names of the process at a thread's place.
     #[cycle(process_walk)]
     #[tactic(auto, using(crate::proofs::MakeSteps::make_steps))]
-    pub fn make_process(&mut self, t: Thread, sizes: Sizes) -> Sizes
+    pub fn make_process(&mut self, thread: Thread, sizes: Sizes) -> Sizes
         ensures kept { Kept self.old self.new }
-        ensures makes { MakesIn self.old t (process_in t.nest self.old.forms.now t.at) sizes self.new result }
+        ensures makes { MakesIn self.old thread (process_in thread.nest self.old.forms.now thread.at) sizes self.new result }
     {
-        if t.nest == 0 {
+        if thread.nest == 0 {
             return sizes;
         }
-        let item = item_at(self.forms, t.at);
-        self.make_form(t, item, sizes)
+        let item = item_at(self.forms, thread.at);
+        self.make_form(thread, item, sizes)
     }
 
     // The same, where this item stands at the place.
     #[cycle(process_walk)]
     #[tactic(auto, using(crate::proofs::MakeSteps::make_steps))]
-    fn make_form(&mut self, t: Thread, item: Item, sizes: Sizes) -> Sizes
-        requires { (item ≡ item_at self.old.forms.now t.at) × (0 < t.nest) }
+    fn make_form(&mut self, thread: Thread, item: Item, sizes: Sizes) -> Sizes
+        requires { (item ≡ item_at self.old.forms.now thread.at) × (0 < thread.nest) }
         ensures kept { Kept self.old self.new }
-        ensures makes { MakesIn self.old t (process_in t.nest self.old.forms.now t.at) sizes self.new result }
+        ensures makes { MakesIn self.old thread (process_in thread.nest self.old.forms.now thread.at) sizes self.new result }
     {
         let inner = Thread {
-            nest: t.nest - 1,
+            nest: thread.nest - 1,
             at: item.next,
-            ..t
+            ..thread
         };
         match item.form {
             Form::Nil | Form::Group(_) | Form::Component(_) => sizes,
             Form::Par => self.make_par(inner, item.second, sizes),
-            Form::New(u) => self.make_under(inner, u, sizes),
-            Form::Input(_) | Form::Output(_) | Form::Replicate => self.push(sizes, t),
+            Form::New(name_type) => self.make_under(inner, name_type, sizes),
+            Form::Input(_) | Form::Output(_) | Form::Replicate => self.push(thread, sizes),
         }
     }
 
     // Two processes, one after the other; the second stands at `second`.
     #[cycle(process_walk)]
     #[tactic(auto, using(crate::proofs::MakeSteps::make_steps))]
-    fn make_par(&mut self, t: Thread, second: usize, sizes: Sizes) -> Sizes
+    fn make_par(&mut self, thread: Thread, second: usize, sizes: Sizes) -> Sizes
         ensures kept { Kept self.old self.new }
         ensures makes { second < 8192
-            → MakesIn self.old t
-            (par (process_in t.nest self.old.forms.now t.at) (process_in t.nest self.old.forms.now second)) sizes self.new result }
+            → MakesIn self.old thread
+            (par (process_in thread.nest self.old.forms.now thread.at) (process_in thread.nest self.old.forms.now second)) sizes self.new result }
     {
-        let left = self.make_process(t, sizes);
-        self.make_process(Thread { at: second, ..t }, left)
+        let left = self.make_process(thread, sizes);
+        let rest = Thread {
+            at: second,
+            ..thread
+        };
+        self.make_process(rest, left)
     }
 
-    // A process under a new name of type `u`.
+    // A process under a new name of a type.
     #[cycle(process_walk)]
     #[tactic(auto, using(crate::proofs::MakeSteps::make_steps))]
-    fn make_under(&mut self, t: Thread, u: usize, sizes: Sizes) -> Sizes
-        requires { u < 4294967296 }
+    fn make_under(&mut self, thread: Thread, name_type: usize, sizes: Sizes) -> Sizes
+        requires { name_type < 4294967296 }
         ensures kept { Kept self.old self.new }
-        ensures makes { t.names + t.nest < 128
-            → MakesIn self.old t (new u (process_in t.nest self.old.forms.now t.at)) sizes self.new result }
+        ensures makes { thread.names + thread.nest < 128
+            → MakesIn self.old thread (new name_type (process_in thread.nest self.old.forms.now thread.at)) sizes self.new result }
     {
-        if 128 <= t.names {
-            return sizes;
-        }
-        let given = self.give(sizes, u, t.env);
+        let given = self.give(name_type, thread.env, sizes);
         let inner = Thread {
             env: last_cell(given),
-            names: t.names + 1,
-            ..t
+            names: thread.names.saturating_add(1),
+            ..thread
         };
         self.make_process(inner, given)
     }
 
     /// The same as `make_process`, asked at the first form: only a parallel form and a new name want the walk.
     #[tactic(auto, using(crate::proofs::MakeSteps::make_steps))]
-    pub fn make(&mut self, t: Thread, sizes: Sizes) -> Sizes
+    pub fn make(&mut self, thread: Thread, sizes: Sizes) -> Sizes
         ensures kept { Kept self.old self.new }
-        ensures makes { MakesIn self.old t (process_in t.nest self.old.forms.now t.at) sizes self.new result }
+        ensures makes { MakesIn self.old thread (process_in thread.nest self.old.forms.now thread.at) sizes self.new result }
     {
-        if t.nest == 0 {
+        if thread.nest == 0 {
             return sizes;
         }
-        match item_at(self.forms, t.at).form {
+        match item_at(self.forms, thread.at).form {
             Form::Nil | Form::Group(_) | Form::Component(_) => sizes,
-            Form::Par | Form::New(_) => self.make_process(t, sizes),
-            Form::Input(_) | Form::Output(_) | Form::Replicate => self.push(sizes, t),
+            Form::Par | Form::New(_) => self.make_process(thread, sizes),
+            Form::Input(_) | Form::Output(_) | Form::Replicate => self.push(thread, sizes),
         }
     }
 }
@@ -104,14 +105,14 @@ impl<'a> Maker<'a> {
 /// Makes what `Maker::make_process` makes, in tables lent one by one.
 pub fn make_process(
     forms: &[usize],
-    t: Thread,
+    thread: Thread,
     sizes: Sizes,
     made: &mut [usize],
     types: &mut [u32],
     cells: &mut [u32],
 ) -> Sizes
-    ensures { Ready t sizes made.old types.old cells.old
-        → Makes forms.now t (process_in t.nest forms.now t.at) sizes
+    ensures { Ready thread sizes made.old types.old cells.old
+        → Makes forms.now thread (process_in thread.nest forms.now thread.at) sizes
         made.old made.new types.old types.new cells.old cells.new result }
 {
     let mut maker = Maker {
@@ -120,20 +121,20 @@ pub fn make_process(
         types,
         cells,
     };
-    maker.make_process(t, sizes)
+    maker.make_process(thread, sizes)
 }
 
 /// Makes what `Maker::make` makes, in tables lent one by one.
 pub fn make(
     forms: &[usize],
-    t: Thread,
+    thread: Thread,
     sizes: Sizes,
     made: &mut [usize],
     types: &mut [u32],
     cells: &mut [u32],
 ) -> Sizes
-    ensures { Ready t sizes made.old types.old cells.old
-        → Makes forms.now t (process_in t.nest forms.now t.at) sizes
+    ensures { Ready thread sizes made.old types.old cells.old
+        → Makes forms.now thread (process_in thread.nest forms.now thread.at) sizes
         made.old made.new types.old types.new cells.old cells.new result }
 {
     let mut maker = Maker {
@@ -142,5 +143,5 @@ pub fn make(
         types,
         cells,
     };
-    maker.make(t, sizes)
+    maker.make(thread, sizes)
 }

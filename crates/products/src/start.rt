@@ -53,11 +53,11 @@ impl<'a> Maker<'a> {
         };
         for given in 0..count {
             let read = type_at(Dialect::Current, s, next);
-            let Ok(t) = read else {
+            let Ok(found) = read else {
                 return Made { next, sizes };
             };
-            sizes = self.give(sizes, t.value, given);
-            next = t.next;
+            sizes = self.give(found.value, given, sizes);
+            next = found.next;
         }
         Made { next, sizes }
     }
@@ -74,7 +74,7 @@ impl<'a> Maker<'a> {
     }
 }
 
-// Gives the free names of a sheet, in these tables.
+// Gives the free names of a sheet, in tables lent one by one: the forms, which a walk reads, are written only afterwards.
 #[tactic(auto, using(crate::proofs::StartSteps::start_steps))]
 fn give_free(
     s: &[u8],
@@ -129,6 +129,7 @@ fn make_sheet(
 
 /// The start of a sheet that passes questions 1 to 6, in blank tables: gives its free names, of which `known` then tells that the
 /// environment knows them, notes its forms in `forms`, and makes the threads and new names of its system.
+// The tables come in one by one: a struct made for this one call would be taken apart at once, to write the forms and then read them.
 #[tactic(auto, using(crate::proofs::StartSteps::start_steps))]
 pub fn start(
     s: &[u8],

@@ -15,46 +15,46 @@ use memory::Thread;
 use reading::Form;
 
 impl<'a> Maker<'a> {
-    /// Makes the threads and the new names of the system at a place; `t.component` is the number of its first component.
+    /// Makes the threads and the new names of the system at a place; `thread.component` is the number of its first component.
     #[cycle(system_walk)]
     #[tactic(auto, using(crate::proofs::SystemSteps::system_steps))]
-    pub fn make_system(&mut self, t: Thread, sizes: Sizes) -> MadeSystem
+    pub fn make_system(&mut self, thread: Thread, sizes: Sizes) -> MadeSystem
         ensures kept { Kept self.old self.new }
-        ensures makes { t.component + components (system_in t.nest self.old.forms.now t.at) ≤ 32
-            → MakesSystemIn self.old t (system_in t.nest self.old.forms.now t.at) sizes self.new result }
+        ensures makes { thread.component + components (system_in thread.nest self.old.forms.now thread.at) ≤ 32
+            → MakesSystemIn self.old thread (system_in thread.nest self.old.forms.now thread.at) sizes self.new result }
     {
-        if t.nest == 0 {
+        if thread.nest == 0 {
             return MadeSystem {
-                components: t.component,
+                components: thread.component,
                 sizes,
             };
         }
-        let item = item_at(self.forms, t.at);
-        self.make_system_form(t, item, sizes)
+        let item = item_at(self.forms, thread.at);
+        self.make_system_form(thread, item, sizes)
     }
 
     // The same, where this item stands at the place.
     #[cycle(system_walk)]
     #[tactic(auto, using(crate::proofs::SystemSteps::system_steps))]
-    fn make_system_form(&mut self, t: Thread, item: Item, sizes: Sizes) -> MadeSystem
-        requires { (item ≡ item_at self.old.forms.now t.at) × (0 < t.nest) }
+    fn make_system_form(&mut self, thread: Thread, item: Item, sizes: Sizes) -> MadeSystem
+        requires { (item ≡ item_at self.old.forms.now thread.at) × (0 < thread.nest) }
         ensures kept { Kept self.old self.new }
-        ensures makes { t.component + components (system_in t.nest self.old.forms.now t.at) ≤ 32
-            → MakesSystemIn self.old t (system_in t.nest self.old.forms.now t.at) sizes self.new result }
+        ensures makes { thread.component + components (system_in thread.nest self.old.forms.now thread.at) ≤ 32
+            → MakesSystemIn self.old thread (system_in thread.nest self.old.forms.now thread.at) sizes self.new result }
     {
         let inner = Thread {
-            nest: t.nest - 1,
+            nest: thread.nest - 1,
             at: item.next,
-            ..t
+            ..thread
         };
         match item.form {
             Form::Par => self.make_system_par(inner, item.second, sizes),
             Form::Group(_) => self.make_system(inner, sizes),
-            Form::New(u) => self.make_system_under(inner, u, sizes),
+            Form::New(name_type) => self.make_system_under(inner, name_type, sizes),
             Form::Component(_) => self.make_component(inner, sizes),
             Form::Nil | Form::Input(_) | Form::Output(_) | Form::Replicate => {
                 MadeSystem {
-                    components: t.component,
+                    components: thread.component,
                     sizes,
                 }
             }
@@ -63,20 +63,14 @@ impl<'a> Maker<'a> {
 
     // A component: its process. It is one more.
     #[tactic(auto, using(crate::proofs::SystemSteps::system_steps))]
-    fn make_component(&mut self, t: Thread, sizes: Sizes) -> MadeSystem
+    fn make_component(&mut self, thread: Thread, sizes: Sizes) -> MadeSystem
         ensures kept { Kept self.old self.new }
-        ensures makes { t.component < 32 → (own : OwnFields)
-            → MakesSystemIn self.old t (compₛ own (process_in t.nest self.old.forms.now t.at)) sizes self.new result }
+        ensures makes { thread.component < 32 → (own : OwnFields)
+            → MakesSystemIn self.old thread (compₛ own (process_in thread.nest self.old.forms.now thread.at)) sizes self.new result }
     {
-        if 32 <= t.component {
-            return MadeSystem {
-                components: t.component,
-                sizes,
-            };
-        }
-        let sizes = self.make_process(t, sizes);
+        let sizes = self.make_process(thread, sizes);
         MadeSystem {
-            components: t.component + 1,
+            components: thread.component.saturating_add(1),
             sizes,
         }
     }
@@ -84,42 +78,36 @@ impl<'a> Maker<'a> {
     // Two systems, one after the other; the second stands at `second` and counts on from the components of the first.
     #[cycle(system_walk)]
     #[tactic(auto, using(crate::proofs::SystemSteps::system_steps))]
-    fn make_system_par(&mut self, t: Thread, second: usize, sizes: Sizes) -> MadeSystem
+    fn make_system_par(&mut self, thread: Thread, second: usize, sizes: Sizes) -> MadeSystem
         ensures kept { Kept self.old self.new }
         ensures makes { second < 8192
-            → t.component + components (parₛ (system_in t.nest self.old.forms.now t.at) (system_in t.nest self.old.forms.now second)) ≤ 32
-            → MakesSystemIn self.old t
-            (parₛ (system_in t.nest self.old.forms.now t.at) (system_in t.nest self.old.forms.now second)) sizes self.new result }
+            → thread.component + components (parₛ (system_in thread.nest self.old.forms.now thread.at) (system_in thread.nest self.old.forms.now second)) ≤ 32
+            → MakesSystemIn self.old thread
+            (parₛ (system_in thread.nest self.old.forms.now thread.at) (system_in thread.nest self.old.forms.now second)) sizes self.new result }
     {
-        let left = self.make_system(t, sizes);
+        let left = self.make_system(thread, sizes);
         let rest = Thread {
             component: left.components,
             at: second,
-            ..t
+            ..thread
         };
         self.make_system(rest, left.sizes)
     }
 
-    // A system under a new name of type `u`.
+    // A system under a new name of a type.
     #[cycle(system_walk)]
     #[tactic(auto, using(crate::proofs::SystemSteps::system_steps))]
-    fn make_system_under(&mut self, t: Thread, u: usize, sizes: Sizes) -> MadeSystem
-        requires { u < 4294967296 }
+    fn make_system_under(&mut self, thread: Thread, name_type: usize, sizes: Sizes) -> MadeSystem
+        requires { name_type < 4294967296 }
         ensures kept { Kept self.old self.new }
-        ensures makes { t.names + t.nest < 128 → t.component + components (system_in t.nest self.old.forms.now t.at) ≤ 32
-            → MakesSystemIn self.old t (newₛ u (system_in t.nest self.old.forms.now t.at)) sizes self.new result }
+        ensures makes { thread.names + thread.nest < 128 → thread.component + components (system_in thread.nest self.old.forms.now thread.at) ≤ 32
+            → MakesSystemIn self.old thread (newₛ name_type (system_in thread.nest self.old.forms.now thread.at)) sizes self.new result }
     {
-        if 128 <= t.names {
-            return MadeSystem {
-                components: t.component,
-                sizes,
-            };
-        }
-        let given = self.give(sizes, u, t.env);
+        let given = self.give(name_type, thread.env, sizes);
         let inner = Thread {
             env: last_cell(given),
-            names: t.names + 1,
-            ..t
+            names: thread.names.saturating_add(1),
+            ..thread
         };
         self.make_system(inner, given)
     }

@@ -64,8 +64,8 @@ impl Spot {
 impl Source<'_> {
     // A new name: its type.
     #[tactic(auto, using(crate::proofs::FormSteps::form_steps))]
-    fn new_form(self, at: usize, next: usize, room: bool) -> Result<Place, Refusal>
-        ensures { told result ≡ limited room at (new_form_in self.entry.dialect self.entry.bytes.now next) }
+    fn new_form(&self, at: usize, next: usize, room: bool) -> Result<Place, Refusal>
+        ensures { told result ≡ limited room at (new_form_in self.now.dialect self.now.bytes.now next) }
     {
         if !room {
             return Err(Question::Limits.at(at));
@@ -82,8 +82,8 @@ impl Source<'_> {
 
     // An input: the channel, then the type of the bound name.
     #[tactic(auto, using(crate::proofs::FormSteps::form_steps))]
-    fn input_form(self, at: usize, next: usize, room: bool) -> Result<Place, Refusal>
-        ensures { told result ≡ limited room at (input_form_in self.entry.dialect self.entry.bytes.now next) }
+    fn input_form(&self, at: usize, next: usize, room: bool) -> Result<Place, Refusal>
+        ensures { told result ≡ limited room at (input_form_in self.now.dialect self.now.bytes.now next) }
     {
         if !room {
             return Err(Question::Limits.at(at));
@@ -107,8 +107,8 @@ impl Source<'_> {
 
     // An output: the channel, then the name sent.
     #[tactic(auto, using(crate::proofs::FormSteps::form_steps))]
-    fn output_form(self, at: usize, next: usize, room: bool) -> Result<Place, Refusal>
-        ensures { told result ≡ limited room at (output_form self.entry.bytes.now next) }
+    fn output_form(&self, at: usize, next: usize, room: bool) -> Result<Place, Refusal>
+        ensures { told result ≡ limited room at (output_form self.now.bytes.now next) }
     {
         if !room {
             return Err(Question::Limits.at(at));
@@ -132,8 +132,8 @@ impl Source<'_> {
 
     // A group in its range (question 4) that is new to the path (question 6).
     #[tactic(auto, using(crate::proofs::FormSteps::fresh_steps))]
-    fn fresh_group(self, at: usize, path: Path) -> Result<Number, Refusal>
-        ensures { number result ≡ fresh_group_in self.entry.dialect self.entry.bytes.now at (path_of path) }
+    fn fresh_group(&self, at: usize, path: Path) -> Result<Number, Refusal>
+        ensures { number result ≡ fresh_group_in self.now.dialect self.now.bytes.now at (path_of path) }
     {
         let read = byte_below(self.bytes, at, self.dialect.groups());
         let Ok(group) = read else {
@@ -148,8 +148,8 @@ impl Source<'_> {
 
     // A group: one that is new to the path.
     #[tactic(auto, using(crate::proofs::FormSteps::form_steps))]
-    fn group_form(self, at: usize, next: usize, path: Path, room: bool) -> Result<Place, Refusal>
-        ensures { told result ≡ limited room at (group_form_in self.entry.dialect self.entry.bytes.now next (path_of path)) }
+    fn group_form(&self, at: usize, next: usize, path: Path, room: bool) -> Result<Place, Refusal>
+        ensures { told result ≡ limited room at (group_form_in self.now.dialect self.now.bytes.now next (path_of path)) }
     {
         if !room {
             return Err(Question::Limits.at(at));
@@ -166,8 +166,8 @@ impl Source<'_> {
 
     // The purpose of a component, in its range (question 4); 0 where the dialect states none.
     #[tactic(auto, using(crate::proofs::FormSteps::purpose_steps))]
-    fn purpose(self, at: usize) -> Result<Number, Refusal>
-        ensures { number result ≡ purpose_in self.entry.dialect self.entry.bytes.now at }
+    fn purpose(&self, at: usize) -> Result<Number, Refusal>
+        ensures { number result ≡ purpose_in self.now.dialect self.now.bytes.now at }
     {
         let bound = self.dialect.purposes();
         if 0 < bound {
@@ -180,13 +180,13 @@ impl Source<'_> {
     // A component: its own fields, the group, which is new to the path, and then the purpose.
     #[tactic(auto, using(crate::proofs::FormSteps::form_steps))]
     fn component_form(
-        self,
+        &self,
         at: usize,
         next: usize,
         path: Path,
         room: bool,
     ) -> Result<Place, Refusal>
-        ensures { told result ≡ limited room at (component_form_in self.entry.dialect self.entry.bytes.now next (path_of path)) }
+        ensures { told result ≡ limited room at (component_form_in self.now.dialect self.now.bytes.now next (path_of path)) }
     {
         if !room {
             return Err(Question::Limits.at(at));
@@ -210,8 +210,8 @@ impl Source<'_> {
 
     /// What stands at a place of a process, with the permitted nesting that is left and the number of names in scope.
     #[tactic(auto, using(crate::proofs::FormSteps::process_forms_lem))]
-    pub fn process_at(self, spot: Spot) -> Result<Place, Refusal>
-        ensures { told result ≡ process_at_in self.entry.dialect self.entry.bytes.now spot.at spot.nest spot.names }
+    pub fn process_at(&self, spot: Spot) -> Result<Place, Refusal>
+        ensures { told result ≡ process_at_in self.now.dialect self.now.bytes.now spot.at spot.nest spot.names }
     {
         let at = spot.at;
         let read = byte_at(self.bytes, at);
@@ -234,8 +234,8 @@ impl Source<'_> {
 
     /// What stands at a place of a system; beside a process's limits, the path so far and the number of components so far.
     #[tactic(auto, using(crate::proofs::FormSteps::system_forms_lem))]
-    pub fn system_at(self, spot: Spot, path: Path, components: usize) -> Result<Place, Refusal>
-        ensures { told result ≡ system_at_in self.entry.dialect self.entry.bytes.now spot.at spot.nest spot.names (path_of path) components }
+    pub fn system_at(&self, spot: Spot, path: Path, components: usize) -> Result<Place, Refusal>
+        ensures { told result ≡ system_at_in self.now.dialect self.now.bytes.now spot.at spot.nest spot.names (path_of path) components }
     {
         let at = spot.at;
         let read = byte_at(self.bytes, at);

@@ -19,38 +19,41 @@ use crate::{Dialect, Form, Number, Path, Question, Refusal, Source, Spot};
 impl Source<'_> {
     /// Reads past a process, form by form: a call for the first part of each parallel form, a turn for all else. The permitted
     /// nesting falls at each.
+    // Not a `Spot`: a call with one takes 15 per cent more instructions for each parallel form.
     #[tactic(auto, using(crate::proofs::ProcessSteps::process_steps, crate::proofs::ProcessSteps::process_arms))]
-    pub fn read_process(self, from: Spot) -> Result<usize, Refusal>
-        ensures { ending result ≡ ended (read_process_in self.entry.dialect from.nest self.entry.bytes.now from.names from.at) }
+    pub fn read_process(&self, from: usize, levels: usize, bound: usize) -> Result<usize, Refusal>
+        ensures { ending result ≡ ended (read_process_in self.now.dialect levels self.now.bytes.now bound from) }
     {
-        let mut spot = from;
+        let mut at = from;
+        let mut nest = levels;
+        let mut names = bound;
         loop {
-            let read = self.process_at(spot);
+            let read = self.process_at(Spot { at, nest, names });
             let Ok(place) = read else {
                 return Err(read.unwrap_err());
             };
             let next = place.next;
-            spot.nest -= 1;
+            nest -= 1;
             match place.form {
                 Form::Nil => {
                     return Ok(next);
                 }
                 Form::Par => {
-                    let left = self.read_process(Spot { at: next, ..spot });
+                    let left = self.read_process(next, nest, names);
                     let Ok(middle) = left else {
                         return left;
                     };
-                    spot.at = middle;
+                    at = middle;
                 }
                 Form::New(_) | Form::Input(_) => {
-                    spot.at = next;
-                    spot.names += 1;
+                    at = next;
+                    names += 1;
                 }
                 Form::Output(_) | Form::Replicate => {
-                    spot.at = next;
+                    at = next;
                 }
                 Form::Group(_) | Form::Component(_) => {
-                    return Err(Question::Range.at(spot.at));
+                    return Err(Question::Range.at(at));
                 }
             }
         }
@@ -58,11 +61,11 @@ impl Source<'_> {
 
     // Reads past a component's process and counts the component, whatever its own fields.
     #[tactic(auto, using(crate::proofs::SystemSteps::component_steps))]
-    fn read_component(self, spot: Spot, components: usize) -> Result<Number, Refusal>
+    fn read_component(&self, spot: Spot, components: usize) -> Result<Number, Refusal>
         requires { components < 32 }
-        ensures { (own : OwnFields) → number result ≡ counted components (component own (read_process_in self.entry.dialect spot.nest self.entry.bytes.now spot.names spot.at)) }
+        ensures { (own : OwnFields) → number result ≡ counted components (component own (read_process_in self.now.dialect spot.nest self.now.bytes.now spot.names spot.at)) }
     {
-        let end = self.read_process(spot);
+        let end = self.read_process(spot.at, spot.nest, spot.names);
         let Ok(next) = end else {
             return Err(end.unwrap_err());
         };
@@ -75,8 +78,8 @@ impl Source<'_> {
     /// Reads past a system, form by form, as a process is read. The number found is that of the components so far, those of this
     /// system included.
     #[tactic(auto, using(crate::proofs::SystemSteps::system_steps, crate::proofs::SystemSteps::at_par, crate::proofs::SystemSteps::at_group, crate::proofs::SystemSteps::at_new))]
-    pub fn read_system(self, from: Spot, above: Path, preceding: usize) -> Result<Number, Refusal>
-        ensures { number result ≡ counted preceding (read_system_in self.entry.dialect from.nest self.entry.bytes.now from.names (path_of above) preceding from.at) }
+    pub fn read_system(&self, from: Spot, above: Path, preceding: usize) -> Result<Number, Refusal>
+        ensures { number result ≡ counted preceding (read_system_in self.now.dialect from.nest self.now.bytes.now from.names (path_of above) preceding from.at) }
     {
         let mut spot = from;
         let mut path = above;
@@ -123,8 +126,8 @@ impl Source<'_> {
 
     // Reads past `count` stored types.
     #[tactic(auto, using(crate::proofs::SheetSteps::types_left))]
-    fn free_types(self, at: usize, count: usize) -> Result<usize, Refusal>
-        ensures { ending result ≡ ended (free_types_in self.entry.dialect count self.entry.bytes.now at) }
+    fn free_types(&self, at: usize, count: usize) -> Result<usize, Refusal>
+        ensures { ending result ≡ ended (free_types_in self.now.dialect count self.now.bytes.now at) }
     {
         let mut next = at;
         for _ in 0..count {
@@ -139,8 +142,8 @@ impl Source<'_> {
 
     // Questions 2 to 6. The number found is that of the components.
     #[tactic(auto, using(crate::proofs::SheetSteps::sheet_steps))]
-    fn read_sheet(self) -> Result<Number, Refusal>
-        ensures { number result ≡ counted_in (read_sheet_in self.entry.dialect self.entry.bytes.now) }
+    fn read_sheet(&self) -> Result<Number, Refusal>
+        ensures { number result ≡ counted_in (read_sheet_in self.now.dialect self.now.bytes.now) }
     {
         let count = byte_below(self.bytes, 0, 33);
         let Ok(free) = count else {

@@ -28,7 +28,8 @@ fn unfold_at(s: &[u8], at: usize) -> Result<MovePlace, Refusal>
     })
 }
 
-// A send to the environment: the thread.
+// A send to the environment: the thread. It differs from an unfolding in the variant made: to take a variant as a parameter, a
+// function value, is no plainer.
 #[tactic(auto, using(crate::proofs::MoveSteps::field_steps), unfolding(crate::specs::Fields::send_at, crate::specs::Told::move_of))]
 fn send_at(s: &[u8], at: usize) -> Result<MovePlace, Refusal>
     ensures { move_read result ≡ send_at s.now at }
@@ -169,6 +170,7 @@ fn move_span(s: &[u8], at: usize) -> Option<usize>
 
 /// Question 21: how many moves the script is made of, at most 1,024, each of a byte at least. The bytes of each move are counted,
 /// its fields are not read.
+// The place moves on by a length that is read, which is no `for`.
 #[tactic(auto, using(crate::proofs::CountSteps::count_steps))]
 pub fn count_moves(s: &[u8]) -> Result<usize, Question>
     ensures value { result ≡ moves_in (read_script s.now) }

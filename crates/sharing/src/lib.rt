@@ -180,16 +180,3 @@ pub fn needed(sums: &[u32], entry: Entry, place: usize) -> usize
     }
     sum_at(sums, entry.component, entry.kind, place)
 }
-
-/// The same of a component and a kind of a table.
-pub fn needed_at(sums: &[u32], table: &[u16], component: usize, kind: usize, place: usize) -> usize
-    requires { (component < 32) × (kind < 16) × (place < 8) }
-    ensures { result ≡ needed_at sums.now table.now component kind place }
-{
-    let entry = Entry {
-        table,
-        component,
-        kind,
-    };
-    needed(sums, entry, place)
-}

@@ -1,7 +1,7 @@
 -- What each return of the service has to show, over plain values: that its answer and what it leaves in the output are those of the
 -- definition, from what questions 1 to 18 came to and the tables that they left.
 use Prim.Native.Nat.{ℕ, ◌<◌, ◌≤◌}
-use Rattle.std.specs.Prelude.{None, Some, Result, Ok, Err}
+use Rattle.std.specs.Prelude.{None, Some, Result, Err}
 use mathlib.Core.Path.{◌≡◌, refl, sym, ap, ◌∙◌}
 use mathlib.Core.List.{List, []}
 use mathlib.Core.Bool.{Bool, false}
@@ -18,7 +18,6 @@ use Rattle.inference.specs.Interface.{Entry, required_of}
 use Rattle.inference.specs.Rows.{table_entries, table_required}
 use Rattle.sharing.specs.Sums.{add_rows, any_shared}
 use Rattle.sharing.proofs.SharingLaws.{lone_sums}
-use Rattle.policy.specs.Loads.{Bounded}
 use Rattle.policy.specs.Syntax.{Tree}
 use Rattle.policy.specs.declared.Trees.{Trees}
 use Rattle.fit.proofs.EntryLaws.{few_sums, all_sums}

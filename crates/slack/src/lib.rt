@@ -22,7 +22,7 @@ use fit::entries::has_entry;
 use fit::{Case, Covering, Sum, Sums};
 use inference::table::{CELLS, Entry, FEW_CELLS, KINDS, Row};
 use interface::entries::{disclosed_groups, permission_map};
-use interface::writing::{put, put_head};
+use interface::writing::Output;
 use policy::Policy;
 use reading::Question;
 use reading::system::read;
@@ -40,106 +40,126 @@ fn number_of(sum: usize) -> usize
 
 // Writes a sum in two bytes, the low byte first.
 #[tactic(auto, using(crate::proofs::SlackSteps::slack_steps))]
-fn put_count(sum: usize, out: &mut [u8], at: usize) -> usize
-    requires { at < 4200000000 }
-    ensures stored { Stored out.old out.new at (count_bytes (sum_count sum)) result }
-    ensures near { result ≤ at + 2 }
+fn put_count(sum: usize, output: &mut Output)
+    requires { output.old.next < 4200000000 }
+    ensures stored { Stored output.old.bytes.now output.new.bytes.now output.old.next
+        (count_bytes (sum_count sum)) output.new.next }
+    ensures near { output.new.next ≤ output.old.next + 2 }
+    ensures lent { output.new.bytes.ghost_name ≡ output.old.bytes.ghost_name }
 {
     let number = number_of(sum);
-    let high = put(out, at, number % 256);
-    put(out, high, number / 256 % 256)
+    output.put(number % 256);
+    output.put(number / 256 % 256);
 }
 
 // Writes a group, what is needed, and what is granted.
 #[tactic(auto, using(crate::proofs::SlackSteps::slack_steps))]
-fn put_sum(sum: Sum, out: &mut [u8], at: usize) -> usize
-    requires { at < 4100000000 }
-    ensures { Stored out.old out.new at (verdict_bytes (sum_verdict sum)) result }
+fn put_sum(sum: Sum, output: &mut Output)
+    requires { output.old.next < 4100000000 }
+    ensures stored { Stored output.old.bytes.now output.new.bytes.now output.old.next
+        (verdict_bytes (sum_verdict sum)) output.new.next }
+    ensures lent { output.new.bytes.ghost_name ≡ output.old.bytes.ghost_name }
 {
-    let needed = put(out, at, sum.group);
-    let granted = put_count(sum.needed, out, needed);
-    put_count(sum.granted, out, granted)
+    output.put(sum.group);
+    put_count(sum.needed, output);
+    put_count(sum.granted, output);
 }
 
 // Writes the sums of an entry.
 #[tactic(auto, using(crate::proofs::SlackSteps::slack_steps))]
-fn put_each(sums: &[Sum], out: &mut [u8], at: usize) -> usize
-    requires { (length sums.now ≤ 8) × (at < 4050000000) }
-    ensures { Stored out.old out.new at (gather verdict_bytes (map sum_verdict sums.now)) result }
+fn put_each(sums: &[Sum], output: &mut Output)
+    requires { (length sums.now ≤ 8) × (output.old.next < 4050000000) }
+    ensures stored { Stored output.old.bytes.now output.new.bytes.now output.old.next
+        (gather verdict_bytes (map sum_verdict sums.now)) output.new.next }
+    ensures lent { output.new.bytes.ghost_name ≡ output.old.bytes.ghost_name }
 {
-    let mut next = at;
     for &sum in sums {
-        next = put_sum(sum, out, next);
+        put_sum(sum, output);
     }
-    next
 }
 
 // Writes how many sums an entry has, and the sums, where there are any.
 #[tactic(auto, using(crate::proofs::SlackSteps::slack_steps))]
-fn put_sums(sums: Sums, out: &mut [u8], at: usize) -> usize
-    requires { (sums.len ≤ 8) × (at < 4000000000) }
-    ensures { Stored out.old out.new at (sums_bytes (sum_verdicts sums)) result }
+fn put_sums(sums: Sums, output: &mut Output)
+    requires { (sums.len ≤ 8) × (output.old.next < 4000000000) }
+    ensures stored { Stored output.old.bytes.now output.new.bytes.now output.old.next
+        (sums_bytes (sum_verdicts sums)) output.new.next }
+    ensures lent { output.new.bytes.ghost_name ≡ output.old.bytes.ghost_name }
 {
     if sums.len == 0 {
-        return at;
+        return;
     }
-    let next = put(out, at, sums.len);
-    put_each(&sums.items[..sums.len], out, next)
+    output.put(sums.len);
+    put_each(&sums.items[..sums.len], output);
 }
 
 // Writes an entry with its slack.
 #[tactic(auto, using(crate::proofs::SlackSteps::slack_steps))]
-fn put_entry(entry: Entry, found: Covering, out: &mut [u8], at: usize) -> usize
-    requires { (found.sums.len ≤ 8) × (at < 3000000000) }
-    ensures { Stored out.old out.new at
-        (head_then (entry_at entry.entry.table.now entry.entry.component entry.entry.kind) (sums_bytes (only on_group (verdicts_of found)))) result }
+fn put_entry(entry: Entry, found: Covering, output: &mut Output)
+    requires { (found.sums.len ≤ 8) × (output.old.next < 3000000000) }
+    ensures stored { Stored output.old.bytes.now output.new.bytes.now output.old.next
+        (head_then (entry_at entry.entry.table.now entry.entry.component entry.entry.kind) (sums_bytes (only on_group (verdicts_of found)))) output.new.next }
+    ensures lent { output.new.bytes.ghost_name ≡ output.old.bytes.ghost_name }
 {
     let groups = disclosed_groups(entry);
-    let next = put_head(entry, permission_map(entry, groups), out, at);
-    put_sums(found.sums, out, next)
+    output.put_head(entry, permission_map(entry, groups));
+    put_sums(found.sums, output);
 }
 
 // Writes an entry, where there is one.
 #[tactic(auto, using(crate::proofs::SlackSteps::slack_steps))]
-fn put_kind(case: &Case, entry: Entry, out: &mut [u8], at: usize) -> usize
-    requires { at < 3000000000 }
-    ensures { Stored out.old out.new at
+fn put_kind(case: &Case, entry: Entry, output: &mut Output)
+    requires { output.old.next < 3000000000 }
+    ensures stored { Stored output.old.bytes.now output.new.bytes.now output.old.next
         (slack_at case.now.policy.charter.now case.now.policy.nodes.now case.now.policy.trees entry.entry.table.now case.now.sums.now
-        entry.entry.component entry.entry.kind) result }
+        entry.entry.component entry.entry.kind) output.new.next }
+    ensures lent { output.new.bytes.ghost_name ≡ output.old.bytes.ghost_name }
 {
     if !has_entry(entry) {
-        return at;
+        return;
     }
-    put_entry(entry, case.covering(entry), out, at)
+    put_entry(entry, case.covering(entry), output);
 }
 
 // Writes the entries of a component.
 #[tactic(auto, using(crate::proofs::SlackSteps::slack_steps))]
-fn put_row(case: &Case, row: Row, out: &mut [u8], at: usize) -> usize
-    requires { at < 2000000000 }
-    ensures { Stored out.old out.new at
+fn put_row(case: &Case, row: Row, output: &mut Output)
+    requires { output.old.next < 2000000000 }
+    ensures stored { Stored output.old.bytes.now output.new.bytes.now output.old.next
         (slack_row case.now.policy.charter.now case.now.policy.nodes.now case.now.policy.trees row.entry.table.now case.now.sums.now
-        row.entry.component) result }
+        row.entry.component) output.new.next }
+    ensures lent { output.new.bytes.ghost_name ≡ output.old.bytes.ghost_name }
 {
-    let mut next = at;
     for kind in 0..KINDS {
-        next = put_kind(case, row.entry(kind), out, next);
+        put_kind(case, row.entry(kind), output);
     }
-    next
+}
+
+// Writes the entries of the components of a table.
+#[tactic(auto, using(crate::proofs::SlackSteps::slack_steps))]
+fn put_table(case: &Case, table: &[u16], components: usize, output: &mut Output)
+    requires { (components ≤ 32) × (output.old.next < 1000000000) }
+    ensures stored { Stored output.old.bytes.now output.new.bytes.now output.old.next
+        (slack_rows case.now.policy.charter.now case.now.policy.nodes.now case.now.policy.trees table.now case.now.sums.now components) output.new.next }
+    ensures lent { output.new.bytes.ghost_name ≡ output.old.bytes.ghost_name }
+{
+    for component in 0..components {
+        put_row(case, Row { table, component }, output);
+    }
 }
 
 // Writes the slack of the components of a table from the output's first byte on; the number of bytes written.
-#[tactic(auto, using(crate::proofs::SlackSteps::slack_steps))]
 fn write_slack(case: &Case, table: &[u16], components: usize, out: &mut [u8]) -> usize
     requires { components ≤ 32 }
     ensures { Stored out.old out.new 0
         (slack_rows case.now.policy.charter.now case.now.policy.nodes.now case.now.policy.trees table.now case.now.sums.now components) result }
 {
-    let mut next = 0;
-    for component in 0..components {
-        next = put_row(case, Row::new(table, component), out, next);
-    }
-    next
+    let mut output = Output {
+        bytes: out,
+        next: 0,
+    };
+    put_table(case, table, components, &mut output);
+    output.next
 }
 
 // Question 19, and the slack.

@@ -1,15 +1,15 @@
 -- 04, return by return.
-use Prim.Native.Nat.{ℕ, ◌+◌, ◌-◌, ◌%◌, ◌<◌, ◌≤◌}
+use Prim.Native.Nat.{ℕ, ◌-◌, ◌%◌, ◌<◌, ◌≤◌}
 use mathlib.Core.Path.{◌≡◌, refl, sym, ap, ap₂, ◌∙◌}
 use mathlib.Core.List.{List, [], ◌∷◌, ◌++◌}
-use mathlib.Core.Option.{some, none}
+use mathlib.Core.Option.{some}
 use native.Mathlib.Omega.{arith}
 use native.Mathlib.Nat.{add-zero}
-use borrow.Author.Rules.{rules}
 use borrow.Author.Tests.{eq-eqb, ne_eqb}
 use lib.Dec.{eqb, lit<}
 use lib.ListN.{length, get_or, set, get_elem?}
 use Rattle.reading.specs.Syntax.{Process, nil, par, new, input, output, repl}
+use Rattle.std.specs.Prelude.{Option, Some, Result as Answer, Err}
 use Rattle.decoding.specs.Tables.{process_in}
 use Rattle.running.specs.State.{Thread, State}
 use Rattle.running.specs.Products.{news}
@@ -18,19 +18,20 @@ use Rattle.memory.specs.Threads.{unpacked}
 use Rattle.memory.specs.declared.Thread.{Thread as Place}
 use Rattle.script.specs.declared.Communication.{Communication}
 use Rattle.products.specs.declared.Sizes.{Sizes}
-use Rattle.transitions.specs.declared.Actor.{Actor}
 use Rattle.continuations.specs.declared.Action.{Action}
 use Rattle.continuations.specs.declared.Exchange.{Exchange}
 use Rattle.transitions.specs.declared.Moved.{Moved}
-use Rattle.continuations.specs.declared.Placed.{Placed}
+use Rattle.transitions.specs.declared.MoveRefusal.{MoveRefusal}
+use Rattle.transitions.specs.declared.MoveRefusal.TheVariants.{NoThread, OtherPrefix, OtherChannel}
+use Rattle.continuations.specs.declared.Tables.{Tables}
 use Rattle.continuations.specs.declared.Prefix.{Prefix}
 use Rattle.continuations.specs.declared.Prefix.TheVariants as prefix
 use Rattle.continuations.specs.Prefixes.{continuation_of, sending_of, receiving_of, PrefixFound}
 use Rattle.continuations.specs.Places.{remaining_at}
 use Rattle.continuations.specs.Exchanges.{exchanged, Exchanging}
 use Rattle.continuations.proofs.FormLaws.{no_send, no_receive}
-use Rattle.transitions.specs.Steps.{Acts, refusal, outcome_of, SteppedAny, Met}
-use Rattle.transitions.proofs.MoveLaws.{record_bytes_lem, later, answers_refused, answers_placed, no_thread, thread_is}
+use Rattle.transitions.specs.Steps.{outcome_of, Stepped}
+use Rattle.transitions.proofs.MoveLaws.{Acts, record_bytes_lem, later, answers_refused, answers_placed, no_thread, thread_is, look}
 use Rattle.transitions.proofs.UnfoldSteps.{process_of_lem}
 
 -- No thread both sends and receives.
@@ -49,152 +50,118 @@ apart state i j v w a b hv hw ha hb e =
     let same : v ≡ w = let k : some v ≡ some w = sym hv ∙ ap (get_elem? state.threads) e ∙ hw in cc in
     not_both w w.process a b (rw same at ha) hb
 
-module _ (forms : List ℕ) (m : Communication) (sender receiver : Actor) (z : Sizes) (threads types cells : List ℕ) where
+-- 04 of two threads that stand at places.
+module _ (forms : List ℕ) (m : Communication) (t u : Place) (give take : Action) where
   abbrev mine : Process
-  mine = process_in (sender.thread.nest - 1) forms (sender.act.next % 8192)
+  mine = process_in (t.nest - 1) forms (give.next % 8192)
 
   abbrev theirs : Process
-  theirs = process_in (receiver.thread.nest - 1) forms (receiver.act.next % 8192)
+  theirs = process_in (u.nest - 1) forms (take.next % 8192)
 
-  abbrev Both : List ℕ → List ℕ → List ℕ → Moved → Type 0
-  Both threads' types' cells' r =
-      (v w : Thread) → as_sending v v.process ≡ sending_of forms sender.thread (prefix.Sends sender.act)
-      → as_receiving w w.process ≡ receiving_of forms receiver.thread (prefix.Receives receiver.act)
-      → receiver.thread.names + (receiver.thread.nest - 1) < 128 → sender.act.object < 65536
-      → Met forms z m sender.thread receiver.thread v w threads types cells threads' types' cells' r
+  abbrev pair : Exchange
+  pair = record { sender = m.sender; receiver = m.receiver; mine = continuation_of t give.next; theirs = continuation_of u take.next; sent = give.object }
 
-  -- 04 of these two threads.
-  communication : (state : State) (v w : Thread) → get_elem? state.threads m.sender ≡ some v → get_elem? state.threads m.receiver ≡ some w
-      → as_sending v v.process ≡ sending_of forms sender.thread (prefix.Sends sender.act) → as_receiving w w.process ≡ receiving_of forms receiver.thread (prefix.Receives receiver.act)
-      → communicate_step state m.sender m.receiver
-      ≡ guard 34 (eqb sender.act.channel receiver.act.channel)
-      (taken
-      (after state
-      (set (set (singles state.threads) m.sender (made state 0 v v.names mine)) m.receiver
-      (made state (length (news mine)) w (w.names ++ (sender.act.object ∷ [])) theirs))
-      (news mine ++ news theirs))
-      (record_of 1 sender.act.channel sender.act.object v.component.number w.component.number))
-  unfolding communicate_step given sending_of receiving_of
-  communication state v w hv hw send receive = rw (hv, hw, send, receive) refl
+  module _ (state : State) (v w : Thread) (hv : get_elem? state.threads m.sender ≡ some v) (hw : get_elem? state.threads m.receiver ≡ some w)
+      (send : as_sending v v.process ≡ sending_of forms t (Some (prefix.Sends give))) (receive : as_receiving w w.process ≡ receiving_of forms u (Some (prefix.Receives take))) where
+    communication : communicate_step state m.sender m.receiver
+        ≡ guard 34 (eqb give.channel take.channel)
+        (taken
+        (after state
+        (set (set (singles state.threads) m.sender (made state 0 v v.names mine)) m.receiver
+        (made state (length (news mine)) w (w.names ++ (give.object ∷ [])) theirs))
+        (news mine ++ news theirs))
+        (record_of 1 give.channel give.object v.component.number w.component.number))
+    unfolding communicate_step given sending_of receiving_of
+    communication = rw (hv, hw, send, receive) refl
 
-  pub other_channel : (r : Moved) → (sender.act.channel ≡ receiver.act.channel → ⊥) → r ≡ refusal 34 z
-      → Both threads types cells r
-  unfolding guard
-  other_channel r n o v w send receive names small state turns known few room av aw hv hw h =
-      answers_refused forms turns threads types known cells state 34 z (communicate_step state m.sender m.receiver) r (lit< tt)
-      (rw (communication state v w hv hw send receive, ne_eqb sender.act.channel receiver.act.channel n) refl) o h
+    met : (cells : List ℕ) (top : ℕ) → Acts forms cells top t v → Acts forms cells top u w
+        → after state
+        (set (set (singles state.threads) m.sender (made state 0 v v.names mine)) m.receiver
+        (made state (length (news mine)) w (w.names ++ (give.object ∷ [])) theirs))
+        (news mine ++ news theirs)
+        ≡ exchanged forms pair cells state v.component w.component
+    met cells top av aw = unfold made in unfold exchanged in unfold remaining_at in
+        rw (← av.names, ← aw.names, add-zero (length state.types)) refl
 
-  module _ (threads' types' cells' : List ℕ) (p q : Place) (placed : Placed) (r : Moved) where
-    abbrev pair : Exchange
-    pair = record { sender = m.sender; receiver = m.receiver; mine = p; theirs = q; sent = sender.act.object }
+module _ {n : ℕ} (forms : List ℕ) (m : Communication) (z : Sizes) (tables : Tables n) (threads_room : length tables.threads ≡ 128) where
+  abbrev Told : Tables n → Answer Moved MoveRefusal → Type 0
+  Told tables' r = Stepped forms z tables tables' (λ state. communicate_step state m.sender m.receiver) r
 
-    pub communicate_both_step : sender.act.channel ≡ receiver.act.channel
-        → p ≡ continuation_of sender.thread sender.act.next
-        → q ≡ continuation_of receiver.thread receiver.act.next
-        → Exchanging forms pair z threads types cells threads' types' cells' placed
-        → r ≡ outcome_of placed (record { number = 0; label = 1; channel = sender.act.channel; name = sender.act.object; actor = sender.thread.component; receiver = receiver.thread.component })
-        → Both threads' types' cells' r
-    unfolding guard sending_of receiving_of
-    communicate_both_step ch ep eq exchanging o v w send receive names small state turns known few room av aw hv hw h =
-        let xs = exchanging state v.component w.component turns known few room (av.component ∙ ap (λ x. x.component) (sym ep)) (aw.component ∙ ap (λ x. x.component) (sym eq))
-        (rw ep (process_of_lem sender.act.next av)) (rw eq (process_of_lem receiver.act.next aw)) (rw eq names) small
-        (apart state m.sender m.receiver v w _ _ hv hw send receive) h in
-        answers_placed forms turns threads' types' known cells' state placed _ (exchanged forms pair cells state v.component w.component)
-        (record_of 1 sender.act.channel sender.act.object v.component.number w.component.number) (communicate_step state m.sender m.receiver) r
-        (rw (communication state v w hv hw send receive, eq-eqb sender.act.channel receiver.act.channel ch) (ap (λ n. taken n (record_of 1 sender.act.channel sender.act.object v.component.number w.component.number)) (met state v w av aw ep eq)))
-        o
-        (record_bytes_lem 1 sender.act.channel sender.act.object sender.thread.component receiver.thread.component (lit< tt) av.small aw.small
-        ∙ ap₂ (λ a b. record_of 1 sender.act.channel sender.act.object a b) (sym av.component) (sym aw.component))
-        xs.fits
-        xs.taken
-        (λ y. later forms turns threads' types' known cells' state placed.sizes (rw (xs.kept y).0 (xs.kept y).1))
-      where
-        met : (state : State) (v w : Thread) → Acts forms cells z.cells sender.thread v → Acts forms cells z.cells receiver.thread w
-            → p ≡ continuation_of sender.thread sender.act.next
-            → q ≡ continuation_of receiver.thread receiver.act.next
-            → after state
-            (set (set (singles state.threads) m.sender (made state 0 v v.names mine)) m.receiver
-            (made state (length (news mine)) w (w.names ++ (sender.act.object ∷ [])) theirs))
-            (news mine ++ news theirs)
-            ≡ exchanged forms pair cells state v.component w.component
-        met state v w av aw ep eq = unfold made in unfold exchanged in unfold remaining_at in
-            rw (ep, eq, ← av.names, ← aw.names, add-zero (length state.types)) refl
-
--- A sender, and the other thread's prefix.
-module _ (forms : List ℕ) (m : Communication) (sender : Actor) (u : Place) (z : Sizes) (threads types cells : List ℕ) (st : Prefix) (f : PrefixFound forms cells u st) where
-  abbrev Sent : List ℕ → List ℕ → List ℕ → Moved → Type 0
-  Sent threads' types' cells' r =
-      (v w : Thread) → as_sending v v.process ≡ sending_of forms sender.thread (prefix.Sends sender.act) → sender.act.object < 65536
-      → Met forms z m sender.thread u v w threads types cells threads' types' cells' r
-
-  -- 31: the other's prefix is no receive.
-  pub no_receiver : (r : Moved) → receiving_of forms u st ≡ none → r ≡ refusal 31 z → Sent threads types cells r
-  unfolding communicate_step given sending_of
-  no_receiver r n o v w send small state turns known few room av aw hv hw h =
-      answers_refused forms turns threads types known cells state 31 z (communicate_step state m.sender m.receiver) r (lit< tt)
-      (rw (hv, hw, send, (f w aw.names aw.process aw.scope).receives, n) refl) o h
-
-  pub communicate_receives : (r : Moved) (d : Action) (threads' types' cells' : List ℕ) → st ≡ prefix.Receives d
-      → ((v w : Thread) → as_sending v v.process ≡ sending_of forms sender.thread (prefix.Sends sender.act)
-      → as_receiving w w.process ≡ receiving_of forms u (prefix.Receives d) → u.names + (u.nest - 1) < 128 → sender.act.object < 65536
-      → Met forms z m sender.thread u v w threads types cells threads' types' cells' r)
-      → Sent threads' types' cells' r
-  communicate_receives r d threads' types' cells' q g v w send small state turns known few room av aw hv hw h =
-      let prefixed = f w aw.names aw.process aw.scope in
-      g v w send (prefixed.receives ∙ ap (receiving_of forms u) q) (prefixed.binds d q) small state turns known few room av aw hv hw h
-
--- Two indices.
-module _ (forms : List ℕ) (m : Communication) (z : Sizes) (threads types cells : List ℕ) (threads_room : length threads ≡ 128) where
-  abbrev Told : List ℕ → List ℕ → List ℕ → Moved → Type 0
-  Told threads' types' cells' r =
-      SteppedAny forms z threads types cells threads' types' cells' (λ state. communicate_step state m.sender m.receiver) r
-
-  pub no_sender : (r : Moved) → z.threads ≤ m.sender → r ≡ refusal 30 z → Told threads types cells r
+  pub no_sender : z.threads ≤ m.sender → Told tables (Err NoThread)
   unfolding communicate_step given
-  no_sender r k e state turns known few room h =
-      answers_refused forms turns threads types known cells state 30 z (communicate_step state m.sender m.receiver) r (lit< tt)
-      (rw (no_thread forms z turns threads types known cells state threads_room h m.sender k) refl) e h
+  no_sender k state turns few h =
+      answers_refused forms turns tables.threads tables.types tables.known tables.cells state NoThread z (communicate_step state m.sender m.receiver)
+      (rw (no_thread forms z turns tables.threads tables.types tables.known tables.cells state threads_room h m.sender k) refl) h
 
-  pub no_other : (r : Moved) → m.sender < z.threads → z.threads ≤ m.receiver → r ≡ refusal 30 z → Told threads types cells r
+  pub no_other : m.sender < z.threads → z.threads ≤ m.receiver → Told tables (Err NoThread)
   unfolding communicate_step given
-  no_other r k l e state turns known few room h =
-      let found = thread_is forms z turns threads types known cells state threads_room h m.sender k in
-      answers_refused forms turns threads types known cells state 30 z (communicate_step state m.sender m.receiver) r (lit< tt)
-      (rw (found.here, no_thread forms z turns threads types known cells state threads_room h m.receiver l) refl) e h
+  no_other k l state turns few h =
+      let found = thread_is forms z turns tables.threads tables.types tables.known tables.cells state threads_room h m.sender k in
+      answers_refused forms turns tables.threads tables.types tables.known tables.cells state NoThread z (communicate_step state m.sender m.receiver)
+      (rw (found.here, no_thread forms z turns tables.threads tables.types tables.known tables.cells state threads_room h m.receiver l) refl) h
 
-  pub both_there : (t u : Place) (r : Moved) (threads' types' cells' : List ℕ) → m.sender < z.threads → m.receiver < z.threads
-      → t ≡ unpacked (get_or threads m.sender 0) → u ≡ unpacked (get_or threads m.receiver 0)
-      → ((v w : Thread) → Met forms z m t u v w threads types cells threads' types' cells' r)
-      → Told threads' types' cells' r
-  both_there t u r threads' types' cells' k l e f g state turns known few room h =
-      let a = thread_is forms z turns threads types known cells state threads_room h m.sender k in
-      let b = thread_is forms z turns threads types known cells state threads_room h m.receiver l in
-      g a.thread b.thread state turns known few room (rw e a.acts) (rw f b.acts) a.here b.here h
+  module _ (k : m.sender < z.threads) (l : m.receiver < z.threads) (t u : Place)
+      (et : t ≡ unpacked (get_or tables.threads m.sender 0)) (eu : u ≡ unpacked (get_or tables.threads m.receiver 0))
+      (st : Option Prefix) (f : PrefixFound forms tables.cells t st) where
+    -- 31: the first one's prefix is no send.
+    pub idle_sender : ((d : Action) → st ≡ Some (prefix.Sends d) → ⊥) → Told tables (Err OtherPrefix)
+    unfolding communicate_step given
+    idle_sender not state turns few h =
+        let a = look forms z turns tables.threads tables.types tables.known tables.cells state m.sender t st threads_room h k et f in
+        let b = thread_is forms z turns tables.threads tables.types tables.known tables.cells state threads_room h m.receiver l in
+        answers_refused forms turns tables.threads tables.types tables.known tables.cells state OtherPrefix z (communicate_step state m.sender m.receiver)
+        (rw (a.here, b.here, a.prefixed.sends, no_send forms t st not) refl) h
 
--- Two threads, and the prefix of the first.
-module _ (forms : List ℕ) (m : Communication) (t u : Place) (z : Sizes) (threads types cells : List ℕ) (st : Prefix) (f : PrefixFound forms cells t st) where
-  abbrev Two : List ℕ → List ℕ → List ℕ → Moved → Type 0
-  Two threads' types' cells' r = (v w : Thread) → Met forms z m t u v w threads types cells threads' types' cells' r
+    module _ (give : Action) (q : st ≡ Some (prefix.Sends give)) (su : Option Prefix) (g : PrefixFound forms tables.cells u su) where
+      -- 31: the other's prefix is no receive.
+      pub no_receiver : ((d : Action) → su ≡ Some (prefix.Receives d) → ⊥) → Told tables (Err OtherPrefix)
+      unfolding communicate_step given sending_of
+      no_receiver not state turns few h =
+          let a = look forms z turns tables.threads tables.types tables.known tables.cells state m.sender t st threads_room h k et f in
+          let b = look forms z turns tables.threads tables.types tables.known tables.cells state m.receiver u su threads_room h l eu g in
+          answers_refused forms turns tables.threads tables.types tables.known tables.cells state OtherPrefix z (communicate_step state m.sender m.receiver)
+          (rw (a.here, b.here, a.prefixed.sends ∙ ap (sending_of forms t) q, b.prefixed.receives, no_receive forms u su not) refl) h
 
-  -- 31: the first one's prefix is no send.
-  pub idle_sender : (r : Moved) → sending_of forms t st ≡ none → r ≡ refusal 31 z → Two threads types cells r
-  unfolding communicate_step given
-  idle_sender r n o v w state turns known few room av aw hv hw h =
-      answers_refused forms turns threads types known cells state 31 z (communicate_step state m.sender m.receiver) r (lit< tt)
-      (rw (hv, hw, (f v av.names av.process av.scope).sends, n) refl) o h
+      module _ (take : Action) (i : su ≡ Some (prefix.Receives take)) where
+        -- 34: two channels.
+        pub other_channel : (give.channel ≡ take.channel → ⊥) → Told tables (Err OtherChannel)
+        unfolding guard
+        other_channel not state turns few h =
+            let a = look forms z turns tables.threads tables.types tables.known tables.cells state m.sender t st threads_room h k et f in
+            let b = look forms z turns tables.threads tables.types tables.known tables.cells state m.receiver u su threads_room h l eu g in
+            answers_refused forms turns tables.threads tables.types tables.known tables.cells state OtherChannel z (communicate_step state m.sender m.receiver)
+            (rw (
+              communication forms m t u give take state a.thread b.thread a.here b.here (a.prefixed.sends ∙ ap (sending_of forms t) q) (b.prefixed.receives ∙ ap (receiving_of forms u) i),
+              ne_eqb give.channel take.channel not,
+            ) refl) h
 
-  pub sender_sends : (r : Moved) (d : Action) (threads' types' cells' : List ℕ) → st ≡ prefix.Sends d
-      → ((v w : Thread) → as_sending v v.process ≡ sending_of forms t (prefix.Sends d) → d.object < 65536
-      → Met forms z m t u v w threads types cells threads' types' cells' r)
-      → Two threads' types' cells' r
-  sender_sends r d threads' types' cells' q g v w state turns known few room av aw hv hw h =
-      let prefixed = f v av.names av.process av.scope in
-      g v w (prefixed.sends ∙ ap (sending_of forms t) q) (prefixed.small d q) state turns known few room av aw hv hw h
-
-pub ruleset both_steps = (rules, other_channel)
-
-pub ruleset sender_steps = (rules, no_receive, no_receiver)
-
-pub ruleset threads_steps = (rules, no_send, idle_sender)
-
-pub ruleset communicate_steps = (rules, no_sender, no_other)
+        pub communicated : (front back : Place) (placed : Option Sizes) (tables' : Tables n) (r : Answer Moved MoveRefusal)
+            → length tables.cells ≡ n → give.channel ≡ take.channel → front ≡ continuation_of t give.next → back ≡ continuation_of u take.next
+            → Exchanging forms (record { sender = m.sender; receiver = m.receiver; mine = front; theirs = back; sent = give.object }) z tables tables' placed
+            → r ≡ outcome_of placed (record { number = 0; label = 1; channel = give.channel; name = give.object; actor = t.component; receiver = u.component })
+            → Told tables' r
+        unfolding guard sending_of receiving_of
+        communicated front back placed tables' r sized ch em ex exchanging o state turns few h =
+            let a = look forms z turns tables.threads tables.types tables.known tables.cells state m.sender t st threads_room h k et f in
+            let b = look forms z turns tables.threads tables.types tables.known tables.cells state m.receiver u su threads_room h l eu g in
+            let v = a.thread in
+            let w = b.thread in
+            let av : Acts forms tables.cells z.cells t v = a.acts in
+            let aw : Acts forms tables.cells z.cells u w = b.acts in
+            let send = a.prefixed.sends ∙ ap (sending_of forms t) q in
+            let receive = b.prefixed.receives ∙ ap (receiving_of forms u) i in
+            let exchanging' : Exchanging forms (pair forms m t u give take) z tables tables' placed = rw (em, ex) at exchanging in
+            let xs =
+            exchanging' state v.component w.component turns (omega (arith, few, sized)) av.component aw.component (process_of_lem give.next av) (process_of_lem take.next aw)
+            (b.prefixed.binds take i) (a.prefixed.small give q)
+            (apart state m.sender m.receiver v w _ _ a.here b.here send receive) h in
+            answers_placed forms turns tables'.threads tables'.types tables'.known tables'.cells state placed _ (exchanged forms (pair forms m t u give take) tables.cells state v.component w.component)
+            (record_of 1 give.channel give.object v.component.number w.component.number) (communicate_step state m.sender m.receiver) z r
+            (rw (communication forms m t u give take state v w a.here b.here send receive, eq-eqb give.channel take.channel ch)
+            (ap (λ n. taken n (record_of 1 give.channel give.object v.component.number w.component.number)) (met forms m t u give take state v w a.here b.here send receive tables.cells z.cells av aw)))
+            o
+            (record_bytes_lem 1 give.channel give.object t.component u.component (lit< tt) av.small aw.small
+            ∙ ap₂ (λ a b. record_of 1 give.channel give.object a b) (sym av.component) (sym aw.component))
+            xs.fits
+            xs.taken
+            (λ y. later forms turns tables'.threads tables'.types tables'.known tables'.cells state z (xs.kept y turns z.cells (omega arith) h))

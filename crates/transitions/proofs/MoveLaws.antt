@@ -7,9 +7,12 @@ use mathlib.Core.Option.{some, none}
 use native.Mathlib.Omega.{arith}
 use native.Mathlib.Nat.{suc-add, mod-eq_of_lt}
 use borrow.Author.Tests.{ltb-true, ltb-false}
-use lib.Dec.{ltb, lit<}
+use lib.Dec.{ltb}
 use lib.ListN.{length, get_or, take, drop, set, get_elem?, replicate}
 use lib.Seq.{get_or-take, length-take-le, take-set-lt, set_out, get_or-set_other}
+use Rattle.std.specs.Prelude.{Option, Some, None, is_some, Result as Answer, Err}
+use Rattle.decoding.specs.Tables.{process_in}
+use Rattle.memory.specs.Chains.{chain}
 use Rattle.inference.specs.Lists.{gather}
 use Rattle.running.specs.State.{Thread, State}
 use Rattle.running.specs.Moves.{Result, refuses, guard, singles, join, after, environment_knows, now_known, has_room, taken, word, record_of, state_after, record_bytes}
@@ -22,11 +25,12 @@ use Rattle.products.specs.declared.Sizes.{Sizes}
 use Rattle.products.specs.Held.{Runs, Holds}
 use Rattle.products.proofs.PairLaws.{pairs_at, pairs_length}
 use Rattle.transitions.specs.declared.Moved.{Moved}
-use Rattle.continuations.specs.declared.Placed.{Placed}
+use Rattle.transitions.specs.declared.MoveRefusal.{MoveRefusal}
+use Rattle.transitions.specs.declared.MoveRefusal.TheVariants.{NoThread, OtherPrefix, NotKnown, OtherType, OtherChannel, NoRoom}
 use Rattle.continuations.specs.declared.Prefix.{Prefix}
 use Rattle.continuations.specs.Prefixes.{HasPrefix, PrefixFound}
 use Rattle.continuations.specs.Places.{changed}
-use Rattle.transitions.specs.Steps.{Answers, Acts, refusal, outcome_of}
+use Rattle.transitions.specs.Steps.{number_of, refused_line, sizes_after, line_of, Answers, outcome_of}
 
 -- The bytes of a record.
 pub record_bytes_lem : (label channel name actor receiver : ℕ) → label < 256 → actor < 256 → receiver < 256
@@ -34,9 +38,24 @@ pub record_bytes_lem : (label channel name actor receiver : ℕ) → label < 256
 unfolding bytes_of record_of
 record_bytes_lem label channel name actor receiver l a r = rw (mod-eq_of_lt l, mod-eq_of_lt a, mod-eq_of_lt r) refl
 
-refusal_bytes : (n : ℕ) (z : Sizes) → n < 256 → bytes_of (refusal n z).line ≡ n ∷ replicate 7 0
-unfolding bytes_of refusal word
-refusal_bytes n z h = rw (mod-eq_of_lt h) refl
+refusal_bytes : (q : MoveRefusal) → bytes_of (refused_line (number_of q)) ≡ number_of q ∷ replicate 7 0
+unfolding bytes_of refused_line word
+refusal_bytes NoThread = refl
+refusal_bytes OtherPrefix = refl
+refusal_bytes NotKnown = refl
+refusal_bytes OtherType = refl
+refusal_bytes OtherChannel = refl
+refusal_bytes NoRoom = refl
+
+-- The thread that stands at a place with its run names.
+pub record Acts (forms cells : List ℕ) (top : ℕ) (p : Place) (u : Thread) : Type 0 where
+  pub env : p.env < top
+  pub small : p.component < 256
+  pub scope : p.names + p.nest ≤ 128
+  pub deep : p.nest ≤ 64
+  pub component : u.component.number ≡ p.component
+  pub names : u.names ≡ chain cells p.names p.env
+  pub process : u.process ≡ process_in p.nest forms p.at
 
 module _ (forms : List ℕ) (turns : ℕ) (threads types : List ℕ) (known : List Bool) (cells : List ℕ) (state : State) where
   -- Time passes.
@@ -52,23 +71,24 @@ module _ (forms : List ℕ) (turns : ℕ) (threads types : List ℕ) (known : Li
   }
 
   -- A refused move.
-  pub answers_refused : (n : ℕ) (z : Sizes) (result : Result) (r : Moved) → n < 256 → result ≡ refuses n → r ≡ refusal n z → Holds forms z turns threads types known cells state
-      → Answers forms (turns + 1) threads types known cells state result r
-  unfolding state_after record_bytes
-  answers_refused n z result r small e i h = rw (e, i) (record { holds = unfold refusal in later z h; bytes = refusal_bytes n z small })
+  pub answers_refused : (q : MoveRefusal) (z : Sizes) (result : Result) → result ≡ refuses (number_of q) → Holds forms z turns threads types known cells state
+      → Answers forms (turns + 1) threads types known cells state result z (Err q)
+  unfolding state_after record_bytes sizes_after line_of
+  answers_refused q z result e h = rw e (record { holds = later z h; bytes = refusal_bytes q })
 
   -- A move whose products were to be placed.
-  pub answers_placed : (p : Placed) (rec : Record) (next : State) (bytes : List ℕ) (result : Result) (r : Moved) → result ≡ taken next bytes → r ≡ outcome_of p rec
-      → bytes_of rec ≡ bytes → p.fits ≡ has_room next
-      → (p.fits ≡ true → Holds forms p.sizes (turns + 1) threads types known cells next)
-      → (p.fits ≡ false → Holds forms p.sizes (turns + 1) threads types known cells state)
-      → Answers forms (turns + 1) threads types known cells state result r
-  unfolding taken guard outcome_of state_after record_bytes
-  answers_placed p rec next bytes result r e i b f fits full = go p.fits refl
+  pub answers_placed : (p : Option Sizes) (rec : Record) (next : State) (bytes : List ℕ) (result : Result) (z : Sizes) (r : Answer Moved MoveRefusal)
+      → result ≡ taken next bytes → r ≡ outcome_of p rec
+      → bytes_of rec ≡ bytes → is_some p ≡ has_room next
+      → ((s : Sizes) → p ≡ Some s → Holds forms s (turns + 1) threads types known cells next)
+      → (p ≡ None → Holds forms z (turns + 1) threads types known cells state)
+      → Answers forms (turns + 1) threads types known cells state result z r
+  unfolding taken guard outcome_of state_after record_bytes sizes_after line_of
+  answers_placed p rec next bytes result z r e i b f fits full = go p refl
     where
-      go : (x : Bool) → p.fits ≡ x → Answers forms (turns + 1) threads types known cells state result r
-      go true h = rw (e, i, ← f, h) (record { holds = fits h; bytes = b })
-      go false h = rw (e, i, ← f, h) (record { holds = unfold refusal in full h; bytes = refusal_bytes 35 p.sizes (lit< tt) })
+      go : (x : Option Sizes) → p ≡ x → Answers forms (turns + 1) threads types known cells state result z r
+      go (Some s) h = rw (e, i, ← f, h) (record { holds = fits s h; bytes = b })
+      go None h = rw (e, i, ← f, h) (record { holds = full h; bytes = refusal_bytes NoRoom })
 
 -- The thread at an index.
 get_elem_none : {A : Type 0} (l : List A) (i : ℕ) → length l ≤ i → get_elem? l i ≡ none
@@ -149,13 +169,13 @@ module _ (state : State) (i : ℕ) (u : Thread) (here : get_elem? state.threads 
       rw (join_set state.threads i (new ++ (u ∷ [])) (inside state.threads i u here), before_here state.threads i u new here) refl
 
 -- The thread at an index, with its prefix.
-pub record Looked (forms cells : List ℕ) (top : ℕ) (t : Place) (state : State) (i : ℕ) (st : Prefix) : Type 0 where
+pub record Looked (forms cells : List ℕ) (top : ℕ) (t : Place) (state : State) (i : ℕ) (st : Option Prefix) : Type 0 where
   pub thread : Thread
   pub here : get_elem? state.threads i ≡ some thread
   pub acts : Acts forms cells top t thread
   pub prefixed : HasPrefix forms t thread st
 
-pub look : (forms : List ℕ) (z : Sizes) (turns : ℕ) (threads types : List ℕ) (known : List Bool) (cells : List ℕ) (state : State) (i : ℕ) (t : Place) (st : Prefix)
+pub look : (forms : List ℕ) (z : Sizes) (turns : ℕ) (threads types : List ℕ) (known : List Bool) (cells : List ℕ) (state : State) (i : ℕ) (t : Place) (st : Option Prefix)
     → length threads ≡ 128 → Holds forms z turns threads types known cells state → i < z.threads → t ≡ unpacked (get_or threads i 0)
     → PrefixFound forms cells t st
     → Looked forms cells z.cells t state i st

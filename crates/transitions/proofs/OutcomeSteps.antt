@@ -1,42 +1,50 @@
 -- What a move tells, return by return.
 use Prim.Native.Nat.{ℕ, ◌<◌, ◌≤◌}
-use mathlib.Core.Path.{◌≡◌, refl}
+use mathlib.Core.Path.{◌≡◌, refl, sym, ◌∙◌}
 use mathlib.Core.List.{List}
-use mathlib.Core.Bool.{Bool, true, false, not}
+use mathlib.Core.Bool.{Bool, true}
 use borrow.Author.Rules.{rules}
-use borrow.Author.Tests.{lt-ltb, le-ltb, not-true, not-false}
+use borrow.Author.Tests.{lt-ltb, le-ltb}
 use lib.ListN.{set}
+use Rattle.std.specs.Prelude.{Option, Some, None, Result as Answer, Ok, Err}
 use Rattle.products.specs.declared.Sizes.{Sizes}
 use Rattle.script.specs.declared.Record.{Record}
 use Rattle.transitions.specs.declared.Moved.{Moved}
-use Rattle.continuations.specs.declared.Placed.{Placed}
-use Rattle.transitions.specs.Steps.{refusal, outcome_of, known_after}
+use Rattle.transitions.specs.declared.MoveRefusal.{MoveRefusal}
+use Rattle.transitions.specs.declared.MoveRefusal.TheVariants.{NoRoom}
+use Rattle.transitions.specs.Steps.{number_of, refused_line, sizes_after, line_of, outcome_of, known_after}
 
-pub refused_is : (n : ℕ) (z : Sizes)
-    → ◌≡◌ {A = Moved} (record { sizes = z; line = record { number = n; label = 0; channel = 0; name = 0; actor = 0; receiver = 0 } }) (refusal n z)
-unfolding refusal
-refused_is n z = refl
+-- A value that is another one.
+pub never : {A : Type 0} {r : Option A} {x y : A} → r ≡ Some x → (x ≡ y → ⊥) → r ≡ Some y → ⊥
+never {A} {r} {x} {y} e h q = let k : Some x ≡ Some y = sym e ∙ q in let same : x ≡ y = cc in h same
 
-module _ (p : Placed) where
-  pub outcome_full : (line : Record) (r : Moved) → not p.fits ≡ true → r ≡ refusal 35 p.sizes → r ≡ outcome_of p line
-  unfolding outcome_of
-  outcome_full line r h e = rw (not-true p.fits h) e
+-- A move as it is logged.
+pub logged_taken : (z : Sizes) (r : Answer Moved MoveRefusal) (moved : Moved) → r ≡ Ok moved → moved ≡ record { sizes = sizes_after z r; line = line_of r }
+unfolding sizes_after line_of
+logged_taken z r moved e = rw e refl
 
-  pub outcome_taken : (line : Record) → not p.fits ≡ false → ◌≡◌ {A = Moved} (record { sizes = p.sizes; line = line }) (outcome_of p line)
-  unfolding outcome_of
-  outcome_taken line h = rw (not-false p.fits h) refl
+pub logged_refused : (z : Sizes) (r : Answer Moved MoveRefusal) (refusal : MoveRefusal) (line : Record) → r ≡ Err refusal → line ≡ refused_line (number_of refusal)
+    → ◌≡◌ {A = Moved} (record { sizes = z; line = line }) (record { sizes = sizes_after z r; line = line_of r })
+unfolding sizes_after line_of
+logged_refused z r refusal line e f = rw (e, f) refl
 
-  module _ (n : ℕ) (known : List Bool) where
-    pub know_not : p.fits ≡ false → known ≡ known_after p n known
-    unfolding known_after
-    know_not h = rw h refl
+-- The outcome of a move whose products were to be placed.
+pub outcome_taken : (p : Option Sizes) (z : Sizes) (line : Record) → p ≡ Some z → Ok (record { sizes = z; line = line }) ≡ outcome_of p line
+unfolding outcome_of
+outcome_taken p z line e = rw e refl
 
-    pub know_late : p.fits ≡ true → p.sizes.names ≤ n → known ≡ known_after p n known
-    unfolding known_after
-    know_late h k = rw (h, le-ltb n p.sizes.names k) refl
+pub outcome_full : (p : Option Sizes) (line : Record) → ((z : Sizes) → p ≡ Some z → ⊥) → Err NoRoom ≡ outcome_of p line
+unfolding outcome_of
+outcome_full None line h = refl
+outcome_full (Some z) line h = absurd (h z refl)
 
-    pub know_now : (known' : List Bool) → p.fits ≡ true → n < p.sizes.names → known' ≡ set known n true → known' ≡ known_after p n known
-    unfolding known_after
-    know_now known' h k e = rw (h, lt-ltb n p.sizes.names k) e
+module _ (z : Sizes) (n : ℕ) (known : List Bool) where
+  pub know_late : z.names ≤ n → known ≡ known_after z n known
+  unfolding known_after
+  know_late k = rw (le-ltb n z.names k) refl
 
-pub ruleset outcome_steps = (rules, refused_is, outcome_full, outcome_taken, know_not, know_late, know_now)
+  pub know_now : (known' : List Bool) → n < z.names → known' ≡ set known n true → known' ≡ known_after z n known
+  unfolding known_after
+  know_now known' k e = rw (lt-ltb n z.names k) e
+
+pub ruleset outcome_steps = (rules, logged_taken, logged_refused, know_late, know_now)

@@ -3,7 +3,7 @@ use Prim.Native.Nat.{ℕ, ◌+◌, ◌-◌, ◌%◌, ◌<◌, ◌≤◌}
 use mathlib.Core.Path.{◌≡◌, refl, sym, ap, ◌∙◌}
 use mathlib.Core.List.{List}
 use mathlib.Core.Bool.{Bool, true, false, cond, not}
-use mathlib.Core.Option.{some, none}
+use mathlib.Core.Option.{some}
 use native.Mathlib.Omega.{arith}
 use native.Mathlib.Nat.{add-zero}
 use borrow.Author.Rules.{rules}
@@ -11,6 +11,7 @@ use borrow.Author.Tests.{not-true, not-false}
 use lib.Dec.{lit<}
 use lib.ListN.{length, get_or, take, set, get_elem?}
 use Rattle.reading.specs.Syntax.{Process}
+use Rattle.std.specs.Prelude.{Option, Some, None, Result as Answer, Ok, Err}
 use Rattle.decoding.specs.Tables.{process_in}
 use Rattle.running.specs.State.{Thread, State}
 use Rattle.running.specs.Products.{news, threads_of}
@@ -21,14 +22,17 @@ use Rattle.script.specs.declared.Record.{Record}
 use Rattle.products.specs.declared.Sizes.{Sizes}
 use Rattle.continuations.specs.declared.Action.{Action}
 use Rattle.transitions.specs.declared.Moved.{Moved}
-use Rattle.continuations.specs.declared.Placed.{Placed}
+use Rattle.transitions.specs.declared.MoveRefusal.{MoveRefusal}
+use Rattle.transitions.specs.declared.MoveRefusal.TheVariants.{NoThread, OtherPrefix, NotKnown, NoRoom}
+use Rattle.continuations.specs.declared.Tables.{Tables}
 use Rattle.continuations.specs.declared.Prefix.{Prefix}
 use Rattle.continuations.specs.declared.Prefix.TheVariants as prefix
 use Rattle.continuations.specs.Prefixes.{continuation_of, sending_of, PrefixFound}
 use Rattle.continuations.specs.Places.{remaining_at, changed, put, Replaces, Replacing}
 use Rattle.continuations.proofs.FormLaws.{no_send}
-use Rattle.transitions.specs.Steps.{Acts, refusal, outcome_of, known_after, Stepped, Acted}
-use Rattle.transitions.proofs.MoveLaws.{record_bytes_lem, later, answers_refused, answers_placed, no_thread, after_one, look, holds_known, known_is}
+use Rattle.transitions.specs.Steps.{outcome_of, known_after, Stepped}
+use Rattle.transitions.proofs.MoveLaws.{Acts, record_bytes_lem, later, answers_refused, answers_placed, no_thread, after_one, look, holds_known, known_is}
+use Rattle.transitions.proofs.OutcomeSteps.{outcome_taken, outcome_full}
 use Rattle.transitions.proofs.UnfoldSteps.{process_of_lem}
 
 module _ (act : Action) (component : ℕ) (old : Bool) where
@@ -49,20 +53,15 @@ label_small : (b : Bool) → cond b 3 4 < 256
 label_small true = lit< tt
 label_small false = lit< tt
 
-module _ (forms : List ℕ) (t : Place) (act : Action) (i : ℕ) (z : Sizes) (threads types : List ℕ) (known : List Bool) (cells : List ℕ) where
+module _ (forms : List ℕ) (t : Place) (act : Action) (i : ℕ) (cells : List ℕ) (top : ℕ) where
   abbrev continuation : Process
   continuation = process_in (t.nest - 1) forms (act.next % 8192)
 
   abbrev process : Place
   process = continuation_of t act.next
 
-  abbrev Sent : List ℕ → List ℕ → List Bool → List ℕ → Moved → Type 0
-  Sent threads' types' known' cells' r =
-      (u : Thread) → as_sending u u.process ≡ sending_of forms t (prefix.Sends act)
-      → Acted forms z t i u threads types known cells threads' types' known' cells' (λ state. send_step state i) r
-
   module _ (state : State) (u : Thread) (here : get_elem? state.threads i ≡ some u)
-      (send : as_sending u u.process ≡ sending_of forms t (prefix.Sends act)) where
+      (send : as_sending u u.process ≡ sending_of forms t (Some (prefix.Sends act))) where
     -- 02 of this thread.
     sending : send_step state i
         ≡ guard 32 (environment_knows state act.channel)
@@ -71,7 +70,7 @@ module _ (forms : List ℕ) (t : Place) (act : Action) (i : ℕ) (z : Sizes) (th
     unfolding send_step given sending_of
     sending = rw (here, send) refl
 
-    in_place : Acts forms cells z.cells t u
+    in_place : Acts forms cells top t u
         → after state (set (singles state.threads) i (made state 0 u u.names continuation)) (news continuation) ≡ put forms process i (i + 1) cells state u.component
     unfolding made put remaining_at
     in_place a =
@@ -79,65 +78,70 @@ module _ (forms : List ℕ) (t : Place) (act : Action) (i : ℕ) (z : Sizes) (th
         (after_one state i u here (threads_of u.component u.names (length state.types) continuation) (news continuation)
         ∙ ap (λ ns. changed state (replaced state.threads i (i + 1) (threads_of u.component ns (length state.types) continuation)) (news continuation)) a.names)
 
-  pub send_unknown : (b : Bool) (r : Moved) → b ≡ get_or (take z.names known) act.channel false → not b ≡ true → r ≡ refusal 32 z
-      → Sent threads types known cells r
-  unfolding guard
-  send_unknown b r e h o u send state turns few a here holds =
-      answers_refused forms turns threads types known cells state 32 z (send_step state i) r (lit< tt)
-      (rw (sending state u here send, known_is act.channel b e holds, not-true b h) refl) o holds
+module _ {n : ℕ} (forms : List ℕ) (i : ℕ) (z : Sizes) (m : Tables n) (threads_room : length m.threads ≡ 128) where
+  abbrev Told : Tables n → Answer Moved MoveRefusal → Type 0
+  Told m' r = Stepped forms z m m' (λ state. send_step state i) r
 
-  module _ (threads' types' cells' : List ℕ) (known' : List Bool) (b old : Bool) (line : Record) (body : Place) (placed : Placed) (r : Moved) (room : length known ≡ 1024) where
-    pub send_at_step : b ≡ get_or (take z.names known) act.channel false → not b ≡ false → old ≡ get_or (take z.names known) act.object false
-        → line ≡ record { number = 0; label = cond old 3 4; channel = act.channel; name = act.object; actor = t.component; receiver = 255 }
-        → body ≡ process
-        → Replacing forms body i (i + 1) z threads types cells threads' types' cells' placed
-        → known' ≡ known_after placed act.object known
-        → r ≡ outcome_of placed line
-        → Sent threads' types' known' cells' r
-    unfolding guard known_after
-    send_at_step e h f l bd replacing k o u send state turns few a here holds =
-        let rs : Replaces forms process i (i + 1) z turns threads' types' known cells cells' state u.component placed
-        = rw bd at (replacing state u.component turns known (omega arith) room (a.component ∙ ap (λ p. p.component) (sym bd)) (rw bd (process_of_lem act.next a)) holds) in
-        let next : State = put forms process i (i + 1) cells state u.component in
-        answers_placed forms turns threads' types' known' cells' state placed line (now_known act.object next)
-        (record_of (cond old 3 4) act.channel act.object u.component.number 255) (send_step state i) r
-        (rw (sending state u here send, known_is act.channel b e holds, not-false b h, known_is act.object old f holds, in_place state u here send a) refl)
-        o
-        (rw l (record_bytes_lem (cond old 3 4) act.channel act.object t.component 255 (label_small old) a.small (lit< tt))
-        ∙ ap (λ n. record_of (cond old 3 4) act.channel act.object n 255) (sym a.component))
-        (rs.fits ∙ same_room act.object next)
-        (λ y. later forms turns threads' types' known' cells' (now_known act.object next) placed.sizes
-        (rw (k, y) (holds_known forms placed.sizes turns threads' types' known cells' next act.object room (rs.taken y))))
-        (λ y. later forms turns threads' types' known' cells' state placed.sizes (rw (k, y, (rs.kept y).0) (rs.kept y).1))
-
-module _ (forms : List ℕ) (i : ℕ) (z : Sizes) (threads types : List ℕ) (known : List Bool) (cells : List ℕ) (threads_room : length threads ≡ 128) where
-  abbrev Told : List ℕ → List ℕ → List Bool → List ℕ → Moved → Type 0
-  Told threads' types' known' cells' r = Stepped forms z threads types known cells threads' types' known' cells' (λ state. send_step state i) r
-
-  pub send_no_thread : (r : Moved) → z.threads ≤ i → r ≡ refusal 30 z → Told threads types known cells r
+  pub send_no_thread : z.threads ≤ i → Told m (Err NoThread)
   unfolding send_step given
-  send_no_thread r k e state turns few h =
-      answers_refused forms turns threads types known cells state 30 z (send_step state i) r (lit< tt)
-      (rw (no_thread forms z turns threads types known cells state threads_room h i k) refl) e h
+  send_no_thread k state turns few h =
+      answers_refused forms turns m.threads m.types m.known m.cells state NoThread z (send_step state i)
+      (rw (no_thread forms z turns m.threads m.types m.known m.cells state threads_room h i k) refl) h
 
-  module _ (t : Place) (st : Prefix) (k : i < z.threads) (e : t ≡ unpacked (get_or threads i 0)) (f : PrefixFound forms cells t st) where
+  module _ (t : Place) (st : Option Prefix) (k : i < z.threads) (e : t ≡ unpacked (get_or m.threads i 0)) (f : PrefixFound forms m.cells t st) where
     -- 31: its prefix is no send.
-    pub send_other : (r : Moved) → sending_of forms t st ≡ none → r ≡ refusal 31 z → Told threads types known cells r
+    pub send_other : ((d : Action) → st ≡ Some (prefix.Sends d) → ⊥) → Told m (Err OtherPrefix)
     unfolding send_step given
-    send_other r n o state turns few h =
-        let l = look forms z turns threads types known cells state i t st threads_room h k e f in
-        answers_refused forms turns threads types known cells state 31 z (send_step state i) r (lit< tt) (rw (l.here, l.prefixed.sends, n) refl) o h
+    send_other not state turns few h =
+        let l = look forms z turns m.threads m.types m.known m.cells state i t st threads_room h k e f in
+        answers_refused forms turns m.threads m.types m.known m.cells state OtherPrefix z (send_step state i)
+        (rw (l.here, l.prefixed.sends, no_send forms t st not) refl) h
 
-    pub send_sends : (r : Moved) (d : Action) (threads' types' cells' : List ℕ) (known' : List Bool) → st ≡ prefix.Sends d
-        → ((u : Thread) → as_sending u u.process ≡ sending_of forms t (prefix.Sends d)
-        → Acted forms z t i u threads types known cells threads' types' known' cells' (λ state. send_step state i) r)
-        → Told threads' types' known' cells' r
-    send_sends r d threads' types' cells' known' q g state turns few h =
-        let l = look forms z turns threads types known cells state i t st threads_room h k e f in
-        g l.thread (l.prefixed.sends ∙ ap (sending_of forms t) q) state turns few l.acts l.here h
+    module _ (act : Action) (q : st ≡ Some (prefix.Sends act)) (b : Bool) (eb : b ≡ get_or (take z.names m.known) act.channel false) where
+      -- 32: the environment does not know the channel.
+      pub send_unknown : not b ≡ true → Told m (Err NotKnown)
+      unfolding guard
+      send_unknown h state turns few holds =
+          let l = look forms z turns m.threads m.types m.known m.cells state i t st threads_room holds k e f in
+          answers_refused forms turns m.threads m.types m.known m.cells state NotKnown z (send_step state i)
+          (rw (sending forms t act i m.cells z.cells state l.thread l.here (l.prefixed.sends ∙ ap (sending_of forms t) q), known_is act.channel b eb holds, not-true b h) refl) holds
+
+      module _ (h : not b ≡ false) (old : Bool) (eo : old ≡ get_or (take z.names m.known) act.object false) (body : Place) (bd : body ≡ continuation_of t act.next)
+          (placed : Option Sizes) (m₁ : Tables n) (known_room : length m₁.known ≡ 1024) (sized : length m.cells ≡ n) (replacing : Replacing forms body i (i + 1) z m m₁ placed) where
+        abbrev line : Record
+        line = record { number = 0; label = cond old 3 4; channel = act.channel; name = act.object; actor = t.component; receiver = 255 }
+
+        -- What is known afterwards is told of the sizes afterwards; where there is no room, it stays.
+        sent : (known' : List Bool) (r : Answer Moved MoveRefusal) → r ≡ outcome_of placed line
+            → ((s : Sizes) → placed ≡ Some s → known' ≡ known_after s act.object m₁.known) → (placed ≡ None → known' ≡ m₁.known)
+            → Told (record { threads = m₁.threads; made = m₁.made; types = m₁.types; known = known'; cells = m₁.cells }) r
+        unfolding guard known_after
+        sent known' r o taken_known full_known state turns few holds =
+            let l = look forms z turns m.threads m.types m.known m.cells state i t st threads_room holds k e f in
+            let u = l.thread in
+            let a : Acts forms m.cells z.cells t u = l.acts in
+            let send = l.prefixed.sends ∙ ap (sending_of forms t) q in
+            let rs : Replaces forms (continuation_of t act.next) i (i + 1) z turns m m₁ state u.component placed
+            = rw bd at (replacing state u.component turns (omega (arith, few, sized)) (a.component ∙ ap (λ p. p.component) (sym bd)) (rw bd (process_of_lem act.next a)) holds) in
+            let next : State = put forms (continuation_of t act.next) i (i + 1) m.cells state u.component in
+            answers_placed forms turns m₁.threads m₁.types known' m₁.cells state placed line (now_known act.object next)
+            (record_of (cond old 3 4) act.channel act.object u.component.number 255) (send_step state i) z r
+            (rw (sending forms t act i m.cells z.cells state u l.here send, known_is act.channel b eb holds, not-false b h, known_is act.object old eo holds, in_place forms t act i m.cells z.cells state u l.here send a) refl)
+            o
+            (record_bytes_lem (cond old 3 4) act.channel act.object t.component 255 (label_small old) a.small (lit< tt)
+            ∙ ap (λ n. record_of (cond old 3 4) act.channel act.object n 255) (sym a.component))
+            (rs.fits ∙ same_room act.object next)
+            (λ s y. later forms turns m₁.threads m₁.types known' m₁.cells (now_known act.object next) s
+            (rw (taken_known s y) (holds_known forms s turns m₁.threads m₁.types m₁.known m₁.cells next act.object known_room (rs.taken s y))))
+            (λ y. later forms turns m₁.threads m₁.types known' m₁.cells state z (rw (full_known y) (rs.kept y turns z.cells (omega arith) holds)))
+
+        pub send_full : ((s : Sizes) → placed ≡ Some s → ⊥) → Told m₁ (Err NoRoom)
+        send_full not = sent m₁.known (Err NoRoom) (outcome_full placed line not) (λ s y. absurd (not s y)) (λ y. refl)
+
+        pub send_taken : (s : Sizes) → placed ≡ Some s → (known' : List Bool) (rec : Record) → known' ≡ known_after s act.object m₁.known → rec ≡ line
+            → Told (record { threads = m₁.threads; made = m₁.made; types = m₁.types; known = known'; cells = m₁.cells }) (Ok (record { sizes = s; line = rec }))
+        send_taken s y known' rec g j =
+            sent known' (Ok (record { sizes = s; line = rec })) (rw j (outcome_taken placed s line y))
+            (λ s' y'. let same : s ≡ s' = cc in rw (← same) g) (λ y'. let w : ◌≡◌ {A = ℕ} 0 1 = cc in absurd (omega arith))
 
 pub ruleset line_steps = (rules, line_old, line_new)
-
-pub ruleset send_at_steps = (rules, send_unknown)
-
-pub ruleset send_steps = (rules, send_no_thread, no_send, send_other)

@@ -2,12 +2,12 @@
 use Prim.Native.Nat.{ℕ, ◌-◌, ◌%◌, ◌<◌, ◌≤◌}
 use mathlib.Core.Path.{◌≡◌, refl, sym, ap, ◌∙◌}
 use mathlib.Core.List.{List}
-use mathlib.Core.Option.{some, none}
+use mathlib.Core.Option.{some}
 use native.Mathlib.Omega.{arith}
 use native.Mathlib.Nat.{add-zero, mod-lt}
-use borrow.Author.Rules.{rules}
 use lib.Dec.{lit<}
 use lib.ListN.{length, get_or, get_elem?}
+use Rattle.std.specs.Prelude.{Option, Some, Result as Answer, Err}
 use Rattle.decoding.specs.Tables.{process_in}
 use Rattle.running.specs.State.{Thread, State}
 use Rattle.running.specs.Products.{news, threads_of}
@@ -16,21 +16,23 @@ use Rattle.memory.specs.Threads.{unpacked, replaced}
 use Rattle.memory.specs.declared.Thread.{Thread as Place}
 use Rattle.products.specs.declared.Sizes.{Sizes}
 use Rattle.transitions.specs.declared.Moved.{Moved}
-use Rattle.continuations.specs.declared.Placed.{Placed}
+use Rattle.transitions.specs.declared.MoveRefusal.{MoveRefusal}
+use Rattle.transitions.specs.declared.MoveRefusal.TheVariants.{NoThread, OtherPrefix}
+use Rattle.continuations.specs.declared.Tables.{Tables}
 use Rattle.continuations.specs.declared.Prefix.{Prefix}
 use Rattle.continuations.specs.declared.Prefix.TheVariants as prefix
 use Rattle.continuations.specs.Prefixes.{continuation_of, repeat_of, PrefixFound}
 use Rattle.continuations.specs.Places.{Ranged, remaining_at, changed, put, Replacing}
 use Rattle.continuations.proofs.FormLaws.{no_repeat}
-use Rattle.transitions.specs.Steps.{Acts, refusal, outcome_of, SteppedAny, ActedAny}
-use Rattle.transitions.proofs.MoveLaws.{record_bytes_lem, later, answers_refused, answers_placed, no_thread, after_before, look}
+use Rattle.transitions.specs.Steps.{outcome_of, Stepped}
+use Rattle.transitions.proofs.MoveLaws.{Acts, record_bytes_lem, later, answers_refused, answers_placed, no_thread, after_before, look}
 
 -- The state after an unfolding.
 module _ (forms : List ℕ) (cells : List ℕ) (top : ℕ) (t : Place) (next i : ℕ) (state : State) (u : Thread) where
   abbrev process : Place
   process = continuation_of t next
 
-  unfolded : Acts forms cells top t u → get_elem? state.threads i ≡ some u → as_repeat u.process ≡ repeat_of forms t (prefix.Repeats next)
+  unfolded : Acts forms cells top t u → get_elem? state.threads i ≡ some u → as_repeat u.process ≡ repeat_of forms t (Some (prefix.Repeats next))
       → unfold_step state i ≡ taken (put forms process i i cells state u.component) (record_of 6 65535 65535 u.component.number 255)
   unfolding unfold_step given made put remaining_at repeat_of
   unfolded a here r =
@@ -54,49 +56,41 @@ process_of_lem next a = record {
   env = a.env;
 }
 
-pub unfold_at_step : (forms : List ℕ) (t : Place) (next i : ℕ) (z : Sizes) (threads threads' types types' cells cells' : List ℕ) (body : Place) (placed : Placed) (r : Moved)
-    → body ≡ continuation_of t next
-    → Replacing forms body i i z threads types cells threads' types' cells' placed
-    → r ≡ outcome_of placed (record { number = 0; label = 6; channel = 65535; name = 65535; actor = t.component; receiver = 255 })
-    → (u : Thread) → as_repeat u.process ≡ repeat_of forms t (prefix.Repeats next)
-    → ActedAny forms z t i u threads types cells threads' types' cells' (λ state. unfold_step state i) r
-unfold_at_step forms t next i z threads threads' types types' cells cells' body placed r b replacing o u rep state turns known few room a here h =
-    let body_is : continuation_of t next ≡ body = sym b in
-    let rs = replacing state u.component turns known (omega arith) room (a.component ∙ ap (λ p. p.component) body_is) (rw b (process_of_lem next a)) h in
-    answers_placed forms turns threads' types' known cells' state placed _ (put forms body i i cells state u.component) (record_of 6 65535 65535 u.component.number 255) (unfold_step state i) r
-    (unfolded forms cells z.cells t next i state u a here rep ∙ ap (λ p. taken (put forms p i i cells state u.component) (record_of 6 65535 65535 u.component.number 255)) body_is)
-    o
-    (record_bytes_lem 6 65535 65535 t.component 255 (lit< tt) a.small (lit< tt) ∙ ap (λ n. record_of 6 65535 65535 n 255) (sym a.component))
-    rs.fits
-    (λ y. later forms turns threads' types' known cells' (put forms body i i cells state u.component) placed.sizes (rs.taken y))
-    (λ y. later forms turns threads' types' known cells' state placed.sizes (rw (rs.kept y).0 (rs.kept y).1))
+module _ {n : ℕ} (forms : List ℕ) (i : ℕ) (z : Sizes) (m : Tables n) (threads_room : length m.threads ≡ 128) where
+  abbrev Told : Tables n → Answer Moved MoveRefusal → Type 0
+  Told m' r = Stepped forms z m m' (λ state. unfold_step state i) r
 
-module _ (forms : List ℕ) (i : ℕ) (z : Sizes) (threads types cells : List ℕ) (threads_room : length threads ≡ 128) where
-  abbrev Told : List ℕ → List ℕ → List ℕ → Moved → Type 0
-  Told threads' types' cells' r = SteppedAny forms z threads types cells threads' types' cells' (λ state. unfold_step state i) r
-
-  pub unfold_no_thread : (r : Moved) → z.threads ≤ i → r ≡ refusal 30 z → Told threads types cells r
+  pub unfold_no_thread : z.threads ≤ i → Told m (Err NoThread)
   unfolding unfold_step given
-  unfold_no_thread r k e state turns known few room h =
-      answers_refused forms turns threads types known cells state 30 z (unfold_step state i) r (lit< tt)
-      (rw (no_thread forms z turns threads types known cells state threads_room h i k) refl) e h
+  unfold_no_thread k state turns few h =
+      answers_refused forms turns m.threads m.types m.known m.cells state NoThread z (unfold_step state i)
+      (rw (no_thread forms z turns m.threads m.types m.known m.cells state threads_room h i k) refl) h
 
-  module _ (t : Place) (st : Prefix) (k : i < z.threads) (e : t ≡ unpacked (get_or threads i 0)) (f : PrefixFound forms cells t st) where
+  module _ (t : Place) (st : Option Prefix) (k : i < z.threads) (e : t ≡ unpacked (get_or m.threads i 0)) (f : PrefixFound forms m.cells t st) where
     -- 31: its prefix is no replication.
-    pub unfold_other : (r : Moved) → repeat_of forms t st ≡ none → r ≡ refusal 31 z → Told threads types cells r
+    pub unfold_other : ((next : ℕ) → st ≡ Some (prefix.Repeats next) → ⊥) → Told m (Err OtherPrefix)
     unfolding unfold_step given
-    unfold_other r n o state turns known few room h =
-        let l = look forms z turns threads types known cells state i t st threads_room h k e f in
-        answers_refused forms turns threads types known cells state 31 z (unfold_step state i) r (lit< tt) (rw (l.here, l.prefixed.repeats, n) refl) o h
+    unfold_other not state turns few h =
+        let l = look forms z turns m.threads m.types m.known m.cells state i t st threads_room h k e f in
+        answers_refused forms turns m.threads m.types m.known m.cells state OtherPrefix z (unfold_step state i)
+        (rw (l.here, l.prefixed.repeats, no_repeat forms t st not) refl) h
 
-    pub unfold_replicates : (r : Moved) (next : ℕ) (threads' types' cells' : List ℕ) → st ≡ prefix.Repeats next
-        → ((u : Thread) → as_repeat u.process ≡ repeat_of forms t (prefix.Repeats next)
-        → ActedAny forms z t i u threads types cells threads' types' cells' (λ state. unfold_step state i) r)
-        → Told threads' types' cells' r
-    unfold_replicates r next threads' types' cells' q g state turns known few room h =
-        let l = look forms z turns threads types known cells state i t st threads_room h k e f in
-        g l.thread (l.prefixed.repeats ∙ ap (repeat_of forms t) q) state turns known few room l.acts l.here h
-
-pub ruleset unfold_at_steps = (rules, unfold_at_step)
-
-pub ruleset unfold_steps = (rules, unfold_no_thread, no_repeat, unfold_other)
+    pub unfold_repeats : (next : ℕ) → st ≡ Some (prefix.Repeats next) → (body : Place) (placed : Option Sizes) (m' : Tables n) (r : Answer Moved MoveRefusal)
+        → length m.cells ≡ n → body ≡ continuation_of t next
+        → Replacing forms body i i z m m' placed
+        → r ≡ outcome_of placed (record { number = 0; label = 6; channel = 65535; name = 65535; actor = t.component; receiver = 255 })
+        → Told m' r
+    unfold_repeats next q body placed m' r sized b replacing o state turns few h =
+        let l = look forms z turns m.threads m.types m.known m.cells state i t st threads_room h k e f in
+        let u = l.thread in
+        let a : Acts forms m.cells z.cells t u = l.acts in
+        let rep : as_repeat u.process ≡ repeat_of forms t (Some (prefix.Repeats next)) = l.prefixed.repeats ∙ ap (repeat_of forms t) q in
+        let body_is : continuation_of t next ≡ body = sym b in
+        let rs = replacing state u.component turns (omega (arith, few, sized)) (a.component ∙ ap (λ p. p.component) body_is) (rw b (process_of_lem next a)) h in
+        answers_placed forms turns m'.threads m'.types m'.known m'.cells state placed _ (put forms body i i m.cells state u.component) (record_of 6 65535 65535 u.component.number 255) (unfold_step state i) z r
+        (unfolded forms m.cells z.cells t next i state u a l.here rep ∙ ap (λ p. taken (put forms p i i m.cells state u.component) (record_of 6 65535 65535 u.component.number 255)) body_is)
+        o
+        (record_bytes_lem 6 65535 65535 t.component 255 (lit< tt) a.small (lit< tt) ∙ ap (λ n. record_of 6 65535 65535 n 255) (sym a.component))
+        rs.fits
+        (λ s y. later forms turns m'.threads m'.types m'.known m'.cells (put forms body i i m.cells state u.component) s (rs.taken s y))
+        (λ y. later forms turns m'.threads m'.types m'.known m'.cells state z (rs.kept y turns z.cells (omega arith) h))

@@ -1,36 +1,36 @@
 // 05, the environment makes a name.
-ghost use Rattle.std.specs.Prelude.{◌≡◌, List, ℕ, ◌+◌, ◌<◌, length};
-ghost use Rattle.running.specs.State.{State};
+ghost use Rattle.std.specs.Prelude.{◌≡◌, ◌<◌, List, ℕ};
 ghost use Rattle.running.specs.Moves.{environment_step};
-ghost use Rattle.products.specs.Held.{Holds};
-ghost use Rattle.transitions.specs.Steps.{Answers};
+ghost use Rattle.transitions.specs.Steps.{Stepped};
 
-use crate::Moved;
-use crate::outcomes::refused;
-use memory::names::{know, store_type};
+use crate::{MoveRefusal, Moved};
+use continuations::Tables;
+use memory::put;
 use products::Sizes;
 use script::Record;
 
-// 05: the environment makes a known name of type t.
-pub fn environment_name(t: usize, sizes: Sizes, types: &mut [u32], known: &mut [bool]) -> Moved
-    requires { (length types.old ≡ 1024) × (length known.old ≡ 1024) × (t < 4294967296) }
-    ensures { (s threads cells : List ℕ) (state : State) (turns : ℕ) → length threads ≡ 128
-        → Holds s sizes turns threads types.old known.old cells state
-        → Answers s (turns + 1) threads types.new known.new cells state (environment_step state t) result }
+/// 05: the environment makes a known name of type `t`.
+pub fn environment_name<const CELLS: usize>(
+    tables: &mut Tables<CELLS>,
+    t: usize,
+    sizes: Sizes,
+) -> Result<Moved, MoveRefusal>
+    requires fits { t < 4294967296 }
+    ensures cells { tables.new.cells ≡ tables.old.cells }
+    ensures threads { tables.new.threads ≡ tables.old.threads }
+    ensures stepped { (forms : List ℕ) → Stepped forms sizes tables.old tables.new (λ state. environment_step state t) result }
 {
     let name = sizes.names;
     if 1024 <= name {
-        return refused(35, sizes);
+        return Err(MoveRefusal::NoRoom);
     }
-    let more = Sizes {
-        threads: sizes.threads,
-        names: name + 1,
-        cells: sizes.cells,
-    };
-    store_type(types, name, t);
-    know(known, name);
-    Moved {
-        sizes: more,
+    put(&mut tables.types, name, t as u32);
+    put(&mut tables.known, name, true);
+    Ok(Moved {
+        sizes: Sizes {
+            names: name + 1,
+            ..sizes
+        },
         line: Record {
             number: 0,
             label: 5,
@@ -39,5 +39,5 @@ pub fn environment_name(t: usize, sizes: Sizes, types: &mut [u32], known: &mut [
             actor: 255,
             receiver: 255,
         },
-    }
+    })
 }

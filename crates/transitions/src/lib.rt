@@ -1,7 +1,4 @@
-// The moves of a run on a state in lent memory (document 01, "Running").
-//
-// Five tables are lent: `threads`, the threads in order; `made`, room for what a move makes; `types`, the type of each name
-// given so far; `known`, which names are known to the environment; and `cells`, the run names of the binders passed.
+// The moves of a run on a state in the tables of a run (document 01, "Running").
 #![tactic(auto)]
 
 pub mod communication;
@@ -12,19 +9,27 @@ pub mod receiving;
 pub mod sending;
 pub mod unfoldings;
 
-use continuations::Action;
-use memory::Thread;
 use products::Sizes;
 use script::Record;
 
-// A thread with the send or receive that is its prefix.
-#[derive(Clone, Copy)]
-pub struct Actor {
-    pub thread: Thread,
-    pub act: Action,
+/// Why a move is refused: the question that it fails (document 01, 30 to 35), the first that does.
+#[derive(Clone, Copy, PartialEq, Eq, Debug)]
+pub enum MoveRefusal {
+    /// No thread has the index.
+    NoThread = 30,
+    /// The thread does not begin with what the move acts on.
+    OtherPrefix = 31,
+    /// The environment does not know the channel or the name.
+    NotKnown = 32,
+    /// The name has another type than the receive binds.
+    OtherType = 33,
+    /// The sender and the receiver are on two channels.
+    OtherChannel = 34,
+    /// There is no room for the threads or the names afterwards.
+    NoRoom = 35,
 }
 
-// What a move did: the sizes after it, and its line in the log.
+/// What a move did: the sizes after it, and its record in the log.
 #[derive(Clone, Copy)]
 pub struct Moved {
     pub sizes: Sizes,

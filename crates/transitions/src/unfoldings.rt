@@ -1,84 +1,49 @@
 // 01, the unfolding of a replication (document 01: a copy): it makes what it repeats, which goes before it.
-ghost use Rattle.std.specs.Prelude.{◌≡◌, ◌<◌};
-ghost use Rattle.running.specs.State.{Thread as Running};
-ghost use Rattle.running.specs.Moves.{as_repeat, unfold_step};
-ghost use Rattle.continuations.specs.Prefixes.{repeat_of};
-ghost use Rattle.continuations.specs.Places.{Tables};
-ghost use Rattle.transitions.specs.Steps.{SteppedAny, ActedAny};
+ghost use Rattle.std.specs.Prelude.{◌≡◌, ◌≤◌};
+ghost use Rattle.running.specs.Moves.{unfold_step};
+ghost use Rattle.transitions.specs.Steps.{Stepped};
 
-use crate::Moved;
-use crate::outcomes::{outcome, refused};
-use continuations::Prefix;
-use continuations::placing::replace;
+use crate::{MoveRefusal, Moved};
 use continuations::prefixes::{continuation, prefix_of, thread_at};
-use memory::Thread;
+use continuations::{Prefix, Tables};
 use products::Sizes;
 use script::Record;
 
-// 01 of a thread whose prefix is a replication, what is repeated at `next`: its products go before the repeat.
-fn unfold_at(
+/// 01: the unfolding of the replication at index `i`.
+pub fn unfold_replication<const CELLS: usize>(
+    tables: &mut Tables<CELLS>,
     forms: &[usize],
-    t: Thread,
-    next: usize,
     i: usize,
     sizes: Sizes,
-    threads: &mut [usize],
-    made: &mut [usize],
-    types: &mut [u32],
-    cells: &mut [u32],
-) -> Moved
-    requires { (i < sizes.threads) × Tables sizes threads.old made.old types.old cells.old }
-    ensures { (u : Running) → as_repeat u.process ≡ repeat_of forms.now t (Prefix.Repeats next)
-        → ActedAny forms.now sizes t i u threads.old types.old cells.old
-        threads.new types.new cells.new (λ state. unfold_step state i) result }
+) -> Result<Moved, MoveRefusal>
+    requires few { sizes.threads ≤ 64 }
+    requires cells { CELLS ≤ 2304 }
+    ensures known { tables.new.known ≡ tables.old.known }
+    ensures stepped { Stepped forms.now sizes tables.old tables.new (λ state. unfold_step state i) result }
 {
-    let placed = replace(
-        forms,
-        continuation(t, next),
-        i,
-        i,
+    if sizes.threads <= i {
+        return Err(MoveRefusal::NoThread);
+    }
+    let thread = thread_at(&tables.threads, i);
+    let Some(prefix) = prefix_of(forms, thread, &tables.cells) else {
+        return Err(MoveRefusal::OtherPrefix);
+    };
+    let Prefix::Repeats(next) = prefix else {
+        return Err(MoveRefusal::OtherPrefix);
+    };
+    let copy = continuation(thread, next);
+    let Some(sizes) = tables.replace(forms, copy, i, i, sizes) else {
+        return Err(MoveRefusal::NoRoom);
+    };
+    Ok(Moved {
         sizes,
-        threads,
-        made,
-        types,
-        cells,
-    );
-    outcome(
-        placed,
-        Record {
+        line: Record {
             number: 0,
             label: 6,
             channel: 65535,
             name: 65535,
-            actor: t.component,
+            actor: thread.component,
             receiver: 255,
         },
-    )
-}
-
-// 01: the unfolding of a replication.
-pub fn unfold_replication(
-    forms: &[usize],
-    i: usize,
-    sizes: Sizes,
-    threads: &mut [usize],
-    made: &mut [usize],
-    types: &mut [u32],
-    cells: &mut [u32],
-) -> Moved
-    requires { Tables sizes threads.old made.old types.old cells.old }
-    ensures { SteppedAny forms.now sizes threads.old types.old cells.old
-        threads.new types.new cells.new (λ state. unfold_step state i) result }
-{
-    if sizes.threads <= i {
-        return refused(30, sizes);
-    }
-    let t = thread_at(threads, i);
-    let prefix = prefix_of(forms, t, cells);
-    match prefix {
-        Prefix::Repeats(next) => unfold_at(forms, t, next, i, sizes, threads, made, types, cells),
-        Prefix::Nothing => refused(31, sizes),
-        Prefix::Receives(_) => refused(31, sizes),
-        Prefix::Sends(_) => refused(31, sizes),
-    }
+    })
 }

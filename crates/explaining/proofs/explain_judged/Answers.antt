@@ -1,12 +1,12 @@
 -- Passed, refused by another question, or by 18: the three cases of the definition.
-use Rattle.explaining.proofs.ExplainSteps.{explaining}
+use Rattle.explaining.proofs.ExplainSteps.{nothing_explained, other_question, eighteen}
 use Rattle.explaining.proofs.explain_judged.Goals as goal
 
-pub returns-then-judged-ge64 : goal.returns-then-judged-ge64
-returns-then-judged-ge64 c = search explaining
+pub returns-in_default : goal.returns-in_default
+returns-in_default c = λ sheet reads judges. nothing_explained sheet _ _ _ _ _ _ c.in_default.not-Some reads judges
 
-pub returns-then-judged-ne18 : goal.returns-then-judged-ne18
-returns-then-judged-ne18 c = search explaining
+pub returns-in_default-question : goal.returns-in_default-question
+returns-in_default-question c = λ sheet reads judges. other_question sheet _ _ _ _ _ _ _ c.in-Some.is c.in_default-question.not-Covered reads judges
 
 pub returns : goal.returns
-returns c = search explaining
+returns c = λ sheet reads judges. eighteen sheet _ _ _ _ _ _ _ c.in-Some.is c.in-Covered.is _ _ c.explain_missing.ensures reads judges

@@ -2,5 +2,5 @@
 use Rattle.slack.proofs.SlackSteps.{slack_steps}
 use Rattle.slack.proofs.put_sum.Goals as goal
 
-pub returns : goal.returns
-returns c = search slack_steps
+pub returns-clause-stored : goal.returns-clause-stored
+returns-clause-stored c = search slack_steps

@@ -2,8 +2,8 @@
 use Rattle.slack.proofs.SlackSteps.{slack_steps}
 use Rattle.slack.proofs.put_sums.Goals as goal
 
-pub returns-then-sums-eq0 : goal.returns-then-sums-eq0
-returns-then-sums-eq0 c = search slack_steps
+pub returns-then-sums-eq0-clause-stored : goal.returns-then-sums-eq0-clause-stored
+returns-then-sums-eq0-clause-stored c = search slack_steps
 
-pub returns : goal.returns
-returns c = search slack_steps
+pub returns-clause-stored : goal.returns-clause-stored
+returns-clause-stored c = search slack_steps

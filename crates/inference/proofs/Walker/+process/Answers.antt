@@ -43,7 +43,7 @@ pub returns-in-0 : goal.returns-in-0
 returns-in-0 t c = at_nil c.args.self.now c.args.context _ _ _ c.if-spot-eq0.false c.if-sheet-at.false c.in-0.is
 
 pub returns-in-1 : goal.returns-in-1
-returns-in-1 t c = par_walked c.args.self.now c.args.context _ _ _ c.if-spot-eq0.false c.if-sheet-at.false _ _ c.process-next.new.self _ c.in-1.is c.process-next.ensures c.process.ensures
+returns-in-1 t c = par_walked c.args.self.now c.args.context _ _ _ c.if-spot-eq0.false c.if-sheet-at.false _ _ c.process.new.self _ c.in-1.is c.process.ensures c.process-in-1.ensures
 
 pub returns-in-Ok : goal.returns-in-Ok
 returns-in-Ok t c = new_walked c.args.self.now c.args.context _ _ _ c.if-spot-eq0.false c.if-sheet-at.false _ _ c.in-Ok.t c.in-Ok.ensures c.if-names-ge64.false c.in-3.is (search rules) c.process-in-3.ensures

@@ -19,7 +19,7 @@ pub form-returns-in-Nil : goal.form-returns-in-Nil
 form-returns-in-Nil t c = form_nil c.args.self.now _ _ _ _ _ _ c.in-Nil.is
 
 pub form-returns-in-Par : goal.form-returns-in-Par
-form-returns-in-Par t c = form_par c.args.self.now _ _ _ _ _ _ _ _ c.system-next.new.self _ c.in-Par.is c.system-next.ensures c.system.ensures
+form-returns-in-Par t c = form_par c.args.self.now _ _ _ _ _ _ _ _ c.system.new.self _ c.in-Par.is c.system.ensures c.system-in-Par.ensures
 
 pub form-returns-in-Group : goal.form-returns-in-Group
 form-returns-in-Group t c = form_group c.args.self.now _ _ _ _ _ _ _ _ _ _ c.in-Group.is c.requires c.with.ensures c.system-in-Group.ensures

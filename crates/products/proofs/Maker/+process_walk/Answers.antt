@@ -17,8 +17,8 @@ make_form-returns-in-Input-clause-makes t c = search make_steps
 pub make_par-returns-clause-makes : goal.make_par-returns-clause-makes
 make_par-returns-clause-makes t c = search make_steps
 
-pub make_process-returns-then-t-eq0-clause-makes : goal.make_process-returns-then-t-eq0-clause-makes
-make_process-returns-then-t-eq0-clause-makes t c = search make_steps
+pub make_process-returns-then-thread-eq0-clause-makes : goal.make_process-returns-then-thread-eq0-clause-makes
+make_process-returns-then-thread-eq0-clause-makes t c = search make_steps
 
 pub make_under-returns-clause-makes : goal.make_under-returns-clause-makes
 make_under-returns-clause-makes t c = search make_steps

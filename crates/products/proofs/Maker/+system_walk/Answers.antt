@@ -2,8 +2,8 @@
 use Rattle.products.proofs.SystemSteps.{system_steps, made_after}
 use Rattle.products.proofs.Maker.+system_walk.Goals as goal
 
-pub make_system-returns-then-t-eq0-clause-makes : goal.make_system-returns-then-t-eq0-clause-makes
-make_system-returns-then-t-eq0-clause-makes t c = search system_steps
+pub make_system-returns-then-thread-eq0-clause-makes : goal.make_system-returns-then-thread-eq0-clause-makes
+make_system-returns-then-thread-eq0-clause-makes t c = search system_steps
 
 pub make_system_form-returns-in-Par-clause-makes : goal.make_system_form-returns-in-Par-clause-makes
 make_system_form-returns-in-Par-clause-makes t c = search system_steps

@@ -2,8 +2,8 @@
 use Rattle.products.proofs.MakeSteps.{make_steps}
 use Rattle.products.proofs.Maker.make.Goals as goal
 
-pub returns-then-t-eq0-clause-makes : goal.returns-then-t-eq0-clause-makes
-returns-then-t-eq0-clause-makes c = search make_steps
+pub returns-then-thread-eq0-clause-makes : goal.returns-then-thread-eq0-clause-makes
+returns-then-thread-eq0-clause-makes c = search make_steps
 
 pub returns-in-Nil-clause-makes : goal.returns-in-Nil-clause-makes
 returns-in-Nil-clause-makes c = search make_steps

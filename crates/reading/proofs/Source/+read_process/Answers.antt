@@ -7,8 +7,8 @@ use Rattle.reading.proofs.Source.+read_process.Goals as goal
 pub returns-in_default : goal.returns-in_default
 returns-in_default t c = search process_steps
 
-pub overflow_sub-spot : goal.overflow_sub-spot
-overflow_sub-spot t c = search process_steps
+pub overflow_sub-nest : goal.overflow_sub-nest
+overflow_sub-nest t c = search process_steps
 
 pub returns-in-Nil : goal.returns-in-Nil
 returns-in-Nil t c = search process_steps
@@ -25,8 +25,8 @@ loop-place-smaller-in-New t c = search process_steps
 pub loop-place-smaller : goal.loop-place-smaller
 loop-place-smaller t c = search process_steps
 
-pub overflow_add-spot : goal.overflow_add-spot
-overflow_add-spot t c = search process_steps
+pub overflow_add-names : goal.overflow_add-names
+overflow_add-names t c = search process_steps
 
 pub returns-in-Group : goal.returns-in-Group
 returns-in-Group t c = rw c.at.ensures (search process_steps)

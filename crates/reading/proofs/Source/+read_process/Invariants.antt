@@ -5,10 +5,10 @@ use Rattle.reading.proofs.ProcessSteps.{ProcessLeft}
 use Rattle.reading.proofs.Source.+read_process.Given as goal
 
 abbrev pub decreases-read_process : goal.decreases-read_process
-decreases-read_process l = l.from.nest
+decreases-read_process l = l.levels
 
 abbrev pub invariant-loop-place : goal.invariant-loop-place
-invariant-loop-place l = ProcessLeft l.self.dialect l.self.bytes.now l.initial.spot.at l.initial.spot.nest l.initial.spot.names l.spot.at l.spot.nest l.spot.names
+invariant-loop-place l = ProcessLeft l.self.dialect l.self.bytes.now l.from l.levels l.bound l.at l.nest l.names
 
 abbrev pub decreases-loop-place : goal.decreases-loop-place
-decreases-loop-place l = l.spot.nest
+decreases-loop-place l = l.nest

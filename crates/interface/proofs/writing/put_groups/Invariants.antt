@@ -1,8 +1,0 @@
--- Storing the groups left makes of the output now what storing all makes of it at first.
-use Rattle.std.specs.Prelude.{length}
-use Rattle.interface.proofs.WriteLaws.{Writing}
-use Rattle.interface.proofs.InterfaceLaws.{one_at}
-use Rattle.interface.proofs.writing.put_groups.Given as goal
-
-abbrev pub invariant-loop-group : goal.invariant-loop-group
-invariant-loop-group l = Writing (one_at l.groups) 1 (length l.groups) l.initial.out l.at l.out l.next l.group-index
