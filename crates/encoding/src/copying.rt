@@ -39,6 +39,7 @@ impl<'a> StoredSheet<'a> {
     {
         let mut from = first;
         let mut at = first;
+        // Kept: no count to go over, since each form's bytes tell where the next begins.
         while from < self.bytes.len() {
             at = self.copy_form(to, from, out, at);
             from = self.next_form(from);

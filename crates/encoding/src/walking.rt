@@ -28,6 +28,7 @@ impl<'a> StoredSheet<'a> {
         requires { at < 4294967296 }
         ensures { result ≡ form_len (get_or self.now.bytes.now at 0) (get_or self.now.bytes.now (at + 1) 0) (get_or self.now.bytes.now (at + 2) 0) }
     {
+        // Kept: a rule of the project is that a code byte is matched as a number.
         match self.byte(at) {
             2 => 2,
             3 => self.byte(at + 1) + 3,
@@ -91,6 +92,7 @@ impl<'a> StoredSheet<'a> {
         ensures { result ≡ all_zero (stated_in self.now.dialect self.now.bytes.now) }
     {
         let mut at = self.system_start();
+        // Kept: no count to go over, since each form's bytes tell where the next begins.
         while at < self.bytes.len() {
             if self.states_other(at) {
                 return false;

@@ -26,6 +26,7 @@ impl Output<'_> {
     {
         let at = self.next;
         if at < self.bytes.len() {
+            // Kept: the definition `store_bytes` cuts each number to a byte so.
             self.bytes[at] = (value % 256) as u8;
         }
         self.next = at + 1;

@@ -13,13 +13,14 @@ use lib.ListN.{length}
 use Rattle.reading.specs.Read.{Read, got, refused}
 use Rattle.reading.specs.Syntax.{Sheet, components}
 use Rattle.reading.specs.System.{sheet_of_in}
-use Rattle.reading.specs.Told.{number, counted_in, refusal_of}
+use Rattle.reading.specs.Told.{number, number_of, counted_in}
 use Rattle.reading.specs.declared.Dialect.{Dialect}
 use Rattle.reading.specs.declared.Dialect.TheVariants.{Old as old, Current as current}
 use Rattle.reading.specs.declared.Number.{Number}
-use Rattle.reading.specs.declared.NumberRead.{NumberRead}
-use Rattle.reading.specs.declared.NumberRead.TheVariants as number_read
+use Rattle.reading.specs.declared.Question.{Question}
+use Rattle.reading.specs.declared.Question.TheVariants as question
 use Rattle.reading.specs.declared.Refusal.{Refusal}
+use Rattle.std.specs.Prelude.{Result, Ok, Err}
 use Rattle.reading.proofs.Parts.{never}
 use Rattle.reading.proofs.TreeLaws.{SheetPartsIn, sheet_parts_in, components_few}
 use Rattle.encoding.specs.Encoding.{sheet_bytes, purposes, all_zero}
@@ -30,21 +31,19 @@ use Rattle.encoding.proofs.WalkSteps.{negated}
 use Rattle.encoding.proofs.CopyLaws.{start_inside, copy_is, stated_are}
 use Rattle.service.specs.Questions.{passed, ask, after_reading}
 use Rattle.service.specs.Check.{fitting, written}
-use Rattle.service.specs.declared.Answer.{Answer}
-use Rattle.service.specs.declared.Answer.TheVariants as answer_case
 use Rattle.moving.specs.Moving.{new_form, old_form, upgraded, downgraded}
 use Rattle.moving.specs.Told.{Upgraded, Downgraded, Movable, Moved}
 
 -- Question 19.
 module _ (bytes output : List ℕ) (len : ℕ) (is : len ≡ length bytes) where
-  pub no_room : length output < len → Moved bytes output output (answer_case.Refused 19)
+  pub no_room : length output < len → Moved bytes output output (Err question.Output)
   unfolding fitting written ask
   no_room h = record {
     answer = rw (lt-leb (length bytes) (length output) (omega arith));
     lent = rw (lt-leb (length bytes) (length output) (omega arith));
   }
 
-  pub room : (output' : List ℕ) (r : ℕ) → len ≤ length output → Put output output' 0 bytes r → Moved bytes output output' (answer_case.Accepted len)
+  pub room : (output' : List ℕ) (r : ℕ) → len ≤ length output → Put output output' 0 bytes r → Moved bytes output output' (Ok len)
   unfolding fitting written ask
   room output' r h p =
       let z : 0 + length bytes ≡ length bytes = omega arith in
@@ -65,7 +64,7 @@ pub record Counted (d : Dialect) (s : List ℕ) (n : ℕ) : Type 0 where
   pub count : n ≡ components tree.system
   pub few : n ≤ 32
 
-counted : (d : Dialect) (s : List ℕ) (r : NumberRead) (n : Number) → number r ≡ counted_in (sheet_of_in d s []) → r ≡ number_read.Found n → Counted d s n.value
+counted : (d : Dialect) (s : List ℕ) (r : Result Number Refusal) (n : Number) → number r ≡ counted_in (sheet_of_in d s []) → r ≡ Ok n → Counted d s n.value
 unfolding counted_in
 counted d s r n e f = go (sheet_of_in d s []) refl e
   where
@@ -90,26 +89,25 @@ record Unread (d : Dialect) (s : List ℕ) (q : ℕ) : Type 0 where
   place : ℕ
   is : sheet_of_in d s [] ≡ refused q place
 
-unread : (d : Dialect) (s : List ℕ) (r : NumberRead) (q w : Refusal) → number r ≡ counted_in (sheet_of_in d s []) → r ≡ number_read.Refused q → w ≡ refusal_of r
-    → Unread d s w.question
+unread : (d : Dialect) (s : List ℕ) (r : Result Number Refusal) (w : Refusal) → number r ≡ counted_in (sheet_of_in d s []) → r ≡ Err w
+    → Unread d s (number_of w.question)
 unfolding counted_in
-unread d s r q w e f h = go (sheet_of_in d s []) refl e
+unread d s r w e f = go (sheet_of_in d s []) refl e
   where
-    go : (x : Read Sheet) → sheet_of_in d s [] ≡ x → number r ≡ counted_in x → Unread d s w.question
+    go : (x : Read Sheet) → sheet_of_in d s [] ≡ x → number r ≡ counted_in x → Unread d s (number_of w.question)
     go (got a k) i u = never (ap number (sym f) ∙ u)
     go (refused p m) i u =
-        let v : refused q.question q.at ≡ refused p m = ap number (sym f) ∙ u in
-        let y : q.question ≡ p = cc in
-        let z : w.question ≡ p = ap (λ (x : Refusal). x.question) (h ∙ ap refusal_of f) ∙ y in
+        let v : refused (number_of w.question) w.at ≡ refused p m = ap number (sym f) ∙ u in
+        let z : number_of w.question ≡ p = cc in
         record { place = m; is = i ∙ ap (λ (x : ℕ). refused x m) (sym z) }
 
 -- Old to new.
-module _ (s : List ℕ) (r : NumberRead) (e : number r ≡ counted_in (sheet_of_in old s [])) where
-  pub old_unread : (output : List ℕ) (q w : Refusal) → r ≡ number_read.Refused q → w ≡ refusal_of r → Upgraded s output output (answer_case.Refused w.question)
+module _ (s : List ℕ) (r : Result Number Refusal) (e : number r ≡ counted_in (sheet_of_in old s [])) where
+  pub old_unread : (output : List ℕ) (w : Refusal) → r ≡ Err w → Upgraded s output output (Err w.question)
   unfolding upgraded new_form after_reading written
-  old_unread output q w f h = let u = (unread old s r q w e f h).is in record { answer = rw u; lent = rw u }
+  old_unread output w f = let u = (unread old s r w e f).is in record { answer = rw u; lent = rw u }
 
-  module _ (n : Number) (f : r ≡ number_read.Found n) where
+  module _ (n : Number) (f : r ≡ Ok n) where
     old_counted : Counted old s n.value
     old_counted = counted old s r n e f
 
@@ -126,7 +124,7 @@ module _ (s : List ℕ) (r : NumberRead) (e : number r ≡ counted_in (sheet_of_
     pub new_fits_lem : Fits w64 (length s + n.value)
     new_fits_lem = record { fits = omega (arith, old_counted.few, old_counted.parts.short) }
 
-    pub new_too_long : (output : List ℕ) → 4096 < length s + n.value → Upgraded s output output (answer_case.Refused 1)
+    pub new_too_long : (output : List ℕ) → 4096 < length s + n.value → Upgraded s output output (Err question.Length)
     unfolding upgraded written ask
     new_too_long output h = record {
       answer = rw (new_is output, lt-leb (length s + n.value) 4096 h);
@@ -140,7 +138,7 @@ module _ (s : List ℕ) (r : NumberRead) (e : number r ≡ counted_in (sheet_of_
       short = old_counted.parts.short;
     }
 
-    pub old_moved : (output output' : List ℕ) (answer : Answer) → length s + n.value ≤ 4096 → Moved (copy_of old current s) output output' answer
+    pub old_moved : (output output' : List ℕ) (answer : Result ℕ Question) → length s + n.value ≤ 4096 → Moved (copy_of old current s) output output' answer
         → Upgraded s output output' answer
     unfolding upgraded ask
     old_moved output output' answer h m =
@@ -153,12 +151,12 @@ module _ (s : List ℕ) (r : NumberRead) (e : number r ≡ counted_in (sheet_of_
 pub ruleset upgrading = (rules, old_unread, new_fits_lem, new_too_long, old_movable, old_moved)
 
 -- New to old.
-module _ (s : List ℕ) (r : NumberRead) (e : number r ≡ counted_in (sheet_of_in current s [])) where
-  pub new_unread : (output : List ℕ) (q w : Refusal) → r ≡ number_read.Refused q → w ≡ refusal_of r → Downgraded s output output (answer_case.Refused w.question)
+module _ (s : List ℕ) (r : Result Number Refusal) (e : number r ≡ counted_in (sheet_of_in current s [])) where
+  pub new_unread : (output : List ℕ) (w : Refusal) → r ≡ Err w → Downgraded s output output (Err w.question)
   unfolding downgraded old_form after_reading written
-  new_unread output q w f h = let u = (unread current s r q w e f h).is in record { answer = rw u; lent = rw u }
+  new_unread output w f = let u = (unread current s r w e f).is in record { answer = rw u; lent = rw u }
 
-  module _ (n : Number) (f : r ≡ number_read.Found n) where
+  module _ (n : Number) (f : r ≡ Ok n) where
     new_counted : Counted current s n.value
     new_counted = counted current s r n e f
 
@@ -179,7 +177,7 @@ module _ (s : List ℕ) (r : NumberRead) (e : number r ≡ counted_in (sheet_of_
       unfolding old_form after_reading
       old_is output = rw (new_counted.reads, zeros_are)
 
-      pub states_other : (output : List ℕ) → not zero ≡ true → Downgraded s output output (answer_case.Refused 41)
+      pub states_other : (output : List ℕ) → not zero ≡ true → Downgraded s output output (Err question.Purposes)
       unfolding downgraded written ask
       states_other output h = record { answer = rw (old_is output, negated zero true (sym h)); lent = rw (old_is output, negated zero true (sym h)) }
 
@@ -197,7 +195,7 @@ module _ (s : List ℕ) (r : NumberRead) (e : number r ≡ counted_in (sheet_of_
           short = new_counted.parts.short;
         }
 
-        pub new_moved : (output output' : List ℕ) (answer : Answer) → Moved (copy_of current old s) output output' answer → Downgraded s output output' answer
+        pub new_moved : (output output' : List ℕ) (answer : Result ℕ Question) → Moved (copy_of current old s) output output' answer → Downgraded s output output' answer
         unfolding downgraded ask
         new_moved output output' answer m = record {
           answer = rw (old_is output, all_zero_lem, ← new_copied) m.answer;

@@ -60,6 +60,7 @@ fn put(sums: &mut [u32], at: usize, value: usize)
     ensures { sums.new ≡ set sums.old at (value % 4294967296) }
 {
     if at < sums.len() {
+        // Kept: the definition `add_at` cuts each sum to 32 binary digits so.
         sums[at] = (value % 4294967296) as u32;
     }
 }
