@@ -31,7 +31,7 @@ use Rattle.products.specs.Pairs.{none, more}
 use Rattle.products.specs.Held.{Runs}
 use Rattle.products.specs.declared.Maker.{Maker}
 use Rattle.products.specs.Makes.{Ready, Makes, Gives, Pushes, crowd, sizes_pushed, threads_pushed}
-use Rattle.products.specs.Makers.{Kept, GivesIn, PushesIn, ReadyIn, MakesIn}
+use Rattle.products.specs.Makers.{Kept, GivesIn, MakesIn}
 use Rattle.products.proofs.PairLaws.{pairs_append}
 use Rattle.products.proofs.GrowLaws.{shorter, grows_then, grows_cong, all_kept_lem}
 use Rattle.products.proofs.GiveLaws.{grows_none, ready_deeper, ready_after, name_given}
@@ -178,6 +178,12 @@ module _ (forms : List ℕ) (t : Place) (item : Item) (e : item ≡ item_at form
     unfolding process_of
     form_repl h = pushed forms t z made types cells made' r (rw (formed, h) (thread_repl _)) left
 
+    pub form_thread : ((a : Fields) × (item.form ≡ Input a)) ⊎ (((a : Fields) × (item.form ≡ Output a)) ⊎ (item.form ≡ Replicate))
+        → Pushes z t made made' r → Ready t z made types cells → Makes forms t whole z made made' types types cells cells r
+    form_thread (inl h) = form_input h.0 h.1
+    form_thread (inr (inl h)) = form_output h.0 h.1
+    form_thread (inr (inr h)) = form_repl h
+
     abbrev inner : Place
     inner = record { component = t.component; env = t.env; names = t.names; nest = t.nest - 1; at = item.next }
 
@@ -266,29 +272,7 @@ module _ (forms : List ℕ) (t : Place) (u : ℕ) (p : Process) (z z₁ : Sizes)
             rw (g.widened fits, g.number fits) at q;
       }
 
--- The same in the tables that a walk is lent: a thread made, one process after another, and a process under a new name.
-module _ (m m' : Maker) (t : Place) (item : Item) (e : item ≡ item_at m.forms.now t.at) (left : 0 < t.nest) (z r : Sizes)
-    (p : PushesIn m z t m' r) where
-  abbrev made : Type 0
-  made = MakesIn m t (process_in t.nest m.forms.now t.at) z m' r
-
-  pushed_input : (a : Fields) → item.form ≡ Input a → made
-  pushed_input a h ready = rw (p.types, p.cells)
-      (form_input m.forms.now t item e left z m.made.now m'.made.now m.types.now m.types.now m.cells.now m.cells.now r a h p.pushes ready)
-
-  pushed_output : (a : Fields) → item.form ≡ Output a → made
-  pushed_output a h ready = rw (p.types, p.cells)
-      (form_output m.forms.now t item e left z m.made.now m'.made.now m.types.now m.types.now m.cells.now m.cells.now r a h p.pushes ready)
-
-  pushed_repl : item.form ≡ Replicate → made
-  pushed_repl h ready = rw (p.types, p.cells)
-      (form_repl m.forms.now t item e left z m.made.now m'.made.now m.types.now m.types.now m.cells.now m.cells.now r h p.pushes ready)
-
-  pub pushed_one : ((a : Fields) × (item.form ≡ Input a)) ⊎ (((a : Fields) × (item.form ≡ Output a)) ⊎ (item.form ≡ Replicate)) → made
-  pushed_one (inl h) = pushed_input h.0 h.1
-  pushed_one (inr (inl h)) = pushed_output h.0 h.1
-  pushed_one (inr (inr h)) = pushed_repl h
-
+-- The same in the tables that a walk is lent: one process after another, and a process under a new name.
 module _ (m m₁ m' : Maker) (t : Place) where
   pub made_after : (second : ℕ) (z z₁ r : Sizes) → Kept m m₁ → MakesIn m t (process_in t.nest m.forms.now t.at) z m₁ z₁
       → MakesIn m₁ (record { component = t.component; env = t.env; names = t.names; nest = t.nest; at = second })
@@ -316,7 +300,7 @@ pub ruleset make_steps = (
   form_none,
   form_par,
   form_new,
-  pushed_one,
+  form_thread,
   made_after,
   made_under,
 )

@@ -5,7 +5,7 @@ use Rattle.memory.specs.declared.Thread.{Thread as Place}
 use Rattle.products.specs.declared.Maker.{Maker}
 use Rattle.products.specs.declared.MadeSystem.{MadeSystem}
 use Rattle.products.specs.declared.Sizes.{Sizes}
-use Rattle.products.specs.Makes.{Ready, Makes, MakesSystem, Gives, Pushes}
+use Rattle.products.specs.Makes.{Ready, Makes, MakesSystem, Gives}
 
 -- The same tables, as long as they were; the forms as they were.
 pub record Kept (m m' : Maker) : Type 0 where
@@ -17,17 +17,11 @@ pub record Kept (m m' : Maker) : Type 0 where
   pub types_length : length m'.types.now ≡ length m.types.now
   pub cells_length : length m'.cells.now ≡ length m.cells.now
 
--- What one name given, and one thread made, leave in the tables.
+-- What one name given leaves in the tables.
 pub record GivesIn (m : Maker) (z : Sizes) (t env : ℕ) (m' : Maker) (r : Sizes) : Type 0 where
   pub kept : Kept m m'
   pub made : m'.made.now ≡ m.made.now
   pub gives : Gives z t env m.types.now m'.types.now m.cells.now m'.cells.now r
-
-pub record PushesIn (m : Maker) (z : Sizes) (t : Place) (m' : Maker) (r : Sizes) : Type 0 where
-  pub kept : Kept m m'
-  pub types : m'.types.now ≡ m.types.now
-  pub cells : m'.cells.now ≡ m.cells.now
-  pub pushes : Pushes z t m.made.now m'.made.now r
 
 -- What a walk over a process, and over a system, makes of it, where the tables are ready for it.
 abbrev pub ReadyIn : Maker → Place → Sizes → Type 0

@@ -1,6 +1,7 @@
 // One name given, one thread made.
 ghost use Rattle.std.specs.Prelude.{◌≡◌, ◌-◌, ◌<◌};
-ghost use Rattle.products.specs.Makers.{GivesIn, PushesIn};
+ghost use Rattle.products.specs.Makers.{GivesIn};
+ghost use Rattle.products.specs.Makes.{Pushes};
 
 use crate::{MAX_CELLS, MAX_NAMES, MAX_THREADS, Maker, Sizes};
 use memory::chains::bind;
@@ -30,24 +31,24 @@ impl<'a> Maker<'a> {
             ..sizes
         }
     }
+}
 
-    /// A thread stands after those made so far; where there is no room for it, the threads count as too many.
-    #[tactic(auto, using(crate::proofs::GivingSteps::giving_steps))]
-    pub fn push(&mut self, thread: Thread, sizes: Sizes) -> Sizes
-        ensures { PushesIn self.old sizes thread self.new result }
-    {
-        let n = sizes.threads;
-        if MAX_THREADS <= n {
-            return Sizes {
-                threads: MAX_THREADS + 1,
-                ..sizes
-            };
-        }
-        put(self.made, n, thread.pack());
-        Sizes {
-            threads: n + 1,
+/// A thread stands after those made so far; where there is no room for it, the threads count as too many.
+#[tactic(auto, using(crate::proofs::GivingSteps::giving_steps))]
+pub fn push(thread: Thread, sizes: Sizes, made: &mut [usize]) -> Sizes
+    ensures { Pushes sizes thread made.old made.new result }
+{
+    let n = sizes.threads;
+    if MAX_THREADS <= n {
+        return Sizes {
+            threads: MAX_THREADS + 1,
             ..sizes
-        }
+        };
+    }
+    put(made, n, thread.pack());
+    Sizes {
+        threads: n + 1,
+        ..sizes
     }
 }
 

@@ -106,6 +106,7 @@ fn environment_name_at(s: &[u8], at: usize) -> Result<MovePlace, Refusal>
 }
 
 /// The move that stands at a place: its code, then its fields; the question that fails, where none can be read.
+#[inline(always)]
 #[tactic(auto, using(crate::proofs::MoveSteps::move_steps), unfolding(running::specs::Script::move_at))]
 pub fn move_at(s: &[u8], at: usize) -> Result<MovePlace, Refusal>
     ensures { move_read result ≡ move_at s.now at }
@@ -171,6 +172,7 @@ fn move_span(s: &[u8], at: usize) -> Option<usize>
 /// Question 21: how many moves the script is made of, at most 1,024, each of a byte at least. The bytes of each move are counted,
 /// its fields are not read.
 // The place moves on by a length that is read, which is no `for`.
+#[inline(always)]
 #[tactic(auto, using(crate::proofs::CountSteps::count_steps))]
 pub fn count_moves(s: &[u8]) -> Result<usize, Question>
     ensures value { result ≡ moves_in (read_script s.now) }
