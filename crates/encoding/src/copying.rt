@@ -4,7 +4,7 @@ ghost use Rattle.std.specs.Prelude.{◌≡◌, ◌+◌, ◌<◌, ◌≤◌, leng
 ghost use Rattle.encoding.specs.Encoding.{purpose_bytes};
 ghost use Rattle.encoding.specs.Copying.{if_component, form_copy, copy_from, system_start, copy_of, Put};
 
-use crate::walking::StoredSheet;
+use crate::walking::{StoredSheet, system_start};
 use reading::Dialect;
 
 // Puts purpose 0 at a component, where the dialect states purposes; the place after it.
@@ -53,7 +53,7 @@ impl<'a> StoredSheet<'a> {
             × (length (copy_of self.now.dialect to self.now.bytes.now) ≤ length out.old) }
         ensures { Put out.old out.new 0 (copy_of self.now.dialect to self.now.bytes.now) result }
     {
-        let first = self.system_start();
+        let first = system_start(self.bytes);
         out[..first].copy_from_slice(&self.bytes[..first]);
         self.copy_forms(to, first, out)
     }

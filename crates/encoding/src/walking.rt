@@ -4,6 +4,7 @@ ghost use Rattle.encoding.specs.Encoding.{purpose_bytes, all_zero};
 ghost use Rattle.encoding.specs.Copying.{form_len, head_len, next_form, stated_at, system_start, stated_in};
 
 use reading::Dialect;
+use reading::bytes::byte_in;
 
 /// The bytes of a stored sheet, at most 4,096, and the dialect that they are in.
 #[derive(Clone, Copy)]
@@ -19,7 +20,7 @@ impl<'a> StoredSheet<'a> {
         ensures value { result ≡ get_or self.now.bytes.now at 0 }
         ensures few { result < 256 }
     {
-        self.bytes.get(at).copied().unwrap_or(0) as usize
+        byte_in(self.bytes, at)
     }
 
     // How many bytes a form has by its code, up to a component's purpose.
@@ -65,18 +66,6 @@ impl<'a> StoredSheet<'a> {
         }
     }
 
-    /// Where the system of a sheet begins: past the types of the free names.
-    #[tactic(auto, using(crate::proofs::WalkSteps::start_steps))]
-    pub fn system_start(&self) -> usize
-        ensures { result ≡ system_start self.now.bytes.now }
-    {
-        let mut at = 1;
-        for _passed in 0..self.byte(0) {
-            at += self.byte(at) + 2;
-        }
-        at
-    }
-
     // Does the form at a place, if it is a component, state a purpose other than 0?
     #[tactic(auto, using(crate::proofs::WalkSteps::states_arms))]
     fn states_other(&self, at: usize) -> bool
@@ -91,7 +80,7 @@ impl<'a> StoredSheet<'a> {
     pub fn all_zero(&self) -> bool
         ensures { result ≡ all_zero (stated_in self.now.dialect self.now.bytes.now) }
     {
-        let mut at = self.system_start();
+        let mut at = system_start(self.bytes);
         // Kept: no count to go over, since each form's bytes tell where the next begins.
         while at < self.bytes.len() {
             if self.states_other(at) {
@@ -101,6 +90,18 @@ impl<'a> StoredSheet<'a> {
         }
         true
     }
+}
+
+/// Where the system of a sheet begins: past the types of the free names.
+#[tactic(auto, using(crate::proofs::WalkSteps::start_steps))]
+pub fn system_start(s: &[u8]) -> usize
+    ensures { result ≡ system_start s.now }
+{
+    let mut at = 1;
+    for _passed in 0..byte_in(s, 0) {
+        at += byte_in(s, at) + 2;
+    }
+    at
 }
 
 /// How many bytes a purpose has in a dialect.

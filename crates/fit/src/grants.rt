@@ -101,7 +101,7 @@ impl Scan {
         };
     }
 
-    // The row of the first reached node of a group, or 64.
+    // The row of the first reached node of a group, or 64. (Kept a number: the definitions `row_in` and `giver_in` give 64.)
     #[tactic(auto, using(crate::proofs::ScanSteps::row_steps))]
     fn row_of(&self, group: usize) -> usize
         ensures { result ≡ row_in self.now.first group }
@@ -146,7 +146,7 @@ pub fn givers(nodes: &[u16], tree: Span, path: Path) -> Givers
     Givers { rows, len }
 }
 
-// A row, if it grants for a purpose, else 64.
+// A row, if it grants for a purpose, else 64. (Kept a number: the definitions `granting_row` and `given_at` give 64.)
 #[tactic(auto, using(crate::proofs::GrantSteps::purpose_steps))]
 fn granting_row(nodes: &[u16], row: usize, purpose: usize) -> usize
     ensures { result ≡ granting_row purpose nodes.now row }

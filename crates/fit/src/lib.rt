@@ -54,7 +54,7 @@ pub struct Sum {
     pub granted: usize,
 }
 
-// The first `len` are those of an entry, by rising group.
+// The first `len` are those of an entry, by rising group; `items` gives them as a slice. (Nothing is allocated.)
 #[derive(Clone, Copy)]
 pub struct Sums {
     pub items: [Sum; 8],

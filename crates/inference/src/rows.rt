@@ -187,6 +187,7 @@ fn put(table: &mut [u16], at: usize, value: usize)
     ensures { table.new ≡ set table.old at (value % 65536) }
 {
     if at < table.len() {
+        // Kept: the definitions store what a cell of 16 bits holds of a number.
         table[at] = (value % 65536) as u16;
     }
 }

@@ -11,6 +11,7 @@ use crate::put;
 pub fn bind(cells: &mut [u32], cell: usize, env: usize, name: usize)
     ensures { cells.new ≡ bound cells.old cell env name }
 {
+    // Kept: the definition `bound` packs what 16 bits hold of both.
     put(cells, cell, (env % 65536 * 65536 + name % 65536) as u32);
 }
 

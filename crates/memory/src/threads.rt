@@ -52,7 +52,8 @@ pub fn replace(threads: &mut [usize], len: usize, at: usize, from: usize, others
     threads[at..at + others.len()].copy_from_slice(others);
 }
 
-/// Of a list of `len` threads, replaces those from `at` up to `from` by `count` of those made, from `first` on.
+/// Of a list of `len` threads, replaces those from `at` up to `from` by `count` of those made, from `first` on. Beside `replace`, for a
+/// caller that cannot lend a part of what it made as a slice.
 #[tactic(auto, using(crate::proofs::SpliceSteps::splice_steps))]
 pub fn splice(
     threads: &mut [usize],

@@ -10,6 +10,7 @@ use reading::Shape;
 use reading::types::shape_of;
 
 /// The permission that an act needs, for data of a base type (document 01: kind).
+// `Nothing` stays a case, and this no `Option`: the definition `need` gives it as one of its six.
 #[derive(Clone, Copy, Debug, PartialEq, Eq)]
 pub enum Need {
     Nothing,

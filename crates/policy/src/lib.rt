@@ -41,7 +41,8 @@ pub struct Opening {
     pub next: usize,
 }
 
-// The trees of a policy: how many, and for each its kind and the table's row after its last node.
+// The trees of a policy: how many, and for each its kind and the table's row after its last node. (Arrays with a length stay, since nothing
+// is allocated, and the definitions `with_tree`, `start_of` and `AllHeld` speak of them.)
 #[derive(Clone, Copy, Debug, PartialEq, Eq)]
 pub struct Trees {
     pub len: usize,

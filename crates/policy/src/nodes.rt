@@ -35,12 +35,13 @@ pub fn node_at(nodes: &[u16], row: usize) -> Node
     }
 }
 
-#[tactic(auto, using(crate::proofs::NodeLaws::node_steps))]
 // Stores a number, cut to two bytes, in a cell; past the table's end it stores nothing.
+#[tactic(auto, using(crate::proofs::NodeLaws::node_steps))]
 fn put(nodes: &mut [u16], at: usize, value: usize)
     ensures { nodes.new ≡ set nodes.old at (value % 65536) }
 {
     if at < nodes.len() {
+        // Kept: the definition `with_node` stores remainders.
         nodes[at] = (value % 65536) as u16;
     }
 }

@@ -287,6 +287,7 @@ fn with_tree(trees: Trees, kind: usize, end: usize) -> Trees
     let at = trees.len;
     let mut kinds = trees.kinds;
     let mut ends = trees.ends;
+    // Kept: the definition `with_tree` stores remainders.
     kinds[at] = (kind % 256) as u8;
     ends[at] = (end % 256) as u8;
     Trees {

@@ -175,7 +175,7 @@ pub struct Place {
     pub next: usize,
 }
 
-/// A group path: the groups passed on the way in, the innermost last. Those past `len` count for nothing.
+/// A group path: the groups passed on the way in, the innermost last. Those past `len` count for nothing; `groups` gives those that do.
 #[derive(Clone, Copy, Debug, PartialEq, Eq)]
 pub struct Path {
     pub groups: [u16; 8],

@@ -51,6 +51,7 @@ impl Path {
     {
         let mut path = *self;
         if path.len < 8 {
+            // `as` alone is to lose nothing, and no caller is asked that the group is small.
             path.groups[path.len] = (group % 65536) as u16;
             path.len += 1;
         }

@@ -27,6 +27,7 @@ impl Source<'_> {
         let mut at = from;
         let mut nest = levels;
         let mut names = bound;
+        // The loop stays, here and below: a call for each form in its place takes twice the instructions.
         loop {
             let read = self.process_at(Spot { at, nest, names });
             let Ok(place) = read else {

@@ -4,7 +4,7 @@ ghost use Rattle.script.specs.Told.{bytes_of};
 
 use crate::Record;
 
-// The low byte of a number.
+// The low byte of a number. (Kept: `as` alone is to lose nothing, and a record takes the low bytes of any number.)
 fn low(number: usize) -> u8
     ensures { result ≡ number % 256 }
 {

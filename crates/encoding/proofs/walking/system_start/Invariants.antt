@@ -1,6 +1,6 @@
 -- The types that are left end where all do.
 use Rattle.encoding.proofs.WalkSteps.{Starting}
-use Rattle.encoding.proofs.walking.StoredSheet.system_start.Given as goal
+use Rattle.encoding.proofs.walking.system_start.Given as goal
 
 abbrev pub invariant-loop-passed : goal.invariant-loop-passed
-invariant-loop-passed l = Starting l.self.bytes.now l.at l._passed
+invariant-loop-passed l = Starting l.s.now l.at l._passed
