@@ -9,8 +9,8 @@ ghost use Rattle.comparing.specs.Rows.{trees_within};
 ghost use Rattle.comparing.specs.NoLooser.{no_looser};
 ghost use Rattle.comparing.specs.Told.{LoadedAs};
 
-mod counts;
-mod rows;
+pub mod counts;
+pub mod rows;
 
 use crate::rows::Comparison;
 use containment::answers;

@@ -14,8 +14,9 @@ use lib.ListN.{length, take, get_or, set, get_elem?, length-take}
 use lib.Seq.{set_out, get_or-take}
 use Rattle.reading.proofs.Tests.{tests}
 use Rattle.reading.proofs.Tables.{unset, unread}
+use Rattle.needs.specs.declared.Need.{Need}
 use Rattle.needs.specs.declared.Need.TheVariants as need_case
-use Rattle.inference.specs.Rows.{bumped, charge_at, cell_of, charge_cell, marked, charge_column, group_at, group_count, place_from, found_place, charge}
+use Rattle.inference.specs.Rows.{bumped, charge_at, cell_of, charge_cell, marked, charge_column, group_at, group_count, place_from, found_place, charge, kind_of, column_of}
 
 -- What stands at a place of a list, and that nothing stands past its end.
 pub elem_in : (l : List ℕ) (i : ℕ) → i < length l → some (get_or l i 0) ≡ get_elem? l i
@@ -176,6 +177,15 @@ module _ (l : List ℕ) (c k : ℕ) (b : Bool) where
     pub charge_elsewhere : None ≡ found_place (place_from l c g 0 (group_count l c)) → charge l c (need_case.Disclose k g) b ≡ marked l c k
     unfolding charge charge_column charge_cell
     charge_elsewhere e = rw (le-ltb (place_from l c g 0 (group_count l c)) 11 (no_place (place_from l c g 0 (group_count l c)) e), and-false)
+
+-- What an act needs is counted by its kind and its column.
+pub by_need : (l : List ℕ) (c : ℕ) (n : Need) (b : Bool) → charge_column l c (kind_of n) (column_of l c n) b ≡ charge l c n b
+unfolding charge kind_of column_of
+by_need l c need_case.Nothing b = unfold charge_column charge_cell marked in refl
+by_need l c (need_case.Read k) b = refl
+by_need l c (need_case.Write k) b = refl
+by_need l c (need_case.Access k) b = refl
+by_need l c (need_case.Disclose k g) b = refl
 
 pub ruleset row_steps = (
   tests,

@@ -60,6 +60,21 @@ charge table component (Access kind) repeated = charge_column table component ki
 charge table component (Disclose kind group) repeated =
     charge_column table component kind (place_from table component group 0 (group_count table component)) repeated
 
+-- the same by the kind and the column of a need; there is no kind 16 (`by_need` of proofs/RowSteps.antt)
+unfoldable pub kind_of : Need → ℕ
+kind_of Nothing = 16
+kind_of (Read kind) = kind
+kind_of (Write kind) = kind
+kind_of (Access kind) = kind
+kind_of (Disclose kind group) = kind
+
+unfoldable pub column_of : List ℕ → ℕ → Need → ℕ
+column_of table component Nothing = 11
+column_of table component (Read kind) = 8
+column_of table component (Write kind) = 9
+column_of table component (Access kind) = 10
+column_of table component (Disclose kind group) = place_from table component group 0 (group_count table component)
+
 -- numbers stored one after another
 unfoldable pub stored : List ℕ → ℕ → List ℕ → List ℕ
 stored table at [] = table

@@ -56,17 +56,24 @@ fn fault_of(channel: Option<usize>, object: Option<usize>, path: Path) -> Option
     typed_fault(channel, object, path)
 }
 
+/// The type of a name among `names` in scope, by level, if there is one.
+#[tactic(auto, using(crate::proofs::RowSteps::row_steps))]
+pub fn type_of(scope: &[usize], names: usize, name: usize) -> Option<usize>
+    ensures { known result ≡ get_elem? (take names scope.now) name }
+{
+    if name < names && name < scope.len() {
+        Some(scope[name])
+    } else {
+        None
+    }
+}
+
 impl Walker<'_> {
     /// The type of a name, if the name is in scope.
-    #[tactic(auto, using(crate::proofs::RowSteps::row_steps))]
     pub fn type_of(&self, names: usize, name: usize) -> Option<usize>
         ensures { known result ≡ get_elem? (take names self.now.scope) name }
     {
-        if name < names && name < self.scope.len() {
-            Some(self.scope[name])
-        } else {
-            None
-        }
+        type_of(&self.scope, names, name)
     }
 
     // Notes a question that fails: the first is kept.

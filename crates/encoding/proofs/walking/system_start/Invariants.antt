@@ -3,4 +3,4 @@ use Rattle.encoding.proofs.WalkSteps.{Starting}
 use Rattle.encoding.proofs.walking.system_start.Given as goal
 
 abbrev pub invariant-loop-passed : goal.invariant-loop-passed
-invariant-loop-passed l = Starting l.s.now l.at l._passed
+invariant-loop-passed l = Starting l.s l.at l._passed
