@@ -15,8 +15,7 @@ use Rattle.running.specs.Moves.{guard, after, now_known, has_room, taken, record
 use Rattle.products.specs.declared.Sizes.{Sizes}
 use Rattle.products.specs.Held.{Holds}
 use Rattle.transitions.specs.declared.MoveRefusal.TheVariants.{NoRoom}
-use Rattle.transitions.specs.Steps.{Answers, sizes_after, line_of, Stepped}
-use Rattle.continuations.specs.declared.Tables.{Tables}
+use Rattle.transitions.specs.Steps.{Answers, sizes_after, line_of}
 use Rattle.transitions.proofs.MoveLaws.{record_bytes_lem, answers_refused, count, join_singles}
 
 module _ (t : ℕ) (z : Sizes) (types : List ℕ) (known : List Bool) (types_room : length types ≡ 1024) (known_room : length known ≡ 1024)
@@ -42,13 +41,13 @@ module _ (t : ℕ) (z : Sizes) (types : List ℕ) (known : List Bool) (types_roo
   names_after : length (state.types ++ (t ∷ [])) ≡ z.names + 1
   names_after = omega (arith, length-append state.types (t ∷ []), named)
 
-  environment_full : 1024 ≤ z.names → Answers forms (turns + 1) threads types known cells state (environment_step state t) z (Err NoRoom)
+  pub environment_full : 1024 ≤ z.names → Answers forms (turns + 1) threads types known cells state (environment_step state t) z (Err NoRoom)
   unfolding taken guard has_room
   environment_full k =
       answers_refused forms turns threads types known cells state NoRoom z (environment_step state t)
       (rw (environment_is, le-leb (length state.threads) 64 crowd, lt-leb (length (state.types ++ (t ∷ []))) 1024 (omega (arith, names_after))) refl) h
 
-  environment_taken : (types' : List ℕ) (known' : List Bool) → z.names < 1024 → types' ≡ set types z.names t → known' ≡ set known z.names true
+  pub environment_taken : (types' : List ℕ) (known' : List Bool) → z.names < 1024 → types' ≡ set types z.names t → known' ≡ set known z.names true
       → Answers forms (turns + 1) threads types' known' cells state (environment_step state t) z
       (Ok (record {
         sizes = record { threads = z.threads; names = z.names + 1; cells = z.cells };
@@ -68,17 +67,3 @@ module _ (t : ℕ) (z : Sizes) (types : List ℕ) (known : List Bool) (types_roo
         };
         bytes = record_bytes_lem 5 65535 z.names 255 255 (lit< tt) (lit< tt) (lit< tt);
       })
-
-module _ {n : ℕ} (forms : List ℕ) (t : ℕ) (z : Sizes) (m : Tables n) (threads_room : length m.threads ≡ 128) (types_room : length m.types ≡ 1024)
-    (known_room : length m.known ≡ 1024) where
-  pub names_full : 1024 ≤ z.names → Stepped forms z m m (λ state. environment_step state t) (Err NoRoom)
-  names_full k state turns few h = environment_full t z m.types m.known types_room known_room forms m.threads m.cells state turns threads_room h k
-
-  pub name_given : (types' : List ℕ) (known' : List Bool) → z.names < 1024 → types' ≡ set m.types z.names t → known' ≡ set m.known z.names true
-      → Stepped forms z m (record { threads = m.threads; made = m.made; types = types'; known = known'; cells = m.cells }) (λ state. environment_step state t)
-      (Ok (record {
-        sizes = record { threads = z.threads; names = z.names + 1; cells = z.cells };
-        line = record { number = 0; label = 5; channel = 65535; name = z.names; actor = 255; receiver = 255 };
-      }))
-  name_given types' known' k e f state turns few h =
-      environment_taken t z m.types m.known types_room known_room forms m.threads m.cells state turns threads_room h types' known' k e f

@@ -1,9 +1,11 @@
 -- The move that a code names, return by return.
-use Prim.Native.Nat.{ℕ, ◌<◌}
+use Prim.Native.Nat.{ℕ, ◌+◌, ◌<◌}
 use mathlib.Core.Path.{◌≡◌}
 use mathlib.Core.List.{List}
 use borrow.Author.Rules.{rules}
+use lib.ListN.{length}
 use Rattle.std.specs.Prelude.{Result as Answer}
+use Rattle.running.specs.State.{State}
 use Rattle.running.specs.Moves.{unfold_step, send_step, receive_step, communicate_step, environment_step, step}
 use Rattle.script.specs.Told.{move_of}
 use Rattle.script.specs.declared.Communication.{Communication}
@@ -11,10 +13,11 @@ use Rattle.script.specs.declared.Move.{Move}
 use Rattle.script.specs.declared.Move.TheVariants as move
 use Rattle.script.specs.declared.Receipt.{Receipt}
 use Rattle.products.specs.declared.Sizes.{Sizes}
+use Rattle.products.specs.Held.{Holds}
 use Rattle.continuations.specs.declared.Tables.{Tables}
 use Rattle.transitions.specs.declared.Moved.{Moved}
 use Rattle.transitions.specs.declared.MoveRefusal.{MoveRefusal}
-use Rattle.transitions.specs.Steps.{TypeFits, Stepped}
+use Rattle.transitions.specs.Steps.{TypeFits, Answers, Stepped}
 
 module _ {n : ℕ} (forms : List ℕ) (m : Move) (z : Sizes) (tables tables' : Tables n) (r : Answer Moved MoveRefusal) where
   abbrev Told : Type 0
@@ -37,9 +40,12 @@ module _ {n : ℕ} (forms : List ℕ) (m : Move) (z : Sizes) (tables tables' : T
   unfolding step move_of
   step_communicate p e f = rw e f
 
-  pub step_environment : (t : ℕ) → m ≡ move.EnvironmentName t → ((forms : List ℕ) → Stepped forms z tables tables' (λ state. environment_step state t) r) → Told
+  pub step_environment : (t : ℕ) → m ≡ move.EnvironmentName t → length tables'.threads ≡ 128 → tables'.threads ≡ tables.threads → tables'.cells ≡ tables.cells
+      → ((forms threads cells : List ℕ) (state : State) (turns : ℕ) → length threads ≡ 128
+      → Holds forms z turns threads tables.types tables.known cells state
+      → Answers forms (turns + 1) threads tables'.types tables'.known cells state (environment_step state t) z r) → Told
   unfolding step move_of
-  step_environment t e f = rw e (f forms)
+  step_environment t e room same kept f state turns few h = rw e (f forms tables'.threads tables'.cells state turns room (rw (same, kept) h))
 
 pub brought_fits : (m : Move) (t : ℕ) → TypeFits m → m ≡ move.EnvironmentName t → t < 4294967296
 unfolding TypeFits

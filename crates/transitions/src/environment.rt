@@ -1,7 +1,9 @@
 // 05, the environment makes a name.
-ghost use Rattle.std.specs.Prelude.{◌≡◌, ◌<◌, List, ℕ};
+ghost use Rattle.std.specs.Prelude.{◌≡◌, ◌<◌, ◌+◌, List, ℕ, length};
+ghost use Rattle.running.specs.State.{State};
 ghost use Rattle.running.specs.Moves.{environment_step};
-ghost use Rattle.transitions.specs.Steps.{Stepped};
+ghost use Rattle.products.specs.Held.{Holds};
+ghost use Rattle.transitions.specs.Steps.{Answers};
 
 use crate::{MoveRefusal, Moved};
 use continuations::Tables;
@@ -18,7 +20,10 @@ pub fn environment_name<const CELLS: usize>(
     requires fits { t < 4294967296 }
     ensures cells { tables.new.cells ≡ tables.old.cells }
     ensures threads { tables.new.threads ≡ tables.old.threads }
-    ensures stepped { (forms : List ℕ) → Stepped forms sizes tables.old tables.new (λ state. environment_step state t) result }
+    ensures room { length tables.new.threads ≡ 128 }
+    ensures stepped { (forms threads cells : List ℕ) (state : State) (turns : ℕ) → length threads ≡ 128
+        → Holds forms sizes turns threads tables.old.types tables.old.known cells state
+        → Answers forms (turns + 1) threads tables.new.types tables.new.known cells state (environment_step state t) sizes result }
 {
     let name = sizes.names;
     if 1024 <= name {

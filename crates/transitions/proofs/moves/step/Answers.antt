@@ -15,4 +15,6 @@ pub returns-in-Communicate : goal.returns-in-Communicate
 returns-in-Communicate g c = step_communicate _ _ _ c.args.tables.now c.communicate.new.tables _ _ c.in-Communicate.is c.communicate.ensures.stepped
 
 pub returns-in-EnvironmentName : goal.returns-in-EnvironmentName
-returns-in-EnvironmentName g c = step_environment _ _ _ c.args.tables.now c.environment_name.new.tables _ _ c.in-EnvironmentName.is c.environment_name.ensures.stepped
+returns-in-EnvironmentName g c =
+    step_environment _ _ _ c.args.tables.now c.environment_name.new.tables _ _ c.in-EnvironmentName.is c.environment_name.ensures.room
+    c.environment_name.ensures.threads c.environment_name.ensures.cells c.environment_name.ensures.stepped
