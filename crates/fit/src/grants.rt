@@ -12,7 +12,7 @@ ghost use Rattle.fit.specs.Givers.{index_of, giver_in, Marked, row_in, given_row
 
 use crate::{Givers, Grant};
 use policy::nodes::{bit_at, has_bit, node_at, span_of, word_in};
-use policy::{Node, Permissions, Policy, Span, Trees};
+use policy::{Node, Permissions, Span, Trees};
 use reading::Path;
 use reading::bytes::byte_in;
 use sharing::add;
@@ -241,29 +241,42 @@ fn count_at(charter: &[u8], nodes: &[u16], row: usize, group: usize) -> usize
     listed(charter, given_at(nodes, row), group)
 }
 
+/// Is a flag granted by what gives to a path?
+#[tactic(auto, using(crate::proofs::GrantSteps::flag_steps))]
+pub fn flag_granted(nodes: &[u16], givers: Givers, value: usize) -> bool
+    requires { 0 < value }
+    ensures { (c : List ℕ) → result ≡ any (λ row. has_bit value (given_at c nodes.now row).map) (given_rows givers) }
+{
+    let rows = givers.rows();
+    rows.iter().any(|row| flag_at(nodes, *row, value))
+}
+
+/// The sum of what gives to a path grants for a group; 4,000,000 is unlimited.
+#[tactic(auto, using(crate::proofs::GrantSteps::sum_steps))]
+pub fn count_granted(charter: &[u8], nodes: &[u16], givers: Givers, group: usize) -> usize
+    ensures { sum_count result ≡ joined_at group charter.now nodes.now (given_rows givers) }
+{
+    let rows = givers.rows();
+    let mut total: usize = 0;
+    for row in rows {
+        total = add(total, count_at(charter, nodes, *row, group));
+    }
+    total
+}
+
 impl Grant<'_> {
     /// Is a flag granted?
-    #[tactic(auto, using(crate::proofs::GrantSteps::flag_steps))]
     pub fn has_flag(&self, value: usize) -> bool
         requires { 0 < value }
         ensures { (c : List ℕ) → result ≡ any (λ row. has_bit value (given_at c self.now.policy.nodes.now row).map) (given_rows self.now.givers) }
     {
-        let nodes = self.policy.nodes;
-        let rows = self.givers.rows();
-        rows.iter().any(|row| flag_at(nodes, *row, value))
+        flag_granted(self.policy.nodes, self.givers, value)
     }
 
     /// The sum of what the path's groups grant for a group; 4,000,000 is unlimited.
-    #[tactic(auto, using(crate::proofs::GrantSteps::sum_steps))]
     pub fn count(&self, group: usize) -> usize
         ensures { sum_count result ≡ joined_at group self.now.policy.charter.now self.now.policy.nodes.now (given_rows self.now.givers) }
     {
-        let Policy { charter, nodes, .. } = self.policy;
-        let rows = self.givers.rows();
-        let mut total: usize = 0;
-        for row in rows {
-            total = add(total, count_at(charter, nodes, *row, group));
-        }
-        total
+        count_granted(self.policy.charter, self.policy.nodes, self.givers, group)
     }
 }

@@ -13,8 +13,8 @@ use policy::Policy;
 /// `given_at` speak of rows by these numbers.)
 #[derive(Clone, Copy)]
 pub struct Givers {
-    rows: [usize; 8],
-    len: usize,
+    pub rows: [usize; 8],
+    pub len: usize,
 }
 
 /// A policy, of which the entries of a table are asked, and the sums of what the table's classes need: none where no components share.

@@ -9,10 +9,10 @@ use Rattle.inference.specs.Lists.{any}
 use Rattle.policy.specs.Syntax.{has_bit}
 use Rattle.fit.specs.Givers.{given_at}
 use Rattle.fit.proofs.GrantSteps.{any_any}
-use Rattle.fit.proofs.Grant.has_flag.Goals as goal
+use Rattle.fit.proofs.grants.flag_granted.Goals as goal
 
 pub returns : goal.returns
 returns c bytes =
-    let test = λ (row : ℕ). has_bit c.args.value (given_at bytes c.args.self.now.policy.nodes.now row).map in
+    let test = λ (row : ℕ). has_bit c.args.value (given_at bytes c.args.nodes.now row).map in
     any_from_yields_List test _ _ _ c.any.ensures.ran (YieldsList-from_slice c.rows-rows.result.now cc) (λ x b q k. search (rules, tests))
     ∙ any_any test c.rows-rows.result.now ∙ ap (λ (l : List ℕ). any test l) c.rows-rows.ensures.value
