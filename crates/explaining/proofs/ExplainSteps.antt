@@ -24,7 +24,7 @@ use Rattle.inference.specs.Interface.{Entry, required_of}
 use Rattle.inference.specs.Rows.{Orderly, path_at, table_entries, table_required}
 use Rattle.policy.specs.Reading.{read_policy}
 use Rattle.policy.specs.Syntax.{Tree}
-use Rattle.policy.specs.Loads.{AllHeld}
+use Rattle.policy.specs.Loads.{AllHeld, Bounded}
 use Rattle.policy.specs.declared.Trees.{Trees}
 use Rattle.fit.specs.Covers.{permission_in}
 use Rattle.fit.specs.Uncovered.{Uncovered, first_uncovered}
@@ -107,6 +107,10 @@ other_number question.Script h e = omega arith
 other_number question.Log h e = omega arith
 other_number question.Names h e = omega arith
 other_number question.Purposes h e = omega arith
+
+-- The trees of a judgement that 18 refuses are bounded.
+pub covered_bounded : (f : Answer Question) (t : Trees) (q : Question) → f ≡ Some q → q ≡ question.Covered → (11 < fault_number f → Bounded t) → Bounded t
+covered_bounded f t q e is bounded = bounded (rw (e, is) (omega arith))
 
 -- From what questions 1 to 18 came to.
 module _ (sheet charter names table nodes : List ℕ) (j : Judged) (line : List ℕ) where
@@ -207,4 +211,4 @@ pub unread_examined : (s c names output line : List ℕ) (r : Result Number Refu
 unread_examined s c names output line r w e f =
     record { tells = unread_refused s c output r w e f; explains = unread_explained s c names line r w e f }
 
-pub ruleset explaining = (rules, names_broken, nothing_said, sentence_said, nothing_explained, other_question, eighteen, examined, read_explained, unread_explained, unread_examined, few_ready, all_ready)
+pub ruleset explaining = (rules, names_broken, nothing_said, sentence_said, nothing_explained, other_question, covered_bounded, eighteen, examined, read_explained, unread_explained, unread_examined, few_ready, all_ready)

@@ -136,6 +136,9 @@ module _ (c nodes : List ℕ) (read : Result PolicyAt Refusal) (l : LoadedPolicy
   pub trees_bounded : (p : PolicyAt) → read ≡ Ok p → Bounded p.trees
   trees_bounded p e = (read_by p e).bounded
 
+  pub trees_bounded_past : (n : ℕ) (p : PolicyAt) → read ≡ Ok p → 11 < n → Bounded p.trees
+  trees_bounded_past n p e past = trees_bounded p e
+
   module _ (table : List ℕ) (n : ℕ) where
     pub charter_unread : (w : Refusal) → read ≡ Err w → (r : Judged) → r.fault ≡ Some w.question → r.components ≡ n → InOrder table n
         → JudgesLater c nodes (table_required table n) n r
@@ -172,7 +175,12 @@ none_bounded = record { few = omega arith; rows = λ t. omega (arith, zero_at t)
 pub some_bounded : (t : Trees) → t ≡ no_trees → Bounded t
 some_bounded t e = rw e none_bounded
 
-pub ruleset policy_judging = (rules, policy_fails, entries_decide, charter_unread, charter_reads, trees_bounded, some_bounded)
+-- A table of another length is never lent.
+pub no_table : (c nodes table : List ℕ) (n : ℕ) (r : Judged) → length nodes ≡ 384 → (length nodes ≡ 384 → ⊥) → InOrder table n
+    → JudgesLater c nodes (table_required table n) n r
+no_table c nodes table n r e f order = absurd (f e)
+
+pub ruleset policy_judging = (rules, policy_fails, entries_decide, charter_unread, charter_reads, trees_bounded, trees_bounded_past, some_bounded)
 
 -- Questions 7 to 18 of a sheet that reads.
 pub sheet_reads : (s c : List ℕ) (sheet : Sheet) (k : ℕ) → sheet_of s c ≡ got sheet k → read_sheet s ≡ got sheet k

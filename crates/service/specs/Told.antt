@@ -1,6 +1,6 @@
 -- Which number and values of document 01 each case of an answer is, and what the calls of the services promise. A service answers the
 -- length written or the number of moves, or the first question that fails.
-use Rattle.std.specs.Prelude.{ℕ, ◌*◌, ◌<◌, ◌≤◌, ◌≡◌, List, length, get_or, Option, None, Some, Result, Ok, Err}
+use Rattle.std.specs.Prelude.{ℕ, ◌*◌, ◌<◌, ◌≤◌, ◌≡◌, List, length, get_or, Result, Ok, Err}
 use Rattle.reading.specs.Read.{got}
 use Rattle.reading.specs.Syntax.{Sheet, components}
 use Rattle.reading.specs.System.{sheet_of}
@@ -16,15 +16,11 @@ use Rattle.service.specs.Questions.{Asked, passed, failed, judged}
 use Rattle.service.specs.Check.{fitting, written, checked}
 use Rattle.service.specs.Later.{later_fault}
 use Rattle.service.specs.declared.Judged.{Judged}
+pub use Rattle.service.specs.Fault.{fault_number}
 
 abbrev pub told : Result ℕ Question → Asked ℕ
 told (Ok n) = passed n
 told (Err q) = failed (number_of q)
-
--- The number of the question that fails, or 64, a number that no question has, where none does.
-abbrev pub fault_number : Option Question → ℕ
-fault_number None = 64
-fault_number (Some q) = number_of q
 
 -- The first question that fails, or 64, a number that no question has, where questions 1 to 18 pass.
 unfoldable pub first_failed : {A : Type 0} → Asked A → ℕ

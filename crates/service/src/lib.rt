@@ -1,8 +1,9 @@
 // The services over encoded systems and policies.
 #![tactic(auto)]
 
-ghost use Rattle.std.specs.Prelude.{◌≤◌};
+ghost use Rattle.std.specs.Prelude.{◌<◌, ◌≤◌};
 ghost use Rattle.policy.specs.Loads.{Bounded};
+ghost use Rattle.service.specs.Fault.{fault_number};
 
 pub mod checking;
 pub mod judging;
@@ -18,5 +19,5 @@ pub struct Judged {
     pub components: usize,
     pub trees: Trees,
     pub ghost few: { components ≤ 32 },
-    pub ghost bounded: { Bounded trees },
+    pub ghost bounded: { 11 < fault_number fault → Bounded trees },
 }

@@ -1,7 +1,7 @@
 -- What each return of the service has to show, over plain values: that its answer and what it leaves in the output are those of the
 -- definition, from what questions 1 to 18 came to and the tables that they left.
 use Prim.Native.Nat.{ℕ, ◌<◌, ◌≤◌}
-use Rattle.std.specs.Prelude.{None, Some, Result, Err}
+use Rattle.std.specs.Prelude.{Option, None, Some, Result, Err}
 use mathlib.Core.Path.{◌≡◌, refl, sym, ap, ◌∙◌}
 use mathlib.Core.List.{List, []}
 use mathlib.Core.Bool.{Bool, false}
@@ -18,6 +18,7 @@ use Rattle.inference.specs.Interface.{Entry, required_of}
 use Rattle.inference.specs.Rows.{table_entries, table_required}
 use Rattle.sharing.specs.Sums.{add_rows, any_shared}
 use Rattle.sharing.proofs.SharingLaws.{lone_sums}
+use Rattle.policy.specs.Loads.{Bounded}
 use Rattle.policy.specs.Syntax.{Tree}
 use Rattle.policy.specs.declared.Trees.{Trees}
 use Rattle.fit.proofs.EntryLaws.{few_sums, all_sums}
@@ -59,6 +60,10 @@ module _ (c nodes : List ℕ) (trees : Trees) (table : List ℕ) (components : �
   pub by_all : (sums : List ℕ) → components ≤ 32 → sums ≡ add_rows (replicate 4128 0) table 0 components → By sums
       → DeliveredSlack c nodes trees table components output output' answer
   by_all sums h made d = by_sums sums (all_sums table sums components h made) d
+
+-- The trees of a judgement that passes are bounded.
+pub passed_bounded : (f : Option Question) (t : Trees) → f ≡ None → (11 < fault_number f → Bounded t) → Bounded t
+passed_bounded f t e bounded = bounded (rw e (omega arith))
 
 module _ (charter table nodes : List ℕ) (r : Judged) where
   pub refuses : (output : List ℕ) (q : Question) → r.fault ≡ Some q → (s : List ℕ) → Judges s charter table nodes r → Tells s charter output output (Err q)
@@ -113,4 +118,4 @@ pub unread_refused : (s c output : List ℕ) (r : Result Number Refusal) (w : Re
     → Tells s c output output (Err w.question)
 unread_refused s c output r w e f = refused_leaves s c output w.question (unread_failed s c r e w f)
 
-pub ruleset telling = (rules, by_own, by_few, by_all, refuses, delivers, read_tells, unread_refused, few_ready, all_ready)
+pub ruleset telling = (rules, by_own, by_few, by_all, refuses, passed_bounded, delivers, read_tells, unread_refused, few_ready, all_ready)
