@@ -60,17 +60,17 @@ fn show_run(
 
 // Reads a case of `list` and `run`, and shows it; whether its lengths stood in the file.
 fn show_checked(rt: &impl Print, file: &mut impl Read, number: u64) -> io::Result<bool> {
-    let Some([sheet_len, charter_len, script_len, names_len]) = read_lengths::<4>(file) else {
+    let Some(lengths) = read_lengths::<4>(file) else {
         return Ok(false);
     };
     let mut sheet = [0u8; SHEET_ROOM];
     let mut charter = [0u8; SHEET_ROOM];
     let mut script = [0u8; SCRIPT_ROOM];
     let mut names = [0u8; NAMES_ROOM];
-    let sheet = next_bytes(file, &mut sheet, sheet_len);
-    let charter = next_bytes(file, &mut charter, charter_len);
-    let script = next_bytes(file, &mut script, script_len);
-    let names = next_bytes(file, &mut names, names_len);
+    let sheet = next_bytes(file, &mut sheet, lengths[0]);
+    let charter = next_bytes(file, &mut charter, lengths[1]);
+    let script = next_bytes(file, &mut script, lengths[2]);
+    let names = next_bytes(file, &mut names, lengths[3]);
     print!(rt; "{number} list: ")?;
     print_listing(rt, sheet, charter, names, b"; ")?;
     show_run(rt, number, sheet, charter, script)?;
@@ -87,12 +87,12 @@ fn show_moved<F: Fn(&[u8], &mut [u8]) -> Result<usize, Question>>(
 ) -> io::Result<bool>
     requires { F.IsAlwaysCallable service }
 {
-    let Some([sheet_len]) = read_lengths::<1>(file) else {
+    let Some(lengths) = read_lengths::<1>(file) else {
         return Ok(false);
     };
     let mut sheet = [0u8; SHEET_ROOM];
     let mut output = [0u8; MOVED_ROOM];
-    let answer = service(next_bytes(file, &mut sheet, sheet_len), &mut output);
+    let answer = service(next_bytes(file, &mut sheet, lengths[0]), &mut output);
     print!(rt; "{number} {name}:")?;
     match answer {
         Ok(n) => print_bytes(rt, &output, n)?,
@@ -103,13 +103,13 @@ fn show_moved<F: Fn(&[u8], &mut [u8]) -> Result<usize, Question>>(
 
 // Reads a case of `stricter`, and shows it; whether its lengths stood in the file.
 fn show_compared(rt: &impl Print, file: &mut impl Read, number: u64) -> io::Result<bool> {
-    let Some([charter_len, before_len]) = read_lengths::<2>(file) else {
+    let Some(lengths) = read_lengths::<2>(file) else {
         return Ok(false);
     };
     let mut charter = [0u8; SHEET_ROOM];
     let mut before = [0u8; SHEET_ROOM];
-    let charter = next_bytes(file, &mut charter, charter_len);
-    let before = next_bytes(file, &mut before, before_len);
+    let charter = next_bytes(file, &mut charter, lengths[0]);
+    let before = next_bytes(file, &mut before, lengths[1]);
     print!(rt; "{number} stricter: ")?;
     print_compared(rt, charter, before)?;
     Ok(true)
