@@ -121,6 +121,9 @@ module _ (s : List ℕ) (r : Result Number Refusal) (e : number r ≡ counted_in
     old_copied : copy_of old current s ≡ sheet_bytes current old_counted.tree
     old_copied = copy_is old old_counted.tree s old_counted.stored current (old_zeros s [] old_counted.parts)
 
+    pub old_short : length s ≤ 4096
+    old_short = old_counted.parts.short
+
     pub new_fits_lem : Fits w64 (length s + n.value)
     new_fits_lem = record { fits = omega (arith, old_counted.few, old_counted.parts.short) }
 
@@ -148,7 +151,7 @@ module _ (s : List ℕ) (r : Result Number Refusal) (e : number r ≡ counted_in
           lent = rw (new_is output, k, ← old_copied) m.lent;
         }
 
-pub ruleset upgrading = (rules, old_unread, new_fits_lem, new_too_long, old_movable, old_moved)
+pub ruleset upgrading = (rules, old_unread, old_short, new_fits_lem, new_too_long, old_movable, old_moved)
 
 -- New to old.
 module _ (s : List ℕ) (r : Result Number Refusal) (e : number r ≡ counted_in (sheet_of_in current s [])) where
