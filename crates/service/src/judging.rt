@@ -33,11 +33,19 @@ fn later_fault(policy: Policy, table: &[u16], components: usize) -> Option<Quest
 
 // Questions 11 to 18 of a charter and a table of components whose groups are in order, with a table for the charter's nodes.
 #[tactic(auto, using(crate::proofs::JudgeSteps::policy_judging))]
-fn judge_with(charter: &[u8], table: &[u16], components: usize, nodes: &mut [u16; 384]) -> Judged
-    requires { (components ≤ 32) × (length charter.now ≤ 4096) }
+fn judge_with(charter: &[u8], table: &[u16], components: usize, nodes: &mut [u16]) -> Judged
+    requires { (components ≤ 32) × (length charter.now ≤ 4096) × (length nodes.old ≡ 384) }
     ensures { ((n : ℕ) → n < components → Orderly table.now n)
         → JudgesLater charter.now nodes.new (table_required table.now components) components result }
 {
+    // Never so; said for speed: the compiler then tests no index of the table again.
+    if nodes.len() != 384 {
+        return Judged {
+            fault: Some(Question::Charter),
+            components,
+            trees: no_trees(),
+        };
+    }
     let read = read_policy(charter, nodes);
     let Ok(policy) = read else {
         return Judged {
@@ -61,8 +69,9 @@ fn judge_with(charter: &[u8], table: &[u16], components: usize, nodes: &mut [u16
 
 /// Questions 7 to 18 of a sheet that reads, with a clear table for its components and a table for the charter's nodes.
 #[tactic(auto, using(crate::proofs::JudgeSteps::judging))]
-pub fn judge_read(sheet: &[u8], charter: &[u8], table: &mut [u16], nodes: &mut [u16; 384]) -> Judged
-    requires { Ready sheet.now charter.now table.old }
+pub fn judge_read(sheet: &[u8], charter: &[u8], table: &mut [u16], nodes: &mut [u16]) -> Judged
+    requires ready { Ready sheet.now charter.now table.old }
+    requires cells { length nodes.old ≡ 384 }
     ensures { Judges sheet.now charter.now table.new nodes.new result }
 {
     let found = infer(sheet, table);

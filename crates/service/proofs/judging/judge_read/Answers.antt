@@ -3,7 +3,7 @@ use Rattle.service.proofs.JudgeSteps.{judging, short_charter, some_bounded, few_
 use Rattle.service.proofs.judging.judge_read.Goals as goal
 
 pub invariant_of-result-clause-few : goal.invariant_of-result-clause-few
-invariant_of-result-clause-few c = few_components _ _ _ _ _ c.requires c.infer-found.ensures
+invariant_of-result-clause-few c = few_components _ _ _ _ _ c.requires.ready c.infer-found.ensures
 
 pub invariant_of-result-clause-bounded : goal.invariant_of-result-clause-bounded
 invariant_of-result-clause-bounded c = λ past. some_bounded _ c.no_trees.ensures
@@ -12,7 +12,7 @@ pub returns-in-Some : goal.returns-in-Some
 returns-in-Some c = search judging
 
 pub judge_with-requires : goal.judge_with-requires
-judge_with-requires c = (few_components _ _ _ _ _ c.requires c.infer-found.ensures, short_charter _ _ _ c.requires)
+judge_with-requires c = (few_components _ _ _ _ _ c.requires.ready c.infer-found.ensures, short_charter _ _ _ c.requires.ready, c.requires.cells)
 
 pub returns : goal.returns
-returns c = typing_passes _ _ _ _ _ c.requires c.infer-found.ensures _ _ c.in_default.not-Some c.judge_with.ensures
+returns c = typing_passes _ _ _ _ _ c.requires.ready c.infer-found.ensures _ _ c.in_default.not-Some c.judge_with.ensures
