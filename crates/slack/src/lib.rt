@@ -230,11 +230,12 @@ fn deliver_slack(
 #[tactic(auto, using(crate::proofs::TellSteps::telling))]
 pub fn slack_judged(
     charter: &[u8],
-    nodes: &[u16; 384],
+    nodes: &[u16],
     table: &[u16],
     judged: Judged,
     output: &mut [u8],
 ) -> Result<usize, Question>
+    requires { length nodes.now ≡ 384 }
     ensures { (sheet : List ℕ) → Judges sheet charter.now table.now nodes.now judged
         → Tells sheet charter.now output.old output.new result }
 {
