@@ -88,11 +88,12 @@ fn explain_missing(
 fn explain_judged(
     names: &[u8],
     charter: &[u8],
-    nodes: &[u16; 384],
+    nodes: &[u16],
     table: &[u16],
     judged: Judged,
     line: &mut [u8],
 ) -> Result<usize, Question>
+    requires { length nodes.now ≡ 384 }
     ensures { (sheet : List ℕ) → Reads sheet charter.now
         → Judges sheet charter.now table.now nodes.now judged
         → Explained sheet charter.now names.now line.old line.new result }
