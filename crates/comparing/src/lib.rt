@@ -12,10 +12,10 @@ ghost use Rattle.comparing.specs.Told.{LoadedAs};
 pub mod counts;
 pub mod rows;
 
-use crate::rows::Comparison;
+use crate::rows::{Comparison, Side};
 use containment::answers;
+use policy::Trees;
 use policy::read::read_policy;
-use policy::{Policy, Trees};
 use wellformed::questions::policy_fault;
 
 // Reads a charter into the table of nodes, and asks 11 to 15: its trees, where it has at most 4,096 bytes and passes.
@@ -47,15 +47,15 @@ fn compared<'a>(
     others: &'a [u16],
     choice: Trees,
 ) -> bool
-    requires { Answers answers.now × (length nodes.now ≡ 384) × Bounded trees × (length others.now ≡ 384) × Bounded choice }
+    requires { Answers answers.now × Bounded trees × Bounded choice }
     ensures { (p q : List Tree) → AllHeld a.now nodes.now trees 0 p → AllHeld b.now others.now choice 0 q → result ≡ trees_within p q }
 {
-    let first = Policy {
+    let first = Side {
         charter: a,
         nodes,
         trees,
     };
-    let second = Policy {
+    let second = Side {
         charter: b,
         nodes: others,
         trees: choice,

@@ -2,7 +2,7 @@
 ghost use Rattle.std.specs.Prelude.{◌≡◌, List, ℕ, ◌<◌, ◌≤◌, ◌-◌};
 ghost use Rattle.policy.specs.Syntax.{Tree};
 ghost use Rattle.policy.specs.Rows.{node_at, permissions_of, flat_of, flats};
-ghost use Rattle.policy.specs.Loads.{AllHeld};
+ghost use Rattle.policy.specs.Loads.{Bounded, AllHeld};
 ghost use Rattle.containment.specs.Answers.{Answers};
 ghost use Rattle.comparing.specs.NoLooser.{maps_no_looser};
 ghost use Rattle.comparing.specs.Rows.{row_within, rows_within, trees_within};
@@ -10,14 +10,25 @@ ghost use Rattle.comparing.specs.Rows.{row_within, rows_within, trees_within};
 use crate::counts::lists_within;
 use containment::{among, digits_among};
 use fit::grants::tree_of;
-use policy::{Permissions, Policy, Span};
+use policy::nodes::{node_at, span_of};
+use policy::{Permissions, Span, Trees};
+
+/// A policy that is compared, as its parts are lent: the bytes of its charter, the table of its nodes and its trees. The table may have
+/// any length (a cell past its end is 0), so this is no `Policy`.
+#[derive(Clone, Copy)]
+pub struct Side<'a> {
+    pub charter: &'a [u8],
+    pub nodes: &'a [u16],
+    pub trees: Trees,
+    pub ghost bounded: { Bounded trees },
+}
 
 /// Two policies that are compared, the first of which is to take the place of the second, and the table of four-bit maps.
 #[derive(Clone, Copy)]
 pub struct Comparison<'a> {
     pub answers: &'a [u8],
-    pub first: Policy<'a>,
-    pub second: Policy<'a>,
+    pub first: Side<'a>,
+    pub second: Side<'a>,
     pub ghost right: { Answers answers.now },
 }
 
@@ -40,8 +51,8 @@ impl<'a> Comparison<'a> {
         ensures { result ≡ row_within (flat_of self.now.first.charter.now (node_at self.now.first.nodes.now row))
             (flat_of self.now.second.charter.now (node_at self.now.second.nodes.now other)) }
     {
-        let n = self.first.node(row);
-        let m = self.second.node(other);
+        let n = node_at(self.first.nodes, row);
+        let m = node_at(self.second.nodes, other);
         n.depth == m.depth
             && n.group == m.group
             && self.maps_within(n.permissions, m.permissions)
@@ -80,11 +91,12 @@ impl<'a> Comparison<'a> {
             → AllHeld self.now.second.charter.now self.now.second.nodes.now self.now.second.trees 0 q
             → result ≡ trees_within p q }
     {
-        for t in 0..self.first.tree_count() {
-            let Some(other) = tree_of(self.second.trees, self.first.kind(t)) else {
+        for t in 0..self.first.trees.len {
+            let kind = self.first.trees.kinds[t] as usize;
+            let Some(other) = tree_of(self.second.trees, kind) else {
                 return false;
             };
-            if !self.rows_within(self.first.span(t), other) {
+            if !self.rows_within(span_of(self.first.trees, t), other) {
                 return false;
             }
         }
