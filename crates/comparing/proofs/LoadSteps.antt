@@ -11,7 +11,8 @@ use lib.ListN.{length}
 use Rattle.std.specs.Prelude.{Option, None, Some, Result, Ok, Err}
 use Rattle.std.specs.Option.{is_some}
 use Rattle.reading.specs.Read.{Read, got, refused}
-use Rattle.reading.specs.Told.{number_of, numbered, failed_below}
+use Rattle.reading.specs.Questions.{number_of}
+use Rattle.reading.specs.Told.{numbered, failed_below}
 use Rattle.reading.specs.declared.Question.{Question}
 use Rattle.reading.specs.declared.Refusal.{Refusal}
 use Rattle.policy.specs.Syntax.{Tree}

@@ -14,7 +14,8 @@ use Rattle.reading.specs.Syntax.{Sheet}
 use Rattle.reading.proofs.Parts.{never}
 use Rattle.reading.proofs.QuestionLaws.{sheet_question}
 use Rattle.reading.specs.System.{sheet_of}
-use Rattle.reading.specs.Told.{number_of, number, counted_in, path_of}
+use Rattle.reading.specs.Questions.{number_of}
+use Rattle.reading.specs.Told.{number, counted_in, path_of}
 use Rattle.reading.specs.declared.Number.{Number}
 use Rattle.reading.specs.declared.Path.{Path}
 use Rattle.reading.specs.declared.Question.{Question}

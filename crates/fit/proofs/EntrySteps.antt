@@ -9,7 +9,8 @@ use lib.Dec.{ltb}
 use borrow.Author.Rules.{rules}
 use borrow.Author.Tests.{lt-ltb, le-ltb, ltb-true, ltb-false, not-true, not-false}
 use Rattle.std.specs.Prelude.{Option as Answer, Some, None}
-use Rattle.reading.specs.Told.{number_of, numbered, failed_below}
+use Rattle.reading.specs.Questions.{number_of}
+use Rattle.reading.specs.Told.{numbered, failed_below}
 use Rattle.reading.specs.declared.Question.{Question}
 use Rattle.reading.specs.declared.Question.TheVariants.{Reached, Covered}
 use Rattle.inference.specs.Lists.{every}

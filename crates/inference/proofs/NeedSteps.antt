@@ -10,7 +10,8 @@ use mathlib.Core.Path.{◌≡◌, refl}
 use borrow.Author.Tests.{eq-eqb, ne_eqb}
 use Rattle.reading.proofs.Tests.{tests}
 use Rattle.reading.specs.Forms.{member}
-use Rattle.reading.specs.Told.{number_of, failed_below}
+use Rattle.reading.specs.Questions.{number_of}
+use Rattle.reading.specs.Told.{failed_below}
 use Rattle.reading.specs.declared.Question.{Question}
 use Rattle.reading.specs.Types.{shape}
 use Rattle.reading.specs.declared.Shape.{Shape}

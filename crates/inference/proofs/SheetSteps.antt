@@ -15,7 +15,8 @@ use Rattle.reading.specs.declared.Dialect.TheVariants.{Current as current}
 use Rattle.reading.specs.Read.{Read, got, refused, and_then, below}
 use Rattle.reading.specs.Syntax.{Sheet, components}
 use Rattle.reading.specs.System.{free_types_in, free_types, header_in, header, read_system, to_its_end, read_sheet_in, read_sheet}
-use Rattle.reading.specs.Told.{number, number_of}
+use Rattle.reading.specs.Questions.{number_of}
+use Rattle.reading.specs.Told.{number}
 use Rattle.reading.specs.Total.{system_tree}
 use Rattle.reading.specs.Types.{type_at}
 use Rattle.reading.specs.declared.Number.{Number}

@@ -16,7 +16,8 @@ use Rattle.reading.proofs.TotalLaws.{system_nest, system_names, group_room, comp
 use Rattle.reading.specs.Forms.{system_at}
 use Rattle.reading.specs.Read.{got}
 use Rattle.reading.specs.Syntax.{Process, System, nilₛ, compₛ, components}
-use Rattle.reading.specs.Told.{form, number_of, numbered, failed_below}
+use Rattle.reading.specs.Questions.{number_of}
+use Rattle.reading.specs.Told.{form, numbered, failed_below}
 use Rattle.reading.specs.Total.{Grown, under, beside, system_grown, process_tree, system_tree}
 use Rattle.reading.specs.declared.Act.{Act as Fields}
 use Rattle.reading.specs.declared.Form.{Form}

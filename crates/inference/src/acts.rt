@@ -1,7 +1,8 @@
 // What an act needs where its channel's name may be out of scope, and the first of questions 7 to 10 that an act fails.
 ghost use Rattle.std.specs.Prelude.{◌≡◌, take};
 ghost use Rattle.std.proofs.Math.ListN.{get_elem?};
-ghost use Rattle.reading.specs.Told.{path_of, number_of, numbered, failed_below};
+ghost use Rattle.reading.specs.Questions.{number_of};
+ghost use Rattle.reading.specs.Told.{path_of, numbered, failed_below};
 ghost use Rattle.inference.specs.Needs.{need_on};
 ghost use Rattle.inference.specs.Walks.{Acted, Noted, fault};
 ghost use Rattle.inference.specs.Told.{known};
@@ -12,9 +13,9 @@ use needs::{Need, need_of};
 use reading::types::shape_of;
 use reading::{Path, Question, Shape};
 
-// What a send or a receive needs where the channel's name may be out of scope.
+/// What a send or a receive needs where the channel's name may be out of scope.
 #[tactic(auto, using(crate::proofs::NeedSteps::need_steps))]
-fn need_on(sends: bool, channel: Option<usize>) -> Need
+pub fn need_on(sends: bool, channel: Option<usize>) -> Need
     ensures { result ≡ need_on sends (known channel) }
 {
     match channel {
@@ -42,9 +43,9 @@ fn typed_fault(channel: usize, object: usize, path: Path) -> Option<Question>
     }
 }
 
-// The first of questions 7 to 10 that an act fails.
+/// The first of questions 7 to 10 that an act fails.
 #[tactic(auto, using(crate::proofs::NeedSteps::need_steps))]
-fn fault_of(channel: Option<usize>, object: Option<usize>, path: Path) -> Option<Question>
+pub fn fault_of(channel: Option<usize>, object: Option<usize>, path: Path) -> Option<Question>
     ensures { numbered result ≡ failed_below 11 (fault (known channel) (known object) (path_of path)) }
 {
     let Some(channel) = channel else {

@@ -27,9 +27,9 @@ use crate::table::{
 use needs::Need;
 use reading::Path;
 
-// One more, or unlimited under a repeat.
+/// One more, or unlimited under a repeat.
 #[tactic(auto, using(crate::proofs::RowSteps::row_steps))]
-fn bump(count: u16, repeated: bool) -> u16
+pub fn bump(count: u16, repeated: bool) -> u16
     ensures { result ≡ bumped count repeated }
 {
     if repeated {

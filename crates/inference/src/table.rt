@@ -62,8 +62,8 @@ pub fn cell_of(component: usize, kind: usize, column: usize) -> usize
     component * ROW + (HEAD + (kind * COLUMNS + column))
 }
 
-// What stands in a cell, 0 past the table's end.
-fn cell_at(table: &[u16], at: usize) -> usize
+/// What stands in a cell, 0 past the table's end.
+pub fn cell_at(table: &[u16], at: usize) -> usize
     ensures { result ≡ get_or table.now at 0 }
 {
     table.get(at).copied().unwrap_or(0) as usize

@@ -13,7 +13,8 @@ use lib.ListN.{length}
 use Rattle.reading.specs.Read.{Read, got, refused}
 use Rattle.reading.specs.Syntax.{Sheet, components}
 use Rattle.reading.specs.System.{sheet_of_in}
-use Rattle.reading.specs.Told.{number, number_of, counted_in}
+use Rattle.reading.specs.Questions.{number_of}
+use Rattle.reading.specs.Told.{number, counted_in}
 use Rattle.reading.specs.declared.Dialect.{Dialect}
 use Rattle.reading.specs.declared.Dialect.TheVariants.{Old as old, Current as current}
 use Rattle.reading.specs.declared.Number.{Number}

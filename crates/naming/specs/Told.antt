@@ -1,7 +1,7 @@
 -- What the code's answers tell: a reading of which only the place after it is answered, and the names that begin at places.
 use Rattle.std.specs.Prelude.{Result, Ok, Err, ℕ, List, ◌∷◌, map, cond, eqb}
 use Rattle.reading.specs.Read.{Read, got, refused}
-use Rattle.reading.specs.Told.{number_of}
+use Rattle.reading.specs.Questions.{number_of}
 use Rattle.reading.specs.declared.Refusal.{Refusal}
 use Rattle.naming.specs.Names.{letters_at, Names}
 use Rattle.naming.specs.Sentence.{name_of}

@@ -10,7 +10,8 @@ use Rattle.std.specs.Prelude.{Result, Ok, Err}
 use Rattle.reading.proofs.Parts.{below_found}
 use Rattle.reading.proofs.Steps.{steps}
 use Rattle.reading.specs.Read.{got, refused, and_then, byte_at, below}
-use Rattle.reading.specs.Told.{number, number_of}
+use Rattle.reading.specs.Questions.{number_of}
+use Rattle.reading.specs.Told.{number}
 use Rattle.reading.specs.declared.Number.{Number}
 use Rattle.reading.specs.declared.Refusal.{Refusal}
 use Rattle.policy.proofs.ListSteps.{byte_small}

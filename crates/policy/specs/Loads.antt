@@ -2,7 +2,8 @@
 use Rattle.std.specs.Prelude.{ℕ, zero, suc, ◌+◌, ◌-◌, ◌%◌, ◌<◌, ◌≤◌, ◌≡◌, List, [], ◌∷◌, ◌++◌, length, get_or, set, replicate, Result, Ok, Err}
 use Rattle.reading.specs.Read.{Read, got, refused, and_then, byte_at, below}
 use Rattle.reading.specs.System.{to_its_end}
-use Rattle.reading.specs.Told.{number_of, number, told}
+use Rattle.reading.specs.Questions.{number_of}
+use Rattle.reading.specs.Told.{number, told}
 use Rattle.reading.specs.declared.Number.{Number}
 use Rattle.reading.specs.declared.Refusal.{Refusal}
 use Rattle.policy.specs.declared.PermissionsAt.{PermissionsAt}

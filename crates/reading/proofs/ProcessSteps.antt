@@ -15,7 +15,8 @@ use Rattle.reading.specs.Read.{Read, got, refused, and_then}
 use Rattle.reading.specs.Syntax.{Process, par, new, input, output, repl}
 use Rattle.reading.specs.Forms.{process_at_in}
 use Rattle.reading.specs.System.{process_from, read_process_in}
-use Rattle.reading.specs.Told.{number_of, form, ending, ended}
+use Rattle.reading.specs.Questions.{number_of}
+use Rattle.reading.specs.Told.{form, ending, ended}
 use Rattle.reading.specs.declared.Dialect.{Dialect}
 use Rattle.reading.specs.declared.Act.{Act}
 use Rattle.reading.specs.declared.Form.{Form}

@@ -15,7 +15,8 @@ use Rattle.reading.specs.Read.{Read, got, refused, and_then, below}
 use Rattle.reading.specs.Types.{type_at_in}
 use Rattle.reading.specs.Syntax.{System, components}
 use Rattle.reading.specs.System.{read_system_in, free_types_in, header_in, to_its_end, read_sheet_in}
-use Rattle.reading.specs.Told.{number_of, number, ending, ended, counted, counted_in, path_of}
+use Rattle.reading.specs.Questions.{number_of}
+use Rattle.reading.specs.Told.{number, ending, ended, counted, counted_in, path_of}
 use Rattle.reading.specs.declared.Dialect.{Dialect}
 use Rattle.reading.specs.declared.Number.{Number}
 use Rattle.reading.specs.declared.Path.{Path}

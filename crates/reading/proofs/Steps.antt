@@ -8,7 +8,8 @@ use Rattle.reading.proofs.Tests.{tests}
 use Rattle.std.specs.Prelude.{Result, Ok, Err}
 use Rattle.reading.specs.Read.{Read, refused, and_then}
 use Rattle.reading.specs.Forms.{limited}
-use Rattle.reading.specs.Told.{number_of, number}
+use Rattle.reading.specs.Questions.{number_of}
+use Rattle.reading.specs.Told.{number}
 use Rattle.reading.specs.declared.Number.{Number}
 use Rattle.reading.specs.declared.Refusal.{Refusal}
 

@@ -21,7 +21,8 @@ use Rattle.reading.specs.Read.{Read, got, refused, and_then}
 use Rattle.reading.specs.Syntax.{Process, System, parₛ, groupₛ, newₛ, components}
 use Rattle.reading.specs.Forms.{system_at_in}
 use Rattle.reading.specs.System.{component, system_from, read_process_in, read_system_in}
-use Rattle.reading.specs.Told.{number_of, number, form, ending, ended, counted}
+use Rattle.reading.specs.Questions.{number_of}
+use Rattle.reading.specs.Told.{number, form, ending, ended, counted}
 use Rattle.reading.specs.declared.Dialect.{Dialect}
 use Rattle.reading.specs.declared.Act.{Act}
 use Rattle.reading.specs.declared.Form.{Form}

@@ -1,5 +1,6 @@
 -- Which number and values of document 01 each case of an answer of the code is, and which path a `Path` is.
 use Rattle.std.specs.Prelude.{ℕ, ◌+◌, List, take, cond, ltb, Option, None, Some, Result, Ok, Err}
+use Rattle.reading.specs.Questions.{number_of}
 use Rattle.reading.specs.Read.{Read, got, refused}
 use Rattle.reading.specs.Syntax.{System, Sheet, components}
 use Rattle.reading.specs.declared.Form.{Form}
@@ -7,35 +8,7 @@ use Rattle.reading.specs.declared.Number.{Number}
 use Rattle.reading.specs.declared.Path.{Path}
 use Rattle.reading.specs.declared.Place.{Place}
 use Rattle.reading.specs.declared.Question.{Question}
-use Rattle.reading.specs.declared.Question.TheVariants as question
 use Rattle.reading.specs.declared.Refusal.{Refusal}
-
--- The number of each question.
-abbrev pub number_of : Question → ℕ
-number_of question.Length = 1
-number_of question.Byte = 2
-number_of question.NoneLeft = 3
-number_of question.Range = 4
-number_of question.Limits = 5
-number_of question.NewGroup = 6
-number_of question.Scope = 7
-number_of question.Channel = 8
-number_of question.Carried = 9
-number_of question.Located = 10
-number_of question.Charter = 11
-number_of question.Kinds = 12
-number_of question.Above = 13
-number_of question.Alike = 14
-number_of question.Fence = 15
-number_of question.Tree = 16
-number_of question.Reached = 17
-number_of question.Covered = 18
-number_of question.Output = 19
-number_of question.Start = 20
-number_of question.Script = 21
-number_of question.Log = 22
-number_of question.Names = 40
-number_of question.Purposes = 41
 
 -- The number of the question that fails, if any does.
 abbrev pub numbered : Option Question → Option ℕ

@@ -3,7 +3,7 @@
 #![tactic(auto)]
 
 ghost use Rattle.std.specs.Prelude.{◌≡◌};
-ghost use Rattle.reading.specs.Told.{number_of};
+ghost use Rattle.reading.specs.Questions.{number_of};
 
 use std::fmt;
 

@@ -9,7 +9,8 @@ use lib.ListN.{length, get_or}
 use borrow.Author.Rules.{rules}
 use borrow.Author.Tests.{le-leb, lt-leb}
 use Rattle.reading.specs.System.{sheet_of}
-use Rattle.reading.specs.Told.{number_of, number, counted_in}
+use Rattle.reading.specs.Questions.{number_of}
+use Rattle.reading.specs.Told.{number, counted_in}
 use Rattle.reading.specs.declared.Number.{Number}
 use Rattle.reading.specs.declared.Question.{Question}
 use Rattle.reading.specs.declared.Question.TheVariants as question

@@ -13,7 +13,8 @@ use borrow.Author.Tests.{lt-ltb, le-ltb, ltb-true, ltb-false}
 use Rattle.reading.specs.Read.{Read, got, refused}
 use Rattle.reading.specs.Syntax.{Sheet, components}
 use Rattle.reading.specs.System.{read_sheet, sheet_of_in, sheet_of}
-use Rattle.reading.specs.Told.{number_of, numbered, failed_below, number, counted_in}
+use Rattle.reading.specs.Questions.{number_of}
+use Rattle.reading.specs.Told.{numbered, failed_below, number, counted_in}
 use Rattle.reading.specs.declared.Number.{Number}
 use Rattle.reading.specs.declared.Question.{Question}
 use Rattle.reading.specs.declared.Refusal.{Refusal}

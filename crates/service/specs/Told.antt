@@ -4,7 +4,7 @@ use Rattle.std.specs.Prelude.{ℕ, ◌*◌, ◌<◌, ◌≤◌, ◌≡◌, List,
 use Rattle.reading.specs.Read.{got}
 use Rattle.reading.specs.Syntax.{Sheet, components}
 use Rattle.reading.specs.System.{sheet_of}
-use Rattle.reading.specs.Told.{number_of}
+use Rattle.reading.specs.Questions.{number_of}
 use Rattle.reading.specs.declared.Question.{Question}
 use Rattle.inference.specs.Interface.{interface, Required}
 use Rattle.inference.specs.Rows.{Orderly, table_entries}

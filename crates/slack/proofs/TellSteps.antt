@@ -10,7 +10,8 @@ use lib.ListN.{length, replicate}
 use borrow.Author.Rules.{rules}
 use Rattle.reading.specs.Read.{got}
 use Rattle.reading.specs.System.{sheet_of}
-use Rattle.reading.specs.Told.{number_of, number, counted_in}
+use Rattle.reading.specs.Questions.{number_of}
+use Rattle.reading.specs.Told.{number, counted_in}
 use Rattle.reading.specs.declared.Number.{Number}
 use Rattle.reading.specs.declared.Question.{Question}
 use Rattle.reading.specs.declared.Refusal.{Refusal}

@@ -10,7 +10,7 @@ use Rattle.service.specs.Questions.{passed}
 use Rattle.service.specs.Check.{checked}
 use Rattle.service.specs.Told.{told, Checked}
 use Rattle.std.specs.Prelude.{Result, Ok, Err}
-use Rattle.reading.specs.Told.{number_of}
+use Rattle.reading.specs.Questions.{number_of}
 use Rattle.reading.specs.declared.Question.{Question}
 use Rattle.running.specs.Play.{played}
 use Rattle.execution.specs.Told.{Played}

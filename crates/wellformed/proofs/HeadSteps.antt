@@ -13,7 +13,8 @@ use lib.Seq.{get_or-set_same, get_or-set_other}
 use Rattle.std.specs.Prelude.{Option, None, Some}
 use Rattle.std.specs.Option.{is_some}
 use Rattle.std.specs.List.{list_any}
-use Rattle.reading.specs.Told.{number_of, numbered}
+use Rattle.reading.specs.Questions.{number_of}
+use Rattle.reading.specs.Told.{numbered}
 use Rattle.reading.specs.declared.Question.{Question}
 use Rattle.reading.specs.Forms.{member}
 use Rattle.inference.specs.Lists.{every}
