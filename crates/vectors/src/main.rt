@@ -11,12 +11,17 @@ use commands::{
 };
 use execution::play;
 use files::{first, read_full};
-use fixtures::Hex;
 use moving::{downgrade, upgrade};
 use reading::Question;
 use std::fs::File;
 use std::io;
 use std::io::{Print, Read};
+
+// The hexadecimal digits.
+const DIGITS: [u8; 16] = *b"0123456789abcdef";
+
+// Room for a log or a moved sheet in hexadecimal, three bytes each.
+const TEXT_ROOM: usize = 3 * LOG_ROOM;
 
 // The next lengths of the file, two bytes each, the low byte first; none where the file ends before.
 fn read_lengths<const N: usize>(file: &mut impl Read) -> Option<[usize; N]> {
@@ -38,9 +43,17 @@ fn next_bytes<'a>(file: &mut impl Read, buf: &'a mut [u8], n: usize) -> &'a [u8]
     &buf[..count]
 }
 
-// Prints the first `n` bytes of what a service wrote, in hexadecimal, and a newline.
+// Prints the first `n` bytes of what a service wrote, in hexadecimal, a space before each, and a newline. The digits are put into a
+// buffer: a `write!` for each byte takes three times as long.
 fn print_bytes(rt: &impl Print, written: &[u8], n: usize) -> io::Result<()> {
-    println!(rt; "{}", Hex(first(written, n)))
+    let bytes = first(written, n);
+    let mut text = [b' '; TEXT_ROOM];
+    for (shown, byte) in text.chunks_exact_mut(3).zip(bytes) {
+        shown[1] = DIGITS[usize::from(byte / 16)];
+        shown[2] = DIGITS[usize::from(byte % 16)];
+    }
+    rt.write_all(first(&text, bytes.len().saturating_mul(3)))?;
+    rt.write_all(b"\n")
 }
 
 fn show_run(
