@@ -10,7 +10,7 @@ use std::io::Print;
 fn show(rt: &impl Print, label: &str, sheet: &[u8], charter: &[u8]) -> io::Result<()> {
     let mut output = [0xAAu8; 16];
     let answer = check(sheet, charter, &mut output);
-    print_line(rt, label, answer, &output)
+    print_line(rt, label.as_bytes(), answer, &output)
 }
 
 // The rows of the table that change W's charter.

@@ -8,9 +8,9 @@ use explaining::examine;
 use files::{first, load};
 use listing::entry_line;
 use reading::Question;
-use std::io;
 use std::io::Print;
 use std::rt::Files;
+use std::{fmt, io};
 
 /// Room for a sheet or a charter of 4,096 bytes and one byte more: a longer one fails its question however much of it is read.
 pub const SHEET_ROOM: usize = 4097;
@@ -126,10 +126,10 @@ pub fn run(rt: &(impl Files + Print)) -> io::Result<()> {
     }
 }
 
-/// Writes a moved sheet's bytes alone, or `refused N`.
-pub fn write_moved(
+/// Writes a moved sheet's bytes alone, or `refused N`, where `N` is a question or any number.
+pub fn write_moved<Q: fmt::Display>(
     rt: &impl Print,
-    answer: Result<usize, Question>,
+    answer: Result<usize, Q>,
     output: &[u8],
 ) -> io::Result<()> {
     match answer {

@@ -24,7 +24,7 @@ impl System<'_> {
         log: &mut [u8],
     ) -> io::Result<()> {
         let answer = play(self.sheet, self.charter, script, log);
-        print_line(rt, label, answer, log)
+        print_line(rt, label.as_bytes(), answer, log)
     }
 
     // Plays with a log of four records.
