@@ -127,7 +127,7 @@ pub fn run(rt: &(impl Files + Print)) -> io::Result<()> {
 }
 
 /// Writes a moved sheet's bytes alone, or `refused N`, where `N` is a question or any number.
-pub fn write_moved<Q: fmt::Display>(
+pub fn write_moved<Q: fmt::Display + Drop>(
     rt: &impl Print,
     answer: Result<usize, Q>,
     output: &[u8],
