@@ -8,6 +8,9 @@ use encoding::walking::StoredSheet;
 use reading::system::read_in;
 use reading::{Dialect, Question};
 
+// How many bytes a sheet has at most.
+const LONGEST: usize = 4096;
+
 // Question 19, and a sheet's stored form in another dialect, which has `len` bytes.
 #[tactic(auto, using(crate::proofs::MoveSteps::delivering))]
 fn deliver(
@@ -37,7 +40,7 @@ pub fn upgrade(sheet: &[u8], output: &mut [u8]) -> Result<usize, Question>
         return Err(read.unwrap_err().question);
     };
     let len = sheet.len() + components.value;
-    if 4096 < len {
+    if LONGEST < len {
         return Err(Question::Length);
     }
     let old = StoredSheet {

@@ -8,8 +8,8 @@ returns-in_default c = search upgrading
 pub overflow_add-len : goal.overflow_add-len
 overflow_add-len c = search upgrading
 
-pub returns-then-len-gt4096 : goal.returns-then-len-gt4096
-returns-then-len-gt4096 c = search upgrading
+pub returns-then-len-gt-LONGEST : goal.returns-then-len-gt-LONGEST
+returns-then-len-gt-LONGEST c = search upgrading
 
 pub invariant_of-old : goal.invariant_of-old
 invariant_of-old c = record { short = search upgrading }
