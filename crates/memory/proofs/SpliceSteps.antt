@@ -1,14 +1,39 @@
--- A part of a list replaced: the rest moved, then others put before it.
-use Prim.Native.Nat.{ℕ, ◌+◌, ◌-◌, ◌≤◌}
+-- Copies between tables: a turn of the loop; and a part of a list replaced: the rest moved, then others put before it.
+use Prim.Native.Nat.{ℕ, ◌+◌, ◌-◌, ◌<◌, ◌≤◌}
 use mathlib.Core.List.{List, ◌++◌, append_assoc}
 use mathlib.Core.Path.{◌≡◌, refl, sym, ap, ◌∙◌}
+use native.Mathlib.Numerals.{add-one}
 use native.Mathlib.Omega.{arith}
 use borrow.Author.Rules.{rules}
-use borrow.Rule.Slice.PartMut.{put_mid}
-use lib.ListN.{length, take, drop, length-drop}
-use lib.Seq.{drop_at, length-paste, length-take-le, paste, take-add, take_all, take_at, take-paste, take-take, drop-paste}
-use Rattle.std.proofs.lemmas.Slice.{put_mid-paste}
+use lib.ListN.{length, get_or, take, drop, set, length-drop}
+use lib.Seq.{drop_at, get_or-drop, length-paste, length-take-le, paste, paste-suc, paste-zero, take-add, take_all, take_at, take-paste, take-take, drop-paste}
 use Rattle.memory.specs.Threads.{replaced}
+
+-- The first `i` of what is copied are there.
+pub record Copied (dst₀ : List ℕ) (to : ℕ) (src : List ℕ) (from count : ℕ) (dst : List ℕ) (i : ℕ) : Type 0 where
+  pub most : i ≤ count
+  pub same : length dst ≡ length dst₀
+  pub is : dst ≡ paste dst₀ to (drop from src) i
+
+module _ (dst₀ : List ℕ) (to : ℕ) (src : List ℕ) (from count : ℕ) where
+  pub copy_begins : Copied dst₀ to src from count dst₀ 0
+  copy_begins = record { most = omega arith; same = refl; is = paste-zero dst₀ to (drop from src) }
+
+  module _ (dst : List ℕ) (i : ℕ) (t : Copied dst₀ to src from count dst i) where
+    pub copy_goes_on : to + count ≤ length dst₀ → from + count ≤ length src → i < count
+        → Copied dst₀ to src from count (set dst (to + i) (get_or src (from + i) 0)) (i + 1)
+    copy_goes_on h k l =
+        let room : to + (i + 1) ≤ length dst₀ = omega arith in
+        let long : i + 1 ≤ length (drop from src) = omega (arith, length-drop from src) in
+        let stored : set dst (to + i) (get_or src (from + i) 0) ≡ paste dst₀ to (drop from src) (i + 1) =
+        rw (t.is, ← get_or-drop from src i 0, add-one i)
+        (paste-suc dst₀ to (drop from src) i 0 (omega arith) (omega (arith, length-drop from src))) in
+        record { most = omega arith; same = ap length stored ∙ length-paste dst₀ to (drop from src) (i + 1) room long; is = stored }
+
+    pub copy_ends : count ≤ i → dst ≡ paste dst₀ to (drop from src) count
+    copy_ends h = let e : count ≡ i = omega (arith, t.most) in rw e t.is
+
+pub ruleset copy_steps = (rules, copy_begins, copy_goes_on, copy_ends)
 
 -- The part of a list from a place on, of its first `len`.
 part_is : (l : List ℕ) (from len : ℕ) → from ≤ len → len ≤ length l → drop from (take len l) ≡ take (len - from) (drop from l)
@@ -64,12 +89,8 @@ module _ (l : List ℕ) (len at from : ℕ) (others : List ℕ) (h : at ≤ from
       )
       (append_assoc (take at (take len l)) others (drop from (take len l)))
 
-  pub spliced : (l₁ xs : List ℕ) → l₁ ≡ moved → xs ≡ others
-      → take (at + length others + (len - from)) (put_mid at (at + length others - at) l₁ xs) ≡ replaced (take len l) at from others
-  spliced l₁ xs e f =
-      let b : at + length others - at ≡ length others = omega arith in
-      let part : put_mid at (at + length others - at) l₁ xs ≡ paste moved at others (length others) =
-      rw b (put_mid-paste at (length others) l₁ xs others (length others) f refl refl ∙ rw e refl) in
-      rw part put_before
+  pub spliced : (l₁ l₂ : List ℕ) → l₁ ≡ moved → l₂ ≡ paste l₁ at (drop 0 others) (length others)
+      → take (at + length others + (len - from)) l₂ ≡ replaced (take len l) at from others
+  spliced l₁ l₂ e f = rw (f, e) put_before
 
 pub ruleset splice_steps = (rules, spliced)
