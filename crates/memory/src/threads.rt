@@ -55,13 +55,50 @@ fn copy(dst: &mut [usize], to: usize, src: &[usize], from: usize, count: usize)
     }
 }
 
+// Moves `count` numbers within a table towards its front: the first goes first, since none is overwritten before it has gone.
+#[tactic(auto, using(crate::proofs::SpliceSteps::down_steps))]
+fn shift_down(threads: &mut [usize], from: usize, to: usize, count: usize)
+    requires { (to < from) × (from + count ≤ length threads.old) }
+    ensures { threads.new ≡ paste threads.old to (drop from threads.old) count }
+{
+    for i in 0..count {
+        threads[to + i] = threads[from + i];
+    }
+}
+
+// Moves `count` numbers within a table towards its end: the last goes first.
+#[tactic(auto, using(crate::proofs::SpliceSteps::up_steps))]
+fn shift_up(threads: &mut [usize], from: usize, to: usize, count: usize)
+    requires { (from < to) × (to + count ≤ length threads.old) }
+    ensures { threads.new ≡ paste threads.old to (drop from threads.old) count }
+{
+    for i in (0..count).rev() {
+        threads[to + i] = threads[from + i];
+    }
+}
+
+// Moves `count` numbers within a table.
+#[tactic(auto, using(crate::proofs::SpliceSteps::shift_steps))]
+fn shift(threads: &mut [usize], from: usize, to: usize, count: usize)
+    requires { (to + count ≤ length threads.old) × (from + count ≤ length threads.old) }
+    ensures { threads.new ≡ paste threads.old to (drop from threads.old) count }
+{
+    if to < from {
+        shift_down(threads, from, to, count);
+        return;
+    }
+    if from < to {
+        shift_up(threads, from, to, count);
+    }
+}
+
 /// Of a list of `len` threads, puts others in place of those from `at` up to `from`.
 #[tactic(auto, using(crate::proofs::SpliceSteps::splice_steps))]
 pub fn replace(threads: &mut [usize], len: usize, at: usize, from: usize, others: &[usize])
     requires { (at ≤ from) × (from ≤ len) × (len ≤ 128) × (at + length others.now + (len - from) ≤ 128) × (length threads.old ≡ 128) }
     ensures { take (at + length others.now + (len - from)) threads.new ≡ replaced (take len threads.old) at from others.now }
 {
-    threads.copy_within(from..len, at + others.len());
+    shift(threads, from, at + others.len(), len - from);
     copy(threads, at, others, 0, others.len());
 }
 
