@@ -5,7 +5,6 @@ use mathlib.Core.Path.{◌≡◌, refl, sym, ap, ◌∙◌}
 use native.Mathlib.Omega.{arith}
 use borrow.Author.Rules.{rules}
 use borrow.Author.Tests.{lt-ltb, ne_eqb}
-use borrow.Rule.Slice.PartMut.{put_mid}
 use lib.ListN.{length, get_or, take, drop, set, length-append, length-drop, take-append-drop}
 use lib.Seq.{length-take-le, set_split, drop-drop, append_snoc, paste, length-paste}
 use native.Mathlib.Numerals.{add-one}
@@ -50,14 +49,6 @@ pasted out at s n h = record {
   left = let z : at + length (take n s) ≡ at + n = ap (λ (x : ℕ). at + x) (length-take-le n s h) in rw z;
 }
 
--- A part of the bytes copied to a part of the output.
-pub part_pasted : (out : List ℕ) (at : ℕ) (s : List ℕ) (from len : ℕ) (xs : List ℕ) → xs ≡ take (from + len - from) (drop from s)
-    → put_mid at (at + len - at) out xs ≡ paste out at (drop from s) len
-part_pasted out at s from len xs e =
-    let a : at + len - at ≡ len = omega arith in
-    let b : from + len - from ≡ len = omega arith in
-    rw (e, a, b, append_assoc (take at out) (take len (drop from s)) (drop (at + len) out), drop-drop len at out)
-
 -- A form's copy: its bytes, then the purpose.
 module _ (to : Dialect) (s : List ℕ) (from : ℕ) (out : List ℕ) (at code len : ℕ) (inside : from < length s) (e : code ≡ get_or s from 0) (f : len ≡ head_len s from)
     (room : at + length (form_copy to s from) ≤ length out) where
@@ -71,26 +62,18 @@ module _ (to : Dialect) (s : List ℕ) (from : ℕ) (out : List ℕ) (at code le
   pub head_room : at + len ≤ length out
   head_room = omega (arith, copied)
 
-  module _ (xs : List ℕ) (g : xs ≡ take (from + len - from) (drop from s)) where
-    abbrev with_form : List ℕ
-    with_form = put_mid at (at + len - at) out xs
+  pub purpose_after : (out₁ : List ℕ) → out₁ ≡ paste out at (drop from s) len → at + len + length (if_component code (purpose_bytes to 0)) ≤ length out₁
+  purpose_after out₁ g =
+      let k : len ≤ length (drop from s) = omega (arith, length-drop from s, (head_within s from inside).1) in
+      omega (arith, copied, ap length g ∙ length-paste out at (drop from s) len head_room k)
 
-    pasted_form : with_form ≡ paste out at (drop from s) len
-    pasted_form = part_pasted out at s from len xs g
-
-    pub purpose_after : at + len + length (if_component code (purpose_bytes to 0)) ≤ length with_form
-    purpose_after =
-        let k : len ≤ length (drop from s) = omega (arith, length-drop from s, (head_within s from inside).1) in
-        omega (arith, copied, ap length pasted_form ∙ length-paste out at (drop from s) len head_room k)
-
-    pub form_put : (out₂ : List ℕ) (r : ℕ) → Put with_form out₂ (at + len) (if_component code (purpose_bytes to 0)) r
-        → Put out out₂ at (form_copy to s from) r
-    unfolding form_copy
-    form_put out₂ r p =
-        let q : Put out with_form at (take len (drop from s)) (at + len) =
-        rw pasted_form (pasted out at (drop from s) len (omega (arith, length-drop from s, (head_within s from inside).1))) in
-        let k : at + length (take len (drop from s)) ≤ length out = rw f (omega (arith, taken, head_room)) in
-        rw (← e, ← f) (put_both q p k)
+  pub form_put : (out₁ out₂ : List ℕ) (r : ℕ) → out₁ ≡ paste out at (drop from s) len → Put out₁ out₂ (at + len) (if_component code (purpose_bytes to 0)) r
+      → Put out out₂ at (form_copy to s from) r
+  unfolding form_copy
+  form_put out₁ out₂ r g p =
+      let q : Put out out₁ at (take len (drop from s)) (at + len) = rw g (pasted out at (drop from s) len (omega (arith, length-drop from s, (head_within s from inside).1))) in
+      let k : at + length (take len (drop from s)) ≤ length out = rw f (omega (arith, taken, head_room)) in
+      rw (← e, ← f) (put_both q p k)
 
 pub ruleset form_puts = (rules, head_room, purpose_after, form_put)
 
@@ -169,29 +152,25 @@ module _ (d to : Dialect) (s out : List ℕ) (first : ℕ) (e : first ≡ system
   parts_long : length (copy_of d to s) ≡ first + length (copy_from d to s first)
   parts_long = ap length both_parts ∙ omega (arith, length-append (take first s) (copy_from d to s first), length-take-le first s (omega arith))
 
-  pub start_room : first ≤ length out
+  pub start_room : 0 + first ≤ length out
   start_room = omega (arith, parts_long)
 
-  pub room_long : first ≡ length (take first out)
-  room_long = sym (length-take-le first out start_room)
+  pub start_inside : 0 + first ≤ length s
+  start_inside = omega arith
 
-  start_long : length (take first s) ≡ first
-  start_long = length-take-le first s (omega arith)
+  types_put : (out₁ : List ℕ) → out₁ ≡ paste out 0 (drop 0 s) first → Put out out₁ 0 (take first s) first
+  types_put out₁ f =
+      let z : 0 + first ≡ first = omega arith in
+      let q : Put out out₁ 0 (take first s) (0 + first) = rw f (pasted out 0 s first (omega arith)) in
+      rw z at q
 
-  pub same_long : length (take first out) ≡ length (take first s)
-  same_long = sym room_long ∙ sym start_long
+  fits : 0 + length (take first s) ≤ length out
+  fits = omega (arith, start_room, length-take-le first s (omega arith))
 
-  module _ (xs : List ℕ) (f : xs ≡ take first s) where
-    types_put : Put out (xs ++ drop first out) 0 (take first s) first
-    types_put = let z : 0 + length (take first s) ≡ first = omega (arith, start_long) in record { next = sym z; left = rw (z, f) refl }
+  pub forms_room : (out₁ : List ℕ) → out₁ ≡ paste out 0 (drop 0 s) first → first + length (copy_from d to s first) ≤ length out₁
+  forms_room out₁ f = omega (arith, put_length (types_put out₁ f) fits, parts_long)
 
-    fits : 0 + length (take first s) ≤ length out
-    fits = omega (arith, start_room, start_long)
+  pub sheet_put : (out₁ out₂ : List ℕ) (r : ℕ) → out₁ ≡ paste out 0 (drop 0 s) first → Put out₁ out₂ first (copy_from d to s first) r → Put out out₂ 0 (copy_of d to s) r
+  sheet_put out₁ out₂ r f p = rw both_parts (put_both (types_put out₁ f) p fits)
 
-    pub forms_room : first + length (copy_from d to s first) ≤ length (xs ++ drop first out)
-    forms_room = omega (arith, put_length types_put fits, parts_long)
-
-    pub sheet_put : (out₂ : List ℕ) (r : ℕ) → Put (xs ++ drop first out) out₂ first (copy_from d to s first) r → Put out out₂ 0 (copy_of d to s) r
-    sheet_put out₂ r p = rw both_parts (put_both types_put p fits)
-
-pub ruleset sheet_puts = (rules, start_room, room_long, same_long, forms_room, sheet_put)
+pub ruleset sheet_puts = (rules, start_room, start_inside, forms_room, sheet_put)

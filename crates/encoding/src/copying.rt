@@ -1,11 +1,24 @@
 // A sheet's stored form in one dialect, from that in another: its forms are copied as they are, and each component's purpose is put in
 // or left out.
-ghost use Rattle.std.specs.Prelude.{◌≡◌, ◌+◌, ◌<◌, ◌≤◌, length};
+ghost use Rattle.std.specs.Prelude.{◌≡◌, ◌+◌, ◌<◌, ◌≤◌, length, drop};
+ghost use Rattle.std.proofs.Math.Seq.{paste};
 ghost use Rattle.encoding.specs.Encoding.{purpose_bytes};
 ghost use Rattle.encoding.specs.Copying.{if_component, form_copy, copy_from, system_start, copy_of, Put};
 
 use crate::walking::{StoredSheet, system_start};
 use reading::Dialect;
+
+// Copies `count` bytes. A loop in place of the library's `copy_from_slice`, which calls `memmove`: the static library for C asks for
+// `memcpy` and `memset` alone.
+#[tactic(auto, using(memory::proofs::SpliceSteps::copy_steps))]
+fn copy(out: &mut [u8], to: usize, s: &[u8], from: usize, count: usize)
+    requires { (to + count ≤ length out.old) × (from + count ≤ length s.now) }
+    ensures { out.new ≡ paste out.old to (drop from s.now) count }
+{
+    for i in 0..count {
+        out[to + i] = s[from + i];
+    }
+}
 
 // Puts purpose 0 at a component, where the dialect states purposes; the place after it.
 #[tactic(auto, using(crate::proofs::CopySteps::purpose_puts))]
@@ -28,7 +41,7 @@ impl<'a> StoredSheet<'a> {
     {
         let code = self.byte(from);
         let len = self.head_len(from);
-        out[at..at + len].copy_from_slice(&self.bytes[from..from + len]);
+        copy(out, at, self.bytes, from, len);
         put_purpose(to, code, out, at + len)
     }
 
@@ -54,7 +67,7 @@ impl<'a> StoredSheet<'a> {
         ensures { Put out.old out.new 0 (copy_of self.now.dialect to self.now.bytes.now) result }
     {
         let first = system_start(self.bytes);
-        out[..first].copy_from_slice(&self.bytes[..first]);
+        copy(out, 0, self.bytes, 0, first);
         self.copy_forms(to, first, out)
     }
 }

@@ -2,6 +2,7 @@
 // Kept as numbers: the definitions `packed` and `unpacked` and the law `unpack_pack` speak of the digits, and what a run holds
 // (`Holds` of the crate products) is told by them.
 ghost use Rattle.std.specs.Prelude.{◌≡◌, ◌+◌, ◌-◌, ◌<◌, ◌≤◌, length, take, drop};
+ghost use Rattle.std.proofs.Math.Seq.{paste};
 ghost use Rattle.memory.specs.Threads.{packed, unpacked, replaced};
 
 use crate::Thread;
@@ -42,14 +43,63 @@ pub fn unpack(w: usize) -> Thread
     Thread::unpack(w)
 }
 
+// Copies `count` numbers from one table to another. A loop in place of the library's `copy_from_slice`, which calls `memmove`: the static
+// library for C asks for `memcpy` and `memset` alone.
+#[tactic(auto, using(crate::proofs::SpliceSteps::copy_steps))]
+fn copy(dst: &mut [usize], to: usize, src: &[usize], from: usize, count: usize)
+    requires { (to + count ≤ length dst.old) × (from + count ≤ length src.now) }
+    ensures { dst.new ≡ paste dst.old to (drop from src.now) count }
+{
+    for i in 0..count {
+        dst[to + i] = src[from + i];
+    }
+}
+
+// Moves `count` numbers within a table towards its front: the first goes first, since none is overwritten before it has gone.
+#[tactic(auto, using(crate::proofs::SpliceSteps::down_steps))]
+fn shift_down(threads: &mut [usize], from: usize, to: usize, count: usize)
+    requires { (to < from) × (from + count ≤ length threads.old) }
+    ensures { threads.new ≡ paste threads.old to (drop from threads.old) count }
+{
+    for i in 0..count {
+        threads[to + i] = threads[from + i];
+    }
+}
+
+// Moves `count` numbers within a table towards its end: the last goes first.
+#[tactic(auto, using(crate::proofs::SpliceSteps::up_steps))]
+fn shift_up(threads: &mut [usize], from: usize, to: usize, count: usize)
+    requires { (from < to) × (to + count ≤ length threads.old) }
+    ensures { threads.new ≡ paste threads.old to (drop from threads.old) count }
+{
+    for i in (0..count).rev() {
+        threads[to + i] = threads[from + i];
+    }
+}
+
+// Moves `count` numbers within a table.
+#[tactic(auto, using(crate::proofs::SpliceSteps::shift_steps))]
+fn shift(threads: &mut [usize], from: usize, to: usize, count: usize)
+    requires { (to + count ≤ length threads.old) × (from + count ≤ length threads.old) }
+    ensures { threads.new ≡ paste threads.old to (drop from threads.old) count }
+{
+    if to < from {
+        shift_down(threads, from, to, count);
+        return;
+    }
+    if from < to {
+        shift_up(threads, from, to, count);
+    }
+}
+
 /// Of a list of `len` threads, puts others in place of those from `at` up to `from`.
 #[tactic(auto, using(crate::proofs::SpliceSteps::splice_steps))]
 pub fn replace(threads: &mut [usize], len: usize, at: usize, from: usize, others: &[usize])
     requires { (at ≤ from) × (from ≤ len) × (len ≤ 128) × (at + length others.now + (len - from) ≤ 128) × (length threads.old ≡ 128) }
     ensures { take (at + length others.now + (len - from)) threads.new ≡ replaced (take len threads.old) at from others.now }
 {
-    threads.copy_within(from..len, at + others.len());
-    threads[at..at + others.len()].copy_from_slice(others);
+    shift(threads, from, at + others.len(), len - from);
+    copy(threads, at, others, 0, others.len());
 }
 
 /// Of a list of `len` threads, replaces those from `at` up to `from` by `count` of those made, from `first` on. Beside `replace`, for a

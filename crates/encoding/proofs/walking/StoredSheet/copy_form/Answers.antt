@@ -2,8 +2,8 @@
 use Rattle.encoding.proofs.CopySteps.{form_puts}
 use Rattle.encoding.proofs.walking.StoredSheet.copy_form.Goals as goal
 
-pub slice_bounds-copy_from_slice-end : goal.slice_bounds-copy_from_slice-end
-slice_bounds-copy_from_slice-end c = search form_puts
+pub copy-requires : goal.copy-requires
+copy-requires c = (search form_puts, search form_puts)
 
 pub put_purpose-requires : goal.put_purpose-requires
 put_purpose-requires c = search form_puts
