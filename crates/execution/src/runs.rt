@@ -1,10 +1,9 @@
 // A run under a script: a move a turn, and its record of eight bytes.
-ghost use Rattle.std.specs.Prelude.{◌≡◌, List, ℕ, ◌+◌, ◌<◌, ◌≤◌};
-ghost use Rattle.execution.specs.Begins.{ran_over};
+ghost use Rattle.std.specs.Prelude.{◌≡◌, List, ℕ, ◌+◌, ◌<◌, ◌≤◌, length};
+ghost use Rattle.execution.specs.Begins.{ran_over, Lent};
 ghost use Rattle.execution.specs.Runs.{Going, Ongoing, Turned};
 
 use crate::{Course, Point};
-use continuations::Tables;
 use script::moves::move_at;
 use script::records::write_record;
 use transitions::moves::step;
@@ -12,24 +11,40 @@ use transitions::outcomes::logged;
 
 // Makes the next move and writes its record.
 #[tactic(auto, using(crate::proofs::RunSteps::turn_steps))]
-fn turn<const CELLS: usize>(
-    tables: &mut Tables<CELLS>,
+fn turn(
     course: Course<'_>,
     p: Point,
     log: &mut [u8],
+    threads: &mut [usize],
+    made: &mut [usize],
+    types: &mut [u32],
+    known: &mut [bool],
+    cells: &mut [u32],
 ) -> Point
-    requires ongoing { Ongoing course.forms.now course.script.now course.count p log.old tables.old }
+    requires ongoing { Ongoing course.forms.now course.script.now course.count p log.old threads.old types.old known.old cells.old }
+    requires tables { Lent threads.old made.old types.old known.old cells.old }
     requires left { p.done < course.count }
-    requires cells { CELLS ≤ 2304 }
-    requires enough { course.count + 1029 ≤ CELLS }
-    ensures { (run : List ℕ) → Going course.entry.forms.now course.entry.script.now run course.entry.count p log.old tables.old
-        → Turned course.entry.forms.now course.entry.script.now run course.entry.count p log.old log.new tables.new result }
+    requires enough { course.count + 1029 ≤ length cells.old }
+    ensures { (run : List ℕ)
+        → Going course.entry.forms.now course.entry.script.now run course.entry.count p log.old
+        threads.old types.old known.old cells.old
+        → Turned course.entry.forms.now course.entry.script.now run course.entry.count p
+        log.old log.new threads.new types.new known.new cells.new result }
 {
     let read = move_at(course.script, p.at);
     let Ok(found) = read else {
         return p;
     };
-    let outcome = step(tables, course.forms, found.step, p.sizes);
+    let outcome = step(
+        course.forms,
+        found.step,
+        p.sizes,
+        threads,
+        made,
+        types,
+        known,
+        cells,
+    );
     let moved = logged(outcome, p.sizes);
     write_record(log, p.done * 8, moved.line);
     Point {
@@ -41,20 +56,26 @@ fn turn<const CELLS: usize>(
 
 /// Makes the moves that are left, and writes their records.
 #[tactic(auto, using(crate::proofs::RunSteps::run_steps))]
-pub fn run<const CELLS: usize>(
-    tables: &mut Tables<CELLS>,
+pub fn run(
     course: Course<'_>,
     begin: Point,
     log: &mut [u8],
+    threads: &mut [usize],
+    made: &mut [usize],
+    types: &mut [u32],
+    known: &mut [bool],
+    cells: &mut [u32],
 )
-    requires ongoing { Ongoing course.forms.now course.script.now course.count begin log.old tables.old }
-    requires cells { CELLS ≤ 2304 }
-    requires enough { course.count + 1029 ≤ CELLS }
-    ensures { (run : List ℕ) → Going course.entry.forms.now course.entry.script.now run course.entry.count begin log.old tables.old
+    requires ongoing { Ongoing course.forms.now course.script.now course.count begin log.old threads.old types.old known.old cells.old }
+    requires tables { Lent threads.old made.old types.old known.old cells.old }
+    requires enough { course.count + 1029 ≤ length cells.old }
+    ensures { (run : List ℕ)
+        → Going course.entry.forms.now course.entry.script.now run course.entry.count begin log.old
+        threads.old types.old known.old cells.old
         → log.new ≡ ran_over run log.old }
 {
     let mut p = begin;
     while p.done < course.count {
-        p = turn(tables, course, p, log);
+        p = turn(course, p, log, threads, made, types, known, cells);
     }
 }
