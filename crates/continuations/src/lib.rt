@@ -2,6 +2,7 @@
 //
 // Four tables are lent: `threads`, the threads in order; `made`, room for what a move makes; `types`, the type of each name
 // given so far; and `cells`, the run names of the binders passed.
+// They come in one by one: a struct of arrays would shut out who has slices, or cells whose number is known only when it runs.
 #![tactic(auto)]
 
 pub mod exchanging;

@@ -2,6 +2,7 @@
 //
 // Five tables are lent: `threads`, the threads in order; `made`, room for what a move makes; `types`, the type of each name
 // given so far; `known`, which names are known to the environment; and `cells`, the run names of the binders passed.
+// They come in one by one, as in `continuations`.
 #![tactic(auto)]
 
 pub mod communication;
