@@ -33,6 +33,13 @@ number_of NoRoom = 35
 unfoldable pub refused_line : ℕ → Record
 refused_line number = record { number = number; label = 0; channel = 0; name = 0; actor = 0; receiver = 0 }
 
+-- A refused move: its number, and the sizes as they are.
+unfoldable pub refusal : ℕ → Sizes → Moved
+refusal number z = record {
+  sizes = z;
+  line = record { number = number; label = 0; channel = 0; name = 0; actor = 0; receiver = 0 };
+}
+
 -- The sizes after a move, and its record. A refused move leaves the sizes as they were.
 unfoldable pub sizes_after : Sizes → Answer Moved MoveRefusal → Sizes
 sizes_after z (Ok moved) = moved.sizes
