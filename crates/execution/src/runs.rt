@@ -61,8 +61,12 @@ fn turn(
             }
         }
         Err(refusal) => {
-            write_record(log, at, refused(refusal));
-            next
+            let kept = refused(refusal.number(), p.sizes);
+            write_record(log, at, kept.line);
+            Point {
+                sizes: kept.sizes,
+                ..next
+            }
         }
     }
 }

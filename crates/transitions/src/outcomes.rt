@@ -8,8 +8,8 @@ use products::Sizes;
 use script::Record;
 
 impl MoveRefusal {
-    // The number of the question that a move fails.
-    fn number(self) -> usize
+    /// The number of the question that a move fails.
+    pub fn number(self) -> usize
         ensures { result ≡ number_of self }
     {
         self as usize

@@ -36,5 +36,6 @@ returns-in-Ok-step c =
 
 pub returns-in-Err : goal.returns-in-Err
 returns-in-Err c =
-    all_turned _ _ _ _ _ _ _ _ _ c.requires.left _ c.move_at-read.ensures _ c.in-Ok.is _ _ _ _ _ (record { sizes = c.args.p.sizes; line = c.refused.result }) _
-    c.requires.enough c.step.ensures (logged_refused _ _ _ _ c.in-Err.is c.refused.ensures) c.write_record-in-Err.ensures
+    all_turned _ _ _ _ _ _ _ _ _ c.requires.left _ c.move_at-read.ensures _ c.in-Ok.is _ _ _ _ _ _ _
+    c.requires.enough c.step.ensures (logged_refused _ _ _ _ _ c.in-Err.is c.number.ensures c.refused-kept.ensures)
+    c.write_record-in-Err.ensures
