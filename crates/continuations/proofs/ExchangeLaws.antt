@@ -28,8 +28,8 @@ use Rattle.products.specs.Makes.{Ready, Makes, crowd}
 use Rattle.products.proofs.PairLaws.{pairs_take, pairs_drop, pairs_length}
 use Rattle.products.proofs.GrowLaws.{shorter, all_kept_lem, crowd_counts}
 use Rattle.continuations.specs.declared.Exchange.{Exchange}
-use Rattle.continuations.specs.Places.{Ranged, remaining_at, room_for}
-use Rattle.continuations.specs.Exchanges.{exchanged, both_replaced, swapped, PutsBoth}
+use Rattle.continuations.specs.Places.{Ranged, remaining_at, room_for, Keeps}
+use Rattle.continuations.specs.Exchanges.{exchanged, both_replaced, swapped, PutsBoth, Exchanges}
 use Rattle.continuations.proofs.RoomLaws.{few_threads, few_names}
 use Rattle.continuations.proofs.PlaceLaws.{pairs_replaced, leb_cong, quiet_take}
 
@@ -136,14 +136,6 @@ module _ (forms : List ℕ) (x : Exchange) (z : Sizes) (turns : ℕ) (threads th
   theirs =
       threads_of d (chain cells x.theirs.names x.theirs.env ++ (x.sent ∷ []))
       (length state.types + length (news (remaining_at forms x.mine))) (remaining_at forms x.theirs)
-
-  -- What is shown: the communication, or nothing of what was held is lost.
-  pub record ExchangesIn : Type 0 where
-    pub fits : is_some r ≡ has_room (exchanged forms x cells state c d)
-    pub taken : (s : Sizes) → r ≡ Some s → Holds forms s (turns + 1) threads' types' known cells' (exchanged forms x cells state c d)
-    pub kept : r ≡ None → (later top : ℕ) → top ≤ z.cells
-        → Holds forms (record { threads = z.threads; names = z.names; cells = top }) later threads types known cells state
-        → Holds forms (record { threads = z.threads; names = z.names; cells = top }) later threads' types' known cells' state
 
   module _ (few : turns + 1029 ≤ length cells) (known_room : length known ≡ 1024) (number_mine : c.number ≡ x.mine.component) (number_theirs : d.number ≡ x.theirs.component)
       (fits_mine : Ranged x.mine z.cells) (fits_theirs : Ranged x.theirs z.cells) (binds : x.theirs.names + x.theirs.nest < 128) (small : x.sent < 65536)
@@ -338,9 +330,7 @@ module _ (forms : List ℕ) (x : Exchange) (z : Sizes) (turns : ℕ) (threads th
               quiet = λ i h. holds.quiet i (omega (arith, new_names));
             }
 
-          holds_kept : r ≡ None → (later top : ℕ) → top ≤ z.cells
-              → Holds forms (record { threads = z.threads; names = z.names; cells = top }) later threads types known cells state
-              → Holds forms (record { threads = z.threads; names = z.names; cells = top }) later threads' types' known cells' state
+          holds_kept : r ≡ None → Keeps forms z threads threads' types types' known cells cells' state
           holds_kept full later top below held = record {
             few = held.few;
             given = held.given;
@@ -351,7 +341,7 @@ module _ (forms : List ℕ) (x : Exchange) (z : Sizes) (turns : ℕ) (threads th
             quiet = held.quiet;
           }
 
-          exchanges : ExchangesIn
+          exchanges : Exchanges forms x z turns threads threads' types types' known cells cells' state c d r
           exchanges = record {
             fits = room_same;
             taken = λ s yes. rw (p.sizes s yes) (holds_fitted s yes);
@@ -364,7 +354,7 @@ module _ (forms : List ℕ) (x : Exchange) (z : Sizes) (turns : ℕ) (threads th
         → (cell ≤ 2300 → Ready place begun made₁ types₁ widened
         → Makes forms place (process_in place.nest forms place.at) begun made₁ made' types₁ types' widened cells' second)
         → (first.threads ≤ second.threads → PutsBoth z x (record { mine = first.threads; sizes = second }) made' threads threads' r)
-        → ExchangesIn
+        → Exchanges forms x z turns threads threads' types types' known cells cells' state c d r
     communicates walk_mine walk_theirs put =
         let m = walk_mine ready_mine in
         let n = walk_theirs (cell_left m) (ready_theirs m) in

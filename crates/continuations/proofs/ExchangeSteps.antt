@@ -18,24 +18,23 @@ use Rattle.products.specs.Makes.{Ready, Makes}
 use Rattle.continuations.specs.declared.BothMade.{BothMade}
 use Rattle.continuations.specs.declared.Exchange.{Exchange}
 use Rattle.continuations.specs.declared.Part.{Part}
-use Rattle.continuations.specs.declared.Tables.{Tables}
-use Rattle.continuations.specs.Places.{room_for, under_cell, with_cell}
+use Rattle.continuations.specs.Places.{Tables, room_for, under_cell, with_cell}
 use Rattle.continuations.specs.Exchanges.{Walks, MakesBoth, part_of, both_replaced, swapped, PutsBoth, Exchanging}
 use Rattle.continuations.proofs.ExchangeLaws.{communicates}
 use Rattle.continuations.proofs.WidenSteps.{under_more, cells_more}
 
 -- What both walks make, one after the other.
-pub both_made : {n : ℕ} (forms : List ℕ) (x : Exchange) (z : Sizes) (m m' : Tables n) (inner : Place) (begun first second : Sizes)
-    (made₁ types₁ cells₁ cells₂ : List ℕ)
-    → length made₁ ≡ length m.made → length types₁ ≡ length m.types → length cells₁ ≡ length m.cells
-    → (Ready x.mine z m.made m.types m.cells
-    → Makes forms x.mine (process_in x.mine.nest forms x.mine.at) z m.made made₁ m.types types₁ m.cells cells₁ first)
+pub both_made : (forms : List ℕ) (x : Exchange) (z : Sizes) (made made₁ made' types types₁ types' cells cells₁ cells₂ cells' : List ℕ)
+    (inner : Place) (begun first second : Sizes)
+    → length made₁ ≡ length made → length types₁ ≡ length types → length cells₁ ≡ length cells
+    → (Ready x.mine z made types cells
+    → Makes forms x.mine (process_in x.mine.nest forms x.mine.at) z made made₁ types types₁ cells cells₁ first)
     → inner ≡ under_cell x.theirs first.cells → begun ≡ with_cell first → cells₂ ≡ bound cells₁ first.cells x.theirs.env x.sent
     → (Ready inner begun made₁ types₁ cells₂
-    → Makes forms inner (process_in inner.nest forms inner.at) begun made₁ m'.made types₁ m'.types cells₂ m'.cells second)
-    → MakesBoth forms x z m m' (record { mine = first.threads; sizes = second })
+    → Makes forms inner (process_in inner.nest forms inner.at) begun made₁ made' types₁ types' cells₂ cells' second)
+    → MakesBoth forms x z made made' types types' cells cells' (record { mine = first.threads; sizes = second })
 unfolding Walks
-both_made forms x z m m' inner begun first second made₁ types₁ cells₁ cells₂ a b c w e f g v = record {
+both_made forms x z made made₁ made' types types₁ types' cells cells₁ cells₂ cells' inner begun first second a b c w e f g v = record {
   first = first;
   second = second;
   made₁ = made₁;
@@ -121,27 +120,19 @@ room_true kept z q e h = sym e ∙ not-false q h
 pub ruleset put_both_steps = (rules, put_met, put_refused, put_done)
 
 -- What both continuations make, put in its places, is the communication.
-pub exchange_step : {n : ℕ} (forms : List ℕ) (x : Exchange) (z z₀ : Sizes) (m m₁ : Tables n) (threads' : List ℕ) (b : BothMade) (r : Option Sizes)
-    → x.sender < z.threads → x.receiver < z.threads
-    → length m.threads ≡ 128 → length m.made ≡ 128 → length m.types ≡ 1024 → length m.known ≡ 1024 → length m.cells ≤ 2304
+pub exchange_step : (forms : List ℕ) (x : Exchange) (z z₀ : Sizes) (threads threads' made made' types types' cells cells' : List ℕ) (b : BothMade) (r : Option Sizes)
+    → x.sender < z.threads → x.receiver < z.threads → Tables z threads made types cells
     → z₀ ≡ record { threads = 0; names = z.names; cells = z.cells }
-    → m₁.threads ≡ m.threads → m₁.known ≡ m.known → MakesBoth forms x z₀ m m₁ b
-    → ((x.sender ≡ x.receiver → ⊥) → b.mine ≤ b.sizes.threads → PutsBoth z x b m₁.made m₁.threads threads' r)
-    → Exchanging forms x z m (record { threads = threads'; made = m₁.made; types = m₁.types; known = m₁.known; cells = m₁.cells }) r
+    → MakesBoth forms x z₀ made made' types types' cells cells' b
+    → ((x.sender ≡ x.receiver → ⊥) → b.mine ≤ b.sizes.threads → PutsBoth z x b made' threads threads' r)
+    → Exchanging forms x z threads types cells threads' types' cells' r
 unfolding Walks
-exchange_step forms x z z₀ m m₁ threads' b r si ri tr mr yr kr cr e stay known both p state c d turns few cn dn ft fu binds small apart holds =
-    let mk : MakesBoth forms x (record { threads = 0; names = z.names; cells = z.cells }) m m₁ b = rw e at both in
+exchange_step forms x z z₀ threads threads' made made' types types' cells cells' b r si ri tables e both p state c d turns known few kr cn dn ft fu binds small apart holds =
+    let mk : MakesBoth forms x (record { threads = 0; names = z.names; cells = z.cells }) made made' types types' cells cells' b = rw e at both in
     let walk = mk.theirs in
-    let put = rw (mk.result, stay) at p in
-    let xs =
-    communicates forms x z turns m.threads threads' m.made mk.made₁ m₁.made m.types mk.types₁ m₁.types m.cells mk.cells₁ m₁.cells m.known state c d
-    mk.first mk.second r
-    few kr cn dn ft fu binds small apart si ri tr mr yr cr mk.same_made mk.same_types mk.same_cells holds
+    let put = rw mk.result at p in
+    communicates forms x z turns threads threads' made mk.made₁ made' types mk.types₁ types' cells mk.cells₁ cells' known state c d mk.first mk.second r
+    few kr cn dn ft fu binds small apart si ri tables.thread_room tables.made_room tables.type_room tables.cell_room mk.same_made mk.same_types mk.same_cells holds
     mk.mine
     (λ left. rw (← under_more x.theirs mk.first.cells (omega arith), ← cells_more mk.first (omega (arith, left))) at walk)
-    (put apart) in
-    record {
-      fits = xs.fits;
-      taken = λ s yes. rw known (xs.taken s yes);
-      kept = λ full. rw known (xs.kept full);
-    }
+    (put apart)

@@ -25,7 +25,7 @@ use Rattle.products.specs.Held.{Runs, Holds}
 use Rattle.products.specs.Makes.{Ready, Makes, crowd}
 use Rattle.products.proofs.PairLaws.{pairs_append, pairs_take, pairs_drop, pairs_length}
 use Rattle.products.proofs.GrowLaws.{shorter, all_kept_lem, crowd_counts}
-use Rattle.continuations.specs.Places.{Ranged, remaining_at, changed, put, room_for, Puts}
+use Rattle.continuations.specs.Places.{Ranged, remaining_at, changed, put, room_for, Puts, Keeps, Replaces}
 use Rattle.continuations.proofs.RoomLaws.{few_threads, few_names}
 
 pub pairs_replaced : {A B : Type 0} {R : A → B → Type 0} (at from : ℕ) {xs ys : List A} {bs ds : List B} → Pairs R xs bs → Pairs R ys ds
@@ -105,7 +105,7 @@ module _ (forms : List ℕ) (process : Place) (at from : ℕ) (z : Sizes) (turns
       all_names : length (state.types ++ news (remaining_at forms process)) ≡ z.names + length (news (remaining_at forms process))
       all_names = omega (arith, length-append state.types (news (remaining_at forms process)), named)
 
-      pub room_same : is_some r ≡ has_room (put forms process at from cells state c)
+      room_same : is_some r ≡ has_room (put forms process at from cells state c)
       unfolding has_room put changed remaining_at room_for
       room_same =
           p.fits ∙ ap₂ (λ a b. a && b)
@@ -128,7 +128,7 @@ module _ (forms : List ℕ) (process : Place) (at from : ℕ) (z : Sizes) (turns
         unfolding remaining_at
         new_names = omega (arith, m.grows.names, few_given)
 
-        pub holds_fitted : Holds forms s turns threads' types' known cells' (put forms process at from cells state c)
+        holds_fitted : Holds forms s turns threads' types' known cells' (put forms process at from cells state c)
         unfolding put changed remaining_at
         holds_fitted = rw (p.sizes s yes) (record {
           few = few_made;
@@ -146,9 +146,7 @@ module _ (forms : List ℕ) (process : Place) (at from : ℕ) (z : Sizes) (turns
           quiet = λ i h. holds.quiet i (omega (arith, new_names));
         })
 
-      pub holds_kept : r ≡ None → (later top : ℕ) → top ≤ z.cells
-          → Holds forms (record { threads = z.threads; names = z.names; cells = top }) later threads types known cells state
-          → Holds forms (record { threads = z.threads; names = z.names; cells = top }) later threads' types' known cells' state
+      holds_kept : r ≡ None → Keeps forms z threads threads' types types' known cells cells' state
       holds_kept full later top below held = record {
         few = held.few;
         given = held.given;
@@ -159,3 +157,6 @@ module _ (forms : List ℕ) (process : Place) (at from : ℕ) (z : Sizes) (turns
         known = held.known;
         quiet = held.quiet;
       }
+
+      pub replaces : Replaces forms process at from z turns threads threads' types types' known cells cells' state c r
+      replaces = record { fits = room_same; taken = holds_fitted; kept = holds_kept }

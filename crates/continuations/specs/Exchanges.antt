@@ -1,5 +1,5 @@
 -- A communication's products, each in its own thread's place.
-use Rattle.std.specs.Prelude.{Option, Some, None, is_some, ℕ, ◌+◌, ◌-◌, ◌<◌, ◌≤◌, ◌≡◌, List, [], ◌∷◌, ◌++◌, cond, length, take, drop, set, ltb}
+use Rattle.std.specs.Prelude.{Option, Some, None, is_some, ℕ, ◌+◌, ◌-◌, ◌<◌, ◌≤◌, ◌≡◌, List, [], ◌∷◌, ◌++◌, Bool, cond, length, take, drop, set, ltb}
 use Rattle.decoding.specs.Tables.{process_in}
 use Rattle.inference.specs.Acts.{Component}
 use Rattle.running.specs.State.{State}
@@ -9,12 +9,12 @@ use Rattle.memory.specs.Threads.{replaced}
 use Rattle.memory.specs.Chains.{bound, chain}
 use Rattle.memory.specs.declared.Thread.{Thread as Place}
 use Rattle.products.specs.declared.Sizes.{Sizes}
-use Rattle.continuations.specs.declared.Tables.{Tables}
+use Rattle.products.specs.Held.{Holds}
 use Rattle.products.specs.Makes.{Ready, Makes}
 use Rattle.continuations.specs.declared.BothMade.{BothMade}
 use Rattle.continuations.specs.declared.Exchange.{Exchange}
 use Rattle.continuations.specs.declared.Part.{Part}
-use Rattle.continuations.specs.Places.{Ranged, remaining_at, room_for, Holding, Keeps, under_cell, with_cell}
+use Rattle.continuations.specs.Places.{Ranged, remaining_at, room_for, Keeps, under_cell, with_cell}
 
 -- The state after a communication: the sender's new names first.
 unfoldable pub exchanged : List ℕ → Exchange → List ℕ → State → Component → Component → State
@@ -26,18 +26,20 @@ exchanged forms x cells state c d =
     (length state.types + length (news (remaining_at forms x.mine))) (remaining_at forms x.theirs)))
     (news (remaining_at forms x.mine) ++ news (remaining_at forms x.theirs))
 
-pub record Exchanges {n : ℕ} (forms : List ℕ) (x : Exchange) (z : Sizes) (turns : ℕ) (m m' : Tables n) (state : State) (c d : Component)
-    (r : Option Sizes) : Type 0 where
-  pub fits : is_some r ≡ has_room (exchanged forms x m.cells state c d)
-  pub taken : (s : Sizes) → r ≡ Some s → Holding forms s (turns + 1) m' (exchanged forms x m.cells state c d)
-  pub kept : r ≡ None → Keeps forms z m m' state
+pub record Exchanges (forms : List ℕ) (x : Exchange) (z : Sizes) (turns : ℕ) (threads threads' types types' : List ℕ) (known : List Bool)
+    (cells cells' : List ℕ) (state : State) (c d : Component) (r : Option Sizes) : Type 0 where
+  pub fits : is_some r ≡ has_room (exchanged forms x cells state c d)
+  pub taken : (s : Sizes) → r ≡ Some s → Holds forms s (turns + 1) threads' types' known cells' (exchanged forms x cells state c d)
+  pub kept : r ≡ None → Keeps forms z threads threads' types types' known cells cells' state
 
--- The same for every state that the tables hold before, with cells for one turn more.
-abbrev pub Exchanging : {n : ℕ} → List ℕ → Exchange → Sizes → Tables n → Tables n → Option Sizes → Type 0
-Exchanging forms x z m m' r =
-    (state : State) (c d : Component) (turns : ℕ) → turns + 1029 ≤ length m.cells → c.number ≡ x.mine.component
-    → d.number ≡ x.theirs.component → Ranged x.mine z.cells → Ranged x.theirs z.cells → x.theirs.names + x.theirs.nest < 128 → x.sent < 65536
-    → (x.sender ≡ x.receiver → ⊥) → Holding forms z turns m state → Exchanges forms x z turns m m' state c d r
+-- The same for every state that memory holds before, with cells for one turn more, whichever names are known.
+abbrev pub Exchanging : List ℕ → Exchange → Sizes → List ℕ → List ℕ → List ℕ → List ℕ → List ℕ → List ℕ → Option Sizes → Type 0
+Exchanging forms x z threads types cells threads' types' cells' r =
+    (state : State) (c d : Component) (turns : ℕ) (known : List Bool) → turns + 1029 ≤ length cells → length known ≡ 1024
+    → c.number ≡ x.mine.component → d.number ≡ x.theirs.component → Ranged x.mine z.cells → Ranged x.theirs z.cells
+    → x.theirs.names + x.theirs.nest < 128 → x.sent < 65536 → (x.sender ≡ x.receiver → ⊥)
+    → Holds forms z turns threads types known cells state
+    → Exchanges forms x z turns threads threads' types types' known cells cells' state c d r
 
 -- What one walk makes of the process at a place.
 unfoldable pub Walks : List ℕ → Place → Sizes → List ℕ → List ℕ → List ℕ → List ℕ → List ℕ → List ℕ → Sizes → Type 0
@@ -45,18 +47,18 @@ Walks forms t z made made' types types' cells cells' r =
     Ready t z made types cells → Makes forms t (process_in t.nest forms t.at) z made made' types types' cells cells' r
 
 -- What both continuations make: the sender's, and then, from the tables that this leaves, the receiver's under the name disclosed.
-pub record MakesBoth {n : ℕ} (forms : List ℕ) (x : Exchange) (z : Sizes) (m m' : Tables n) (r : BothMade) : Type 0 where
+pub record MakesBoth (forms : List ℕ) (x : Exchange) (z : Sizes) (made made' types types' cells cells' : List ℕ) (r : BothMade) : Type 0 where
   pub first : Sizes
   pub second : Sizes
   pub made₁ : List ℕ
   pub types₁ : List ℕ
   pub cells₁ : List ℕ
-  pub same_made : length made₁ ≡ length m.made
-  pub same_types : length types₁ ≡ length m.types
-  pub same_cells : length cells₁ ≡ length m.cells
-  pub mine : Walks forms x.mine z m.made made₁ m.types types₁ m.cells cells₁ first
-  pub theirs : Walks forms (under_cell x.theirs first.cells) (with_cell first) made₁ m'.made types₁ m'.types
-      (bound cells₁ first.cells x.theirs.env x.sent) m'.cells second
+  pub same_made : length made₁ ≡ length made
+  pub same_types : length types₁ ≡ length types
+  pub same_cells : length cells₁ ≡ length cells
+  pub mine : Walks forms x.mine z made made₁ types types₁ cells cells₁ first
+  pub theirs : Walks forms (under_cell x.theirs first.cells) (with_cell first) made₁ made' types₁ types'
+      (bound cells₁ first.cells x.theirs.env x.sent) cells' second
   pub result : r ≡ record { mine = first.threads; sizes = second }
 
 -- The threads of a part.

@@ -11,11 +11,14 @@ use Rattle.memory.specs.Chains.{chain}
 use Rattle.memory.specs.declared.Thread.{Thread as Place}
 use Rattle.products.specs.declared.Sizes.{Sizes}
 use Rattle.products.specs.Held.{Holds}
-use Rattle.continuations.specs.declared.Tables.{Tables}
 
--- A state in the tables of a run.
-abbrev pub Holding : {n : ℕ} → List ℕ → Sizes → ℕ → Tables n → State → Type 0
-Holding forms z turns m state = Holds forms z turns m.threads m.types m.known m.cells state
+-- The tables lent to a move have their lengths, and its threads are few.
+pub record Tables (z : Sizes) (threads made types cells : List ℕ) : Type 0 where
+  pub few : z.threads ≤ 64
+  pub thread_room : length threads ≡ 128
+  pub made_room : length made ≡ 128
+  pub type_room : length types ≡ 1024
+  pub cell_room : length cells ≤ 2304
 
 -- A process to be taken apart: its component, names, nesting and place in their ranges, its run names among the cells in use.
 pub record Ranged (t : Place) (top : ℕ) : Type 0 where
@@ -58,10 +61,11 @@ pub record Puts (z : Sizes) (at from : ℕ) (after : Sizes) (made threads thread
   pub kept : r ≡ None → threads' ≡ threads
 
 -- What the tables held before, with no more cells in use than now, they hold afterwards.
-abbrev pub Keeps : {n : ℕ} → List ℕ → Sizes → Tables n → Tables n → State → Type 0
-Keeps forms z m m' state =
-    (turns top : ℕ) → top ≤ z.cells → Holding forms (record { threads = z.threads; names = z.names; cells = top }) turns m state
-    → Holding forms (record { threads = z.threads; names = z.names; cells = top }) turns m' state
+abbrev pub Keeps : List ℕ → Sizes → List ℕ → List ℕ → List ℕ → List ℕ → List Bool → List ℕ → List ℕ → State → Type 0
+Keeps forms z threads threads' types types' known cells cells' state =
+    (turns top : ℕ) → top ≤ z.cells
+    → Holds forms (record { threads = z.threads; names = z.names; cells = top }) turns threads types known cells state
+    → Holds forms (record { threads = z.threads; names = z.names; cells = top }) turns threads' types' known cells' state
 
 -- The state with a process's products in place of the threads from `at` up to `from`; `cells` are those before.
 unfoldable pub put : List ℕ → Place → ℕ → ℕ → List ℕ → State → Component → State
@@ -69,14 +73,15 @@ put forms process at from cells state c =
     changed state (replaced state.threads at from
     (threads_of c (chain cells process.names process.env) (length state.types) (remaining_at forms process))) (news (remaining_at forms process))
 
-pub record Replaces {n : ℕ} (forms : List ℕ) (process : Place) (at from : ℕ) (z : Sizes) (turns : ℕ) (m m' : Tables n) (state : State)
-    (c : Component) (r : Option Sizes) : Type 0 where
-  pub fits : is_some r ≡ has_room (put forms process at from m.cells state c)
-  pub taken : (s : Sizes) → r ≡ Some s → Holding forms s turns m' (put forms process at from m.cells state c)
-  pub kept : r ≡ None → Keeps forms z m m' state
+pub record Replaces (forms : List ℕ) (process : Place) (at from : ℕ) (z : Sizes) (turns : ℕ) (threads threads' types types' : List ℕ)
+    (known : List Bool) (cells cells' : List ℕ) (state : State) (c : Component) (r : Option Sizes) : Type 0 where
+  pub fits : is_some r ≡ has_room (put forms process at from cells state c)
+  pub taken : (s : Sizes) → r ≡ Some s → Holds forms s turns threads' types' known cells' (put forms process at from cells state c)
+  pub kept : r ≡ None → Keeps forms z threads threads' types types' known cells cells' state
 
--- The same for every state that the tables hold before, with cells for its turns.
-abbrev pub Replacing : {n : ℕ} → List ℕ → Place → ℕ → ℕ → Sizes → Tables n → Tables n → Option Sizes → Type 0
-Replacing forms process at from z m m' r =
-    (state : State) (c : Component) (turns : ℕ) → turns + 1028 ≤ length m.cells → c.number ≡ process.component → Ranged process z.cells
-    → Holding forms z turns m state → Replaces forms process at from z turns m m' state c r
+-- The same for every state that memory holds before, with cells for its turns, whichever names are known.
+abbrev pub Replacing : List ℕ → Place → ℕ → ℕ → Sizes → List ℕ → List ℕ → List ℕ → List ℕ → List ℕ → List ℕ → Option Sizes → Type 0
+Replacing forms process at from z threads types cells threads' types' cells' r =
+    (state : State) (c : Component) (turns : ℕ) (known : List Bool) → turns + 1028 ≤ length cells → length known ≡ 1024 → c.number ≡ process.component
+    → Ranged process z.cells → Holds forms z turns threads types known cells state
+    → Replaces forms process at from z turns threads threads' types types' known cells cells' state c r

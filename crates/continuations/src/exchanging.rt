@@ -1,15 +1,39 @@
 // A communication's products, each in its own thread's place, where there is room; the sender's new names come first.
 ghost use Rattle.std.specs.Prelude.{◌≡◌, true, ◌+◌, ◌-◌, ◌<◌, ◌≤◌, length, take};
-ghost use Rattle.continuations.specs.Places.{room_for};
+ghost use Rattle.continuations.specs.Places.{Tables, room_for};
 ghost use Rattle.continuations.specs.Exchanges.{part_of, both_replaced, swapped, MakesBoth, PutsBoth, Exchanging};
 
 use crate::placing::{has_room, none_made};
 use crate::widening::{under_cell, with_cell};
-use crate::{BothMade, Exchange, Part, Tables};
+use crate::{BothMade, Exchange, Part};
 use memory::chains::bind;
 use memory::threads::splice;
 use products::Sizes;
 use products::processes::make_process;
+
+// What both continuations make, the sender's first, and then the receiver's under the name disclosed, which takes the next cell.
+#[tactic(auto, using(crate::proofs::ExchangeSteps::both_steps))]
+fn make_both(
+    forms: &[usize],
+    x: Exchange,
+    sizes: Sizes,
+    made: &mut [usize],
+    types: &mut [u32],
+    cells: &mut [u32],
+) -> BothMade
+    ensures { MakesBoth forms.now x sizes made.old made.new
+        types.old types.new cells.old cells.new result }
+{
+    let first = make_process(forms, x.mine, sizes, made, types, cells);
+    bind(cells, first.cells, x.theirs.env, x.sent);
+    let theirs = under_cell(x.theirs, first.cells);
+    let begun = with_cell(first);
+    let all = make_process(forms, theirs, begun, made, types, cells);
+    BothMade {
+        mine: first.threads,
+        sizes: all,
+    }
+}
 
 // Of a list of `len` threads, replaces two by what was made for each; `a` is for the earlier one. The later one goes first, so
 // that the index of the earlier one stays valid.
@@ -85,49 +109,22 @@ fn put_both(
     })
 }
 
-impl<const CELLS: usize> Tables<CELLS> {
-    // What both continuations make, the sender's first, and then the receiver's under the name disclosed, which takes the next cell.
-    #[tactic(auto, using(crate::proofs::ExchangeSteps::both_steps))]
-    fn make_both(&mut self, forms: &[usize], x: Exchange, sizes: Sizes) -> BothMade
-        ensures threads { self.new.threads ≡ self.old.threads }
-        ensures known { self.new.known ≡ self.old.known }
-        ensures made { MakesBoth forms.now x sizes self.old self.new result }
-    {
-        let first = make_process(
-            forms,
-            x.mine,
-            sizes,
-            &mut self.made,
-            &mut self.types,
-            &mut self.cells,
-        );
-        bind(&mut self.cells, first.cells, x.theirs.env, x.sent);
-        let theirs = under_cell(x.theirs, first.cells);
-        let begun = with_cell(first);
-        let all = make_process(
-            forms,
-            theirs,
-            begun,
-            &mut self.made,
-            &mut self.types,
-            &mut self.cells,
-        );
-        BothMade {
-            mine: first.threads,
-            sizes: all,
-        }
-    }
-
-    /// Replaces a sender and a receiver by what their continuations make; the sizes afterwards, if there is room (35).
-    pub fn exchange(&mut self, forms: &[usize], x: Exchange, sizes: Sizes) -> Option<Sizes>
-        requires there { (x.sender < sizes.threads) × (x.receiver < sizes.threads) }
-        requires few { sizes.threads ≤ 64 }
-        requires cells { CELLS ≤ 2304 }
-        ensures known { self.new.known ≡ self.old.known }
-        ensures exchanged { Exchanging forms.now x sizes self.old self.new result }
-    {
-        let before = none_made(sizes);
-        let products = self.make_both(forms, x, before);
-        put_both(&mut self.threads, sizes, x, &self.made, products)
-    }
+/// Replaces a sender and a receiver by what their continuations make; the sizes afterwards, if there is room (35).
+pub fn exchange(
+    forms: &[usize],
+    x: Exchange,
+    sizes: Sizes,
+    threads: &mut [usize],
+    made: &mut [usize],
+    types: &mut [u32],
+    cells: &mut [u32],
+) -> Option<Sizes>
+    requires there { (x.sender < sizes.threads) × (x.receiver < sizes.threads) }
+    requires tables { Tables sizes threads.old made.old types.old cells.old }
+    ensures { Exchanging forms.now x sizes threads.old types.old cells.old
+        threads.new types.new cells.new result }
+{
+    let before = none_made(sizes);
+    let products = make_both(forms, x, before, made, types, cells);
+    put_both(threads, sizes, x, made, products)
 }

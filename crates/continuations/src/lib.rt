@@ -1,4 +1,8 @@
 // What follows an act of a run: a thread's prefix, its continuation, and what that makes, put in the thread's place.
+//
+// Four tables are lent: `threads`, the threads in order; `made`, room for what a move makes; `types`, the type of each name
+// given so far; and `cells`, the run names of the binders passed.
+// They come in one by one: a struct of arrays would shut out who has slices, or cells whose number is known only when it runs.
 #![tactic(auto)]
 
 pub mod exchanging;
@@ -8,18 +12,6 @@ pub mod widening;
 
 use memory::Thread;
 use products::Sizes;
-
-/// The tables of a run: `threads`, the threads in order; `made`, room for what a move makes; `types`, the type of each name given so
-/// far; `known`, which names are known to the environment; and `cells`, the run names of the binders passed. How many of each are in
-/// use stands beside them, in `Sizes`, which a register holds and not memory.
-#[derive(Drop)]
-pub struct Tables<const CELLS: usize> {
-    pub threads: [usize; 128],
-    pub made: [usize; 128],
-    pub types: [u32; 1024],
-    pub known: [bool; 1024],
-    pub cells: [u32; CELLS],
-}
 
 /// A send or receive in front of a thread: the run name of its channel, what it sends or the type that it binds, and the place of
 /// its continuation.

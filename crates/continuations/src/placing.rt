@@ -1,8 +1,7 @@
 // Products in their thread's place, where there is room (document 01: "Products stand in their thread's place"; 35).
 ghost use Rattle.std.specs.Prelude.{◌≡◌, ◌≤◌, length};
-ghost use Rattle.continuations.specs.Places.{room_for, Replacing};
+ghost use Rattle.continuations.specs.Places.{Tables, room_for, Replacing};
 
-use crate::Tables;
 use memory::Thread;
 use memory::threads::splice;
 use products::Sizes;
@@ -27,48 +26,34 @@ pub fn none_made(sizes: Sizes) -> Sizes
     }
 }
 
-impl<const CELLS: usize> Tables<CELLS> {
-    /// Replaces the threads from `at` up to `from` by what a process makes; the sizes afterwards, if there is room (35).
-    pub fn replace(
-        &mut self,
-        forms: &[usize],
-        process: Thread,
-        at: usize,
-        from: usize,
-        sizes: Sizes,
-    ) -> Option<Sizes>
-        requires ordered { (at ≤ from) × (from ≤ sizes.threads) }
-        requires few { sizes.threads ≤ 64 }
-        requires cells { CELLS ≤ 2304 }
-        ensures known { self.new.known ≡ self.old.known }
-        ensures replaced { Replacing forms.now process at from sizes self.old self.new result }
-    {
-        let before = none_made(sizes);
-        let after = make(
-            forms,
-            process,
-            before,
-            &mut self.made,
-            &mut self.types,
-            &mut self.cells,
-        );
-        let kept = at + (sizes.threads - from);
-        if !has_room(kept, after) {
-            return None;
-        }
-        let count = after.threads;
-        splice(
-            &mut self.threads,
-            sizes.threads,
-            at,
-            from,
-            &self.made,
-            0,
-            count,
-        );
-        Some(Sizes {
-            threads: kept + count,
-            ..after
-        })
+/// Replaces the threads from `at` up to `from` by what a process makes; the sizes afterwards, if there is room (35).
+pub fn replace(
+    forms: &[usize],
+    process: Thread,
+    at: usize,
+    from: usize,
+    sizes: Sizes,
+    threads: &mut [usize],
+    made: &mut [usize],
+    types: &mut [u32],
+    cells: &mut [u32],
+) -> Option<Sizes>
+    requires ordered { (at ≤ from) × (from ≤ sizes.threads) }
+    requires tables { Tables sizes threads.old made.old types.old cells.old }
+    ensures { Replacing forms.now process at from sizes
+        threads.old types.old cells.old
+        threads.new types.new cells.new result }
+{
+    let before = none_made(sizes);
+    let after = make(forms, process, before, made, types, cells);
+    let kept = at + (sizes.threads - from);
+    if !has_room(kept, after) {
+        return None;
     }
+    let count = after.threads;
+    splice(threads, sizes.threads, at, from, made, 0, count);
+    Some(Sizes {
+        threads: kept + count,
+        ..after
+    })
 }

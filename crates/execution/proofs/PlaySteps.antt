@@ -28,12 +28,11 @@ use Rattle.running.specs.Play.{opened_from, opened, logged, outcome_of, played}
 use Rattle.script.specs.Told.{moves_in}
 use Rattle.script.proofs.ScriptLaws.{script_moves}
 use Rattle.script.proofs.CountSteps.{Counted, script_counted, script_refused}
-use Rattle.continuations.specs.declared.Tables.{Tables}
-use Rattle.continuations.specs.Places.{Holding}
+use Rattle.products.specs.Held.{Holds}
 use Rattle.products.specs.Starts.{Blank, Starts}
 use Rattle.products.specs.declared.Sizes.{Sizes}
 use Rattle.execution.specs.Told.{Played}
-use Rattle.execution.specs.Begins.{Reads, begun, start_of, listed, moves_of, ran_over, scripted, played_script, played_from, Comes, Standing, Enough}
+use Rattle.execution.specs.Begins.{Reads, begun, start_of, listed, moves_of, ran_over, scripted, played_script, played_from, Comes, Standing, Enough, Lent}
 use Rattle.execution.specs.Runs.{Going, Ongoing}
 use Rattle.execution.specs.declared.Point.{Point}
 
@@ -71,10 +70,11 @@ module _ (script log : List ℕ) (r : Answer ℕ Question) (h : r ≡ moves_in (
         let t : leb (8 * length c.moves) (length log) ≡ true = le-leb (8 * length c.moves) (length log) (omega (arith, c.count)) in
         record { answer = rw (c.is, t) (ap passed (sym c.count)); lent = rw (c.is, t) (rw (moves_are script c.is) at w) }
 
--- The same for every state that the tables hold.
-module _ {m : ℕ} (forms script log : List ℕ) (tables : Tables m) (z : Sizes) (r : Answer ℕ Question) (h : r ≡ moves_in (read_script script)) where
+-- The same for every state that memory holds.
+module _ (forms script log threads types : List ℕ) (known : List Bool) (cells : List ℕ) (z : Sizes) (r : Answer ℕ Question)
+    (h : r ≡ moves_in (read_script script)) where
   abbrev PlayedSo : List ℕ → Answer ℕ Question → Type 0
-  PlayedSo log' a = (state : State) → Holding forms z 1 tables state → Comes (played_script state script log) log' a
+  PlayedSo log' a = (state : State) → Holds forms z 1 threads types known cells state → Comes (played_script state script log) log' a
 
   abbrev first_point : Point
   first_point = record { at = 0; done = 0; sizes = z }
@@ -91,8 +91,8 @@ module _ {m : ℕ} (forms script log : List ℕ) (tables : Tables m) (z : Sizes)
     log_short k state holds = short_so script log r h n read state k
 
     module _ (k : n ≤ length log / 8) where
-      begins_so : (state : State) → Holding forms z 1 tables state
-          → Going forms script (run_log state (moves_of script)) n first_point log tables
+      begins_so : (state : State) → Holds forms z 1 threads types known cells state
+          → Going forms script (run_log state (moves_of script)) n first_point log threads types known cells
       begins_so state holds =
           let c = counted script log r h n read in
           let same = moves_are script c.is in
@@ -108,11 +108,11 @@ module _ {m : ℕ} (forms script log : List ℕ) (tables : Tables m) (z : Sizes)
             room = omega arith;
           }
 
-      pub run_begins : Standing forms z tables → Ongoing forms script n first_point log tables
+      pub run_begins : Standing forms z threads types known cells → Ongoing forms script n first_point log threads types known cells
       run_begins held = record { run = run_log held.state (moves_of script); going = begins_so held.state held.holds }
 
       pub log_written : (log' : List ℕ)
-          → ((run : List ℕ) → Going forms script run n first_point log tables → log' ≡ ran_over run log)
+          → ((run : List ℕ) → Going forms script run n first_point log threads types known cells → log' ≡ ran_over run log)
           → PlayedSo log' (Ok n)
       log_written log' w state holds =
           written_so script log r h n read state log' k (w (run_log state (moves_of script)) (begins_so state holds))
@@ -126,10 +126,9 @@ counted_enough r n script cells few is enough = let k : (n ≤ 1024) × (n ≤ l
 pub ruleset script_steps = (rules, script_fails, log_short, log_written, run_begins, counted_enough)
 
 -- Question 20.
-module _ {m : ℕ} (s script log : List ℕ) (reads : Reads s) (forms : List ℕ) (tables : Tables m) (z : Sizes)
-    (starts : (sheet : Sheet) (end : ℕ) → length s ≤ 4096 → read_sheet s ≡ got sheet end
-    → Starts forms sheet tables.threads tables.types tables.known tables.cells z) where
-  here : Starts forms reads.tree tables.threads tables.types tables.known tables.cells z
+module _ (s script log : List ℕ) (reads : Reads s) (forms threads types : List ℕ) (known : List Bool) (cells : List ℕ) (z : Sizes)
+    (starts : (sheet : Sheet) (end : ℕ) → length s ≤ 4096 → read_sheet s ≡ got sheet end → Starts forms sheet threads types known cells z) where
+  here : Starts forms reads.tree threads types known cells z
   here = starts reads.tree reads.end reads.short reads.reads
 
   begins : start_of s ≡ start reads.tree
@@ -154,14 +153,14 @@ module _ {m : ℕ} (s script log : List ℕ) (reads : Reads s) (forms : List ℕ
       let t = lt-leb (length (start reads.tree).types) 1024 (omega (arith, here.named)) in
       no_room (rw begins (both (leb (length (start reads.tree).threads) 64) (leb (length (start reads.tree).types) 1024) t))
 
-  start_holds : z.threads ≤ 64 → z.names ≤ 1024 → Holding forms z 1 tables (start_of s)
+  start_holds : z.threads ≤ 64 → z.names ≤ 1024 → Holds forms z 1 threads types known cells (start_of s)
   start_holds h k = rw begins (here.holds h k)
 
-  pub start_stands : z.threads ≤ 64 → z.names ≤ 1024 → Standing forms z tables
+  pub start_stands : z.threads ≤ 64 → z.names ≤ 1024 → Standing forms z threads types known cells
   start_stands h k = record { state = start_of s; holds = start_holds h k }
 
   pub plays_on : z.threads ≤ 64 → z.names ≤ 1024 → (log' : List ℕ) (r : Answer ℕ Question)
-      → ((state : State) → Holding forms z 1 tables state → Comes (played_script state script log) log' r)
+      → ((state : State) → Holds forms z 1 threads types known cells state → Comes (played_script state script log) log' r)
       → Comes (played_from (start_of s) script log) log' r
   unfolding played_from played_script ask has_room
   plays_on h k log' r c =
@@ -173,7 +172,21 @@ module _ {m : ℕ} (s script log : List ℕ) (reads : Reads s) (forms : List ℕ
       ) in
       rw t (c (start_of s) (start_holds h k))
 
-pub ruleset start_steps = (rules, crowded, overnamed, start_stands, plays_on)
+pub tables_from : (s forms threads made types : List ℕ) (known : List Bool) (cells threads' made' types' : List ℕ) (known' : List Bool) (cells' : List ℕ)
+    → Blank s forms threads types known cells → length made ≡ 128 → length threads' ≡ length threads → length made' ≡ length made
+    → length types' ≡ length types → length known' ≡ length known → length cells' ≡ length cells → Lent threads' made' types' known' cells'
+tables_from s forms threads made types known cells threads' made' types' known' cells' b m th ma ty k ce = record {
+  thread_room = th ∙ b.thread_room;
+  made_room = ma ∙ m;
+  type_room = ty ∙ b.type_room;
+  cell_room = omega (arith, ce, b.cell_few);
+  known_room = k ∙ b.known_room;
+}
+
+pub still_enough : (script cells cells' : List ℕ) → Enough script (length cells) → length cells' ≡ length cells → Enough script (length cells')
+still_enough script cells cells' h same = rw same h
+
+pub ruleset start_steps = (rules, crowded, overnamed, start_stands, plays_on, tables_from, still_enough)
 
 -- New tables.
 all_false : (n i : ℕ) → get_or (replicate n false) i false ≡ false
@@ -200,6 +213,10 @@ few_enough script h = omega arith
 pub all_enough : (script : List ℕ) → Enough script 2304
 unfolding Enough
 all_enough script = omega arith
+
+-- As many cells as were made.
+pub made_enough : (script : List ℕ) (n : ℕ) → Enough script n → Enough script (length (replicate {A = ℕ} n 0))
+made_enough script n h = rw (length-replicate {A = ℕ} n 0) h
 
 -- Questions 1 to 18.
 module _ (s c : List ℕ) (fault : Option Question) (first : fault_number fault ≡ first_failed (judged s c)) where

@@ -1,6 +1,7 @@
 -- A run, move by move, over plain values: the next move can be read, its step and its record keep what the log of the run is, and after
 -- the last move the log is whole.
 use Prim.Native.Nat.{ℕ, ◌+◌, ◌-◌, ◌*◌, ◌<◌, ◌≤◌}
+use mathlib.Core.Bool.{Bool}
 use mathlib.Core.List.{List, [], ◌∷◌, ◌++◌, append_assoc, append-nil}
 use mathlib.Core.Path.{◌≡◌, refl, sym, ap, ◌∙◌}
 use native.Mathlib.Decide.{ℕ_discrete}
@@ -24,11 +25,10 @@ use Rattle.script.specs.declared.Move.TheVariants as step_case
 use Rattle.script.specs.declared.MovePlace.{MovePlace}
 use Rattle.script.proofs.ScriptLaws.{More, more_moves, no_more}
 use Rattle.std.specs.Prelude.{Result as Outcome, Ok, Err}
-use Rattle.continuations.specs.declared.Tables.{Tables}
 use Rattle.transitions.specs.Steps.{TypeFits, Stepped, sizes_after, line_of}
 use Rattle.transitions.specs.declared.Moved.{Moved}
 use Rattle.transitions.specs.declared.MoveRefusal.{MoveRefusal}
-use Rattle.execution.specs.Begins.{ran_over}
+use Rattle.execution.specs.Begins.{Lent, ran_over}
 use Rattle.execution.specs.Runs.{Going, Ongoing, Turned}
 use Rattle.execution.specs.declared.Point.{Point}
 use Rattle.execution.proofs.LogLaws.{eight_bytes, logged_more, log_length, past_kept}
@@ -68,8 +68,8 @@ fits_so (step_case.EnvironmentName t) h = h
 pub move_fits : (s : List ℕ) (at : ℕ) (r : Outcome MovePlace Refusal) (f : MovePlace) → move_read r ≡ move_at s at → r ≡ Ok f → TypeFits f.step
 move_fits s at r f e found = fits_so f.step (of_found Brings (move_at s at) (brings s at) (sym e ∙ ap move_read found))
 
-module _ {n : ℕ} (forms script run : List ℕ) (count : ℕ) (p : Point) (log : List ℕ) (tables : Tables n)
-    (g : Going forms script run count p log tables) where
+module _ (forms script run : List ℕ) (count : ℕ) (p : Point) (log threads types : List ℕ) (known : List Bool) (cells : List ℕ)
+    (g : Going forms script run count p log threads types known cells) where
   pub record_room : p.done < count → p.done * 8 + 8 ≤ length log
   record_room h = omega (arith, g.room)
 
@@ -85,7 +85,7 @@ module _ {n : ℕ} (forms script run : List ℕ) (count : ℕ) (p : Point) (log 
       go (no f) = more_moves (1024 - p.done) script p.at g.reads f
 
   module _ (h : p.done < count) (r : Outcome MovePlace Refusal) (e : move_read r ≡ move_at script p.at) where
-    pub never_refused : (q : Refusal) → r ≡ Err q → Turned forms script run count p log log tables p
+    pub never_refused : (q : Refusal) → r ≡ Err q → Turned forms script run count p log log threads types known cells p
     never_refused q f = never (ap move_read (sym f) ∙ e ∙ (next_there h).next.first)
 
     module _ (f : MovePlace) (found : r ≡ Ok f) where
@@ -107,12 +107,13 @@ module _ {n : ℕ} (forms script run : List ℕ) (count : ℕ) (p : Point) (log 
             rest = rw (w, k) at m.next.rest;
           }
 
-      pub next_turned : (tables' : Tables n) (outcome : Outcome Moved MoveRefusal) (moved : Moved) (log' : List ℕ) → count + 1029 ≤ n
-          → Stepped forms p.sizes tables tables' (λ state. step state (move_of f.step)) outcome
+      pub next_turned : (threads' types' : List ℕ) (known' : List Bool) (cells' : List ℕ) (outcome : Outcome Moved MoveRefusal) (moved : Moved) (log' : List ℕ)
+          → count + 1029 ≤ length cells
+          → Stepped forms p.sizes threads types known cells threads' types' known' cells' (λ state. step state (move_of f.step)) outcome
           → moved ≡ record { sizes = sizes_after p.sizes outcome; line = line_of outcome }
           → log' ≡ take (p.done * 8) log ++ (bytes_of moved.line ++ drop (p.done * 8 + 8) log)
-          → Turned forms script run count p log log' tables' (record { at = f.next; done = p.done + 1; sizes = moved.sizes })
-      next_turned tables' outcome moved log' enough steps is wrote =
+          → Turned forms script run count p log log' threads' types' known' cells' (record { at = f.next; done = p.done + 1; sizes = moved.sizes })
+      next_turned threads' types' known' cells' outcome moved log' enough steps is wrote =
           let n = reached in
           let a = steps g.state (p.done + 1) (omega arith) g.holds in
           let bytes = bytes_of moved.line in
@@ -137,43 +138,58 @@ module _ {n : ℕ} (forms script run : List ℕ) (count : ℕ) (p : Point) (log 
           }
 
 -- The same for every run that goes on so.
-module _ {n : ℕ} (forms script : List ℕ) (count : ℕ) (p : Point) (log : List ℕ) (tables : Tables n) (h : p.done < count)
+module _ (forms script : List ℕ) (count : ℕ) (p : Point) (log threads types : List ℕ) (known : List Bool) (cells : List ℕ) (h : p.done < count)
     (r : Outcome MovePlace Refusal) (e : move_read r ≡ move_at script p.at) where
-  pub none_refused : (q : Refusal) → r ≡ Err q → (run : List ℕ) → Going forms script run count p log tables
-      → Turned forms script run count p log log tables p
-  none_refused q f run g = never_refused forms script run count p log tables g h r e q f
+  pub none_refused : (q : Refusal) → r ≡ Err q → (run : List ℕ) → Going forms script run count p log threads types known cells
+      → Turned forms script run count p log log threads types known cells p
+  none_refused q f run g = never_refused forms script run count p log threads types known cells g h r e q f
 
-  pub all_turned : (f : MovePlace) → r ≡ Ok f → (tables' : Tables n) (outcome : Outcome Moved MoveRefusal) (moved : Moved) (log' : List ℕ)
-      → count + 1029 ≤ n
-      → Stepped forms p.sizes tables tables' (λ state. step state (move_of f.step)) outcome
+  pub all_turned : (f : MovePlace) → r ≡ Ok f → (threads' types' : List ℕ) (known' : List Bool) (cells' : List ℕ) (outcome : Outcome Moved MoveRefusal) (moved : Moved) (log' : List ℕ)
+      → count + 1029 ≤ length cells
+      → Stepped forms p.sizes threads types known cells threads' types' known' cells' (λ state. step state (move_of f.step)) outcome
       → moved ≡ record { sizes = sizes_after p.sizes outcome; line = line_of outcome }
       → log' ≡ take (p.done * 8) log ++ (bytes_of moved.line ++ drop (p.done * 8 + 8) log)
-      → (run : List ℕ) → Going forms script run count p log tables
-      → Turned forms script run count p log log' tables' (record { at = f.next; done = p.done + 1; sizes = moved.sizes })
-  all_turned f found tables' outcome moved log' enough steps is wrote run g =
-      next_turned forms script run count p log tables g h r e f found tables' outcome moved log' enough steps is wrote
+      → (run : List ℕ) → Going forms script run count p log threads types known cells
+      → Turned forms script run count p log log' threads' types' known' cells' (record { at = f.next; done = p.done + 1; sizes = moved.sizes })
+  all_turned f found threads' types' known' cells' outcome moved log' enough steps is wrote run g =
+      next_turned forms script run count p log threads types known cells g h r e f found threads' types' known' cells' outcome moved log' enough steps is wrote
 
 pub ruleset turn_steps = (rules, none_refused, move_fits)
 
--- The loop: each run that went on at its beginning still goes on, and nothing is written past the records of all moves.
-pub record Running {n : ℕ} (forms script : List ℕ) (count : ℕ) (log₀ : List ℕ) (tables₀ : Tables n) (p₀ : Point)
-    (log : List ℕ) (tables : Tables n) (p : Point) : Type 0 where
-  pub ongoing : Ongoing forms script count p log tables
+-- The loop: each run that went on at its beginning still goes on, and nothing is written past the records of all moves; the tables
+-- keep their lengths.
+pub record Running (forms script : List ℕ) (count : ℕ) (log₀ threads₀ types₀ : List ℕ) (known₀ : List Bool) (cells₀ : List ℕ) (p₀ : Point)
+    (log threads made types : List ℕ) (known : List Bool) (cells : List ℕ) (p : Point) : Type 0 where
+  pub ongoing : Ongoing forms script count p log threads types known cells
+  pub tables : Lent threads made types known cells
+  pub enough : count + 1029 ≤ length cells
   pub long : length log ≡ length log₀
+  pub wide : length cells ≡ length cells₀
   pub past : drop (count * 8) log ≡ drop (count * 8) log₀
-  pub every : (run : List ℕ) → Going forms script run count p₀ log₀ tables₀ → Going forms script run count p log tables
+  pub every : (run : List ℕ) → Going forms script run count p₀ log₀ threads₀ types₀ known₀ cells₀ → Going forms script run count p log threads types known cells
 
-module _ {n : ℕ} (forms script : List ℕ) (count : ℕ) (log₀ : List ℕ) (tables₀ : Tables n) (p₀ : Point) (log : List ℕ) (tables : Tables n) (p : Point) where
+module _ (forms script : List ℕ) (count : ℕ) (log₀ threads₀ types₀ : List ℕ) (known₀ : List Bool) (cells₀ : List ℕ) (p₀ : Point)
+    (log threads made types : List ℕ) (known : List Bool) (cells : List ℕ) (p : Point) where
   abbrev Now : Type 0
-  Now = Running forms script count log₀ tables₀ p₀ log tables p
+  Now = Running forms script count log₀ threads₀ types₀ known₀ cells₀ p₀ log threads made types known cells p
 
-  pub run_next : Now → (r : Point) (log' : List ℕ) (tables' : Tables n)
-      → ((run : List ℕ) → Going forms script run count p log tables → Turned forms script run count p log log' tables' r)
-      → length log' ≡ length log
-      → Running forms script count log₀ tables₀ p₀ log' tables' r
-  run_next a r log' tables' t l = record {
+  pub run_next : Now → (r : Point) (log' threads' made' types' : List ℕ) (known' : List Bool) (cells' : List ℕ)
+      → ((run : List ℕ) → Going forms script run count p log threads types known cells → Turned forms script run count p log log' threads' types' known' cells' r)
+      → length log' ≡ length log → length threads' ≡ length threads → length made' ≡ length made → length types' ≡ length types
+      → length known' ≡ length known → length cells' ≡ length cells
+      → Running forms script count log₀ threads₀ types₀ known₀ cells₀ p₀ log' threads' made' types' known' cells' r
+  run_next a r log' threads' made' types' known' cells' t l th m ty k ce = record {
     ongoing = record { run = a.ongoing.run; going = (t a.ongoing.run a.ongoing.going).going };
+    tables = record {
+      thread_room = th ∙ a.tables.thread_room;
+      made_room = m ∙ a.tables.made_room;
+      type_room = ty ∙ a.tables.type_room;
+      cell_room = omega (arith, ce, a.tables.cell_room);
+      known_room = k ∙ a.tables.known_room;
+    };
+    enough = omega (arith, ce, a.enough);
     long = l ∙ a.long;
+    wide = ce ∙ a.wide;
     past = (t a.ongoing.run a.ongoing.going).kept ∙ a.past;
     every = λ run g. (t run (a.every run g)).going;
   }
@@ -183,7 +199,7 @@ module _ {n : ℕ} (forms script : List ℕ) (count : ℕ) (log₀ : List ℕ) (
   no_rest [] h = refl
   no_rest (m ∷ ms) h = absurd (omega (arith, h))
 
-  pub run_last : Now → count ≤ p.done → (run : List ℕ) → Going forms script run count p₀ log₀ tables₀ → log ≡ ran_over run log₀
+  pub run_last : Now → count ≤ p.done → (run : List ℕ) → Going forms script run count p₀ log₀ threads₀ types₀ known₀ cells₀ → log ≡ ran_over run log₀
   unfolding ran_over run_log
   run_last a h run begun =
       let g = a.every run begun in
@@ -194,14 +210,16 @@ module _ {n : ℕ} (forms script : List ℕ) (count : ℕ) (log₀ : List ℕ) (
       rw n (sym (take-append-drop (count * 8) log) ∙ ap (λ (l : List ℕ). l ++ drop (count * 8) log) w ∙ ap (λ (l : List ℕ). run ++ l) a.past)
 
 -- Fewer moves are left.
-pub run_falls : {n : ℕ} (forms script : List ℕ) (count : ℕ) (p r : Point) (log log' : List ℕ) (tables tables' : Tables n)
-    → Ongoing forms script count p log tables
-    → ((run : List ℕ) → Going forms script run count p log tables → Turned forms script run count p log log' tables' r)
+pub run_falls : (forms script : List ℕ) (count : ℕ) (p r : Point) (log log' threads threads' types types' : List ℕ) (known known' : List Bool) (cells cells' : List ℕ)
+    → Ongoing forms script count p log threads types known cells
+    → ((run : List ℕ) → Going forms script run count p log threads types known cells → Turned forms script run count p log log' threads' types' known' cells' r)
     → p.done < count → count - r.done < count - p.done
-run_falls forms script count p r log log' tables tables' o t h = omega (arith, (t o.run o.going).done)
+run_falls forms script count p r log log' threads threads' types types' known known' cells cells' o t h =
+    omega (arith, (t o.run o.going).done)
 
-pub run_first : {n : ℕ} (forms script : List ℕ) (count : ℕ) (log : List ℕ) (tables : Tables n) (p : Point)
-    → Ongoing forms script count p log tables → Running forms script count log tables p log tables p
-run_first forms script count log tables p g = record { ongoing = g; long = refl; past = refl; every = λ run h. h }
+pub run_first : (forms script : List ℕ) (count : ℕ) (log threads made types : List ℕ) (known : List Bool) (cells : List ℕ) (p : Point)
+    → Ongoing forms script count p log threads types known cells → Lent threads made types known cells → count + 1029 ≤ length cells
+    → Running forms script count log threads types known cells p log threads made types known cells p
+run_first forms script count log threads made types known cells p g t n = record { ongoing = g; tables = t; enough = n; long = refl; wide = refl; past = refl; every = λ run h. h }
 
 pub ruleset run_steps = (rules, run_next, run_first, run_last)

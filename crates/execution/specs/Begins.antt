@@ -1,5 +1,5 @@
 -- A run before its first move: its start, its script, the tables lent to it, and the outcome from the questions left on.
-use Rattle.std.specs.Prelude.{Result as Answer, ℕ, ◌+◌, ◌≤◌, min, ◌≡◌, List, [], ◌++◌, length, drop}
+use Rattle.std.specs.Prelude.{Result as Answer, ℕ, ◌+◌, ◌≤◌, min, ◌≡◌, List, [], ◌++◌, Bool, length, drop}
 use Rattle.reading.specs.Read.{Read, got, refused}
 use Rattle.reading.specs.Syntax.{Sheet}
 use Rattle.reading.specs.System.{read_sheet}
@@ -13,8 +13,7 @@ use Rattle.running.specs.Moves.{Move, has_room}
 use Rattle.running.specs.Script.{read_script}
 use Rattle.running.specs.Play.{Opened, logged, outcome_of}
 use Rattle.products.specs.declared.Sizes.{Sizes}
-use Rattle.continuations.specs.declared.Tables.{Tables}
-use Rattle.continuations.specs.Places.{Holding}
+use Rattle.products.specs.Held.{Holds}
 
 -- A sheet that passes questions 1 to 6.
 pub record Reads (s : List ℕ) : Type 0 where
@@ -58,11 +57,19 @@ pub record Comes (outcome : Outcome) (log' : List ℕ) (r : Answer ℕ Question)
   pub answer : told r ≡ outcome.answer
   pub lent : log' ≡ outcome.lent
 
--- The tables hold some state before the first move.
-pub record Standing {n : ℕ} (forms : List ℕ) (z : Sizes) (m : Tables n) : Type 0 where
+-- Memory holds some state before the first move.
+pub record Standing (forms : List ℕ) (z : Sizes) (threads types : List ℕ) (known : List Bool) (cells : List ℕ) : Type 0 where
   pub state : State
-  pub holds : Holding forms z 1 m state
+  pub holds : Holds forms z 1 threads types known cells state
 
 -- There are cells for a run under a script: no script has more than 1,024 moves, and none more than bytes.
 unfoldable pub Enough : List ℕ → ℕ → Type 0
 Enough script cells = min 1024 (length script) + 1029 ≤ cells
+
+-- The tables of a run have their lengths.
+pub record Lent (threads made types : List ℕ) (known : List Bool) (cells : List ℕ) : Type 0 where
+  pub thread_room : length threads ≡ 128
+  pub made_room : length made ≡ 128
+  pub type_room : length types ≡ 1024
+  pub cell_room : length cells ≤ 2304
+  pub known_room : length known ≡ 1024

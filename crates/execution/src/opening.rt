@@ -1,13 +1,12 @@
 // Questions 20 to 22 of a sheet that passes questions 1 to 18, and its run.
 ghost use Rattle.std.specs.Prelude.{◌≡◌, ◌≤◌, length};
 ghost use Rattle.running.specs.State.{State};
-ghost use Rattle.continuations.specs.Places.{Holding};
+ghost use Rattle.products.specs.Held.{Holds};
 ghost use Rattle.products.specs.Starts.{Blank};
-ghost use Rattle.execution.specs.Begins.{Reads, start_of, played_script, played_from, Comes, Standing, Enough};
+ghost use Rattle.execution.specs.Begins.{Reads, start_of, played_script, played_from, Comes, Standing, Enough, Lent};
 
 use crate::runs::run;
 use crate::{Course, Point};
-use continuations::Tables;
 use products::Sizes;
 use products::start::start;
 use reading::Question;
@@ -15,17 +14,23 @@ use script::moves::count_moves;
 
 // Questions 21 and 22, and the run, from the start in the tables on.
 #[tactic(auto, using(crate::proofs::PlaySteps::script_steps))]
-fn play_script<const CELLS: usize>(
-    tables: &mut Tables<CELLS>,
+fn play_script(
     forms: &[usize],
     script: &[u8],
     sizes: Sizes,
     log: &mut [u8],
+    threads: &mut [usize],
+    made: &mut [usize],
+    types: &mut [u32],
+    known: &mut [bool],
+    cells: &mut [u32],
 ) -> Result<usize, Question>
-    requires standing { Standing forms.now sizes tables.old }
-    requires cells { CELLS ≤ 2304 }
-    requires enough { Enough script.now CELLS }
-    ensures { (state : State) → Holding forms.now sizes 1 tables.old state → Comes (played_script state script.now log.old) log.new result }
+    requires standing { Standing forms.now sizes threads.old types.old known.old cells.old }
+    requires tables { Lent threads.old made.old types.old known.old cells.old }
+    requires enough { Enough script.now (length cells.old) }
+    ensures { (state : State)
+        → Holds forms.now sizes 1 threads.old types.old known.old cells.old state
+        → Comes (played_script state script.now log.old) log.new result }
 {
     let counted = count_moves(script);
     let Ok(count) = counted else {
@@ -44,38 +49,38 @@ fn play_script<const CELLS: usize>(
         script,
         count,
     };
-    run(tables, course, begin, log);
+    run(course, begin, log, threads, made, types, known, cells);
     Ok(count)
 }
 
 // Question 20, then 21 and 22, and the run, with blank tables.
-fn play_with<const CELLS: usize>(
-    tables: &mut Tables<CELLS>,
+fn play_with(
     s: &[u8],
     script: &[u8],
     log: &mut [u8],
     forms: &mut [usize],
+    threads: &mut [usize],
+    made: &mut [usize],
+    types: &mut [u32],
+    known: &mut [bool],
+    cells: &mut [u32],
 ) -> Result<usize, Question>
     requires reads { Reads s.now }
-    requires blank { Blank s.now forms.old tables.old.threads tables.old.types tables.old.known tables.old.cells }
-    requires enough { Enough script.now CELLS }
+    requires blank { Blank s.now forms.old threads.old types.old known.old cells.old }
+    requires made { length made.old ≡ 128 }
+    requires enough { Enough script.now (length cells.old) }
     ensures { Comes (played_from (start_of s.now) script.now log.old) log.new result }
 {
-    let sizes = start(
-        s,
-        forms,
-        &mut tables.threads,
-        &mut tables.types,
-        &mut tables.known,
-        &mut tables.cells,
-    );
+    let sizes = start(s, forms, threads, types, known, cells);
     if 64 < sizes.threads {
         return Err(Question::Start);
     }
     if 1024 < sizes.names {
         return Err(Question::Start);
     }
-    play_script(tables, forms, script, sizes, log)
+    play_script(
+        forms, script, sizes, log, threads, made, types, known, cells,
+    )
 }
 
 // The same, with new tables.
@@ -91,14 +96,22 @@ fn play_in<const CELLS: usize>(
     requires enough { Enough script.now CELLS }
     ensures { Comes (played_from (start_of s.now) script.now log.old) log.new result }
 {
-    let mut tables = Tables {
-        threads: [0; 128],
-        made: [0; 128],
-        types: [0; 1024],
-        known: [false; 1024],
-        cells: [0; CELLS],
-    };
-    play_with(&mut tables, s, script, log, forms)
+    let mut threads = [0usize; 128];
+    let mut made = [0usize; 128];
+    let mut types = [0u32; 1024];
+    let mut known = [false; 1024];
+    let mut cells = [0u32; CELLS];
+    play_with(
+        s,
+        script,
+        log,
+        forms,
+        &mut threads,
+        &mut made,
+        &mut types,
+        &mut known,
+        &mut cells,
+    )
 }
 
 // The same, with a new table of `FORMS` forms. A script of at most 240 bytes has few moves, and so a smaller table of cells to clear:

@@ -23,14 +23,13 @@ use Rattle.continuations.specs.declared.Exchange.{Exchange}
 use Rattle.transitions.specs.declared.Moved.{Moved}
 use Rattle.transitions.specs.declared.MoveRefusal.{MoveRefusal}
 use Rattle.transitions.specs.declared.MoveRefusal.TheVariants.{NoThread, OtherPrefix, OtherChannel}
-use Rattle.continuations.specs.declared.Tables.{Tables}
 use Rattle.continuations.specs.declared.Prefix.{Prefix}
 use Rattle.continuations.specs.declared.Prefix.TheVariants as prefix
 use Rattle.continuations.specs.Prefixes.{continuation_of, sending_of, receiving_of, PrefixFound}
 use Rattle.continuations.specs.Places.{remaining_at}
 use Rattle.continuations.specs.Exchanges.{exchanged, Exchanging}
 use Rattle.continuations.proofs.FormLaws.{no_send, no_receive}
-use Rattle.transitions.specs.Steps.{outcome_of, Stepped}
+use Rattle.transitions.specs.Steps.{outcome_of, SteppedAny}
 use Rattle.transitions.proofs.MoveLaws.{Acts, record_bytes_lem, later, answers_refused, answers_placed, no_thread, thread_is, look}
 use Rattle.transitions.proofs.UnfoldSteps.{process_of_lem}
 
@@ -83,85 +82,85 @@ module _ (forms : List ℕ) (m : Communication) (t u : Place) (give take : Actio
     met cells top av aw = unfold made in unfold exchanged in unfold remaining_at in
         rw (← av.names, ← aw.names, add-zero (length state.types)) refl
 
-module _ {n : ℕ} (forms : List ℕ) (m : Communication) (z : Sizes) (tables : Tables n) (threads_room : length tables.threads ≡ 128) where
-  abbrev Told : Tables n → Answer Moved MoveRefusal → Type 0
-  Told tables' r = Stepped forms z tables tables' (λ state. communicate_step state m.sender m.receiver) r
+module _ (forms : List ℕ) (m : Communication) (z : Sizes) (threads types cells : List ℕ) (threads_room : length threads ≡ 128) where
+  abbrev Told : List ℕ → List ℕ → List ℕ → Answer Moved MoveRefusal → Type 0
+  Told threads' types' cells' r = SteppedAny forms z threads types cells threads' types' cells' (λ state. communicate_step state m.sender m.receiver) r
 
-  pub no_sender : z.threads ≤ m.sender → Told tables (Err NoThread)
+  pub no_sender : z.threads ≤ m.sender → Told threads types cells (Err NoThread)
   unfolding communicate_step given
-  no_sender k state turns few h =
-      answers_refused forms turns tables.threads tables.types tables.known tables.cells state NoThread z (communicate_step state m.sender m.receiver)
-      (rw (no_thread forms z turns tables.threads tables.types tables.known tables.cells state threads_room h m.sender k) refl) h
+  no_sender k state turns known few kr h =
+      answers_refused forms turns threads types known cells state NoThread z (communicate_step state m.sender m.receiver)
+      (rw (no_thread forms z turns threads types known cells state threads_room h m.sender k) refl) h
 
-  pub no_other : m.sender < z.threads → z.threads ≤ m.receiver → Told tables (Err NoThread)
+  pub no_other : m.sender < z.threads → z.threads ≤ m.receiver → Told threads types cells (Err NoThread)
   unfolding communicate_step given
-  no_other k l state turns few h =
-      let found = thread_is forms z turns tables.threads tables.types tables.known tables.cells state threads_room h m.sender k in
-      answers_refused forms turns tables.threads tables.types tables.known tables.cells state NoThread z (communicate_step state m.sender m.receiver)
-      (rw (found.here, no_thread forms z turns tables.threads tables.types tables.known tables.cells state threads_room h m.receiver l) refl) h
+  no_other k l state turns known few kr h =
+      let found = thread_is forms z turns threads types known cells state threads_room h m.sender k in
+      answers_refused forms turns threads types known cells state NoThread z (communicate_step state m.sender m.receiver)
+      (rw (found.here, no_thread forms z turns threads types known cells state threads_room h m.receiver l) refl) h
 
   module _ (k : m.sender < z.threads) (l : m.receiver < z.threads) (t u : Place)
-      (et : t ≡ unpacked (get_or tables.threads m.sender 0)) (eu : u ≡ unpacked (get_or tables.threads m.receiver 0))
-      (st : Option Prefix) (f : PrefixFound forms tables.cells t st) where
+      (et : t ≡ unpacked (get_or threads m.sender 0)) (eu : u ≡ unpacked (get_or threads m.receiver 0))
+      (st : Option Prefix) (f : PrefixFound forms cells t st) where
     -- 31: the first one's prefix is no send.
-    pub idle_sender : ((d : Action) → st ≡ Some (prefix.Sends d) → ⊥) → Told tables (Err OtherPrefix)
+    pub idle_sender : ((d : Action) → st ≡ Some (prefix.Sends d) → ⊥) → Told threads types cells (Err OtherPrefix)
     unfolding communicate_step given
-    idle_sender not state turns few h =
-        let a = look forms z turns tables.threads tables.types tables.known tables.cells state m.sender t st threads_room h k et f in
-        let b = thread_is forms z turns tables.threads tables.types tables.known tables.cells state threads_room h m.receiver l in
-        answers_refused forms turns tables.threads tables.types tables.known tables.cells state OtherPrefix z (communicate_step state m.sender m.receiver)
+    idle_sender not state turns known few kr h =
+        let a = look forms z turns threads types known cells state m.sender t st threads_room h k et f in
+        let b = thread_is forms z turns threads types known cells state threads_room h m.receiver l in
+        answers_refused forms turns threads types known cells state OtherPrefix z (communicate_step state m.sender m.receiver)
         (rw (a.here, b.here, a.prefixed.sends, no_send forms t st not) refl) h
 
-    module _ (give : Action) (q : st ≡ Some (prefix.Sends give)) (su : Option Prefix) (g : PrefixFound forms tables.cells u su) where
+    module _ (give : Action) (q : st ≡ Some (prefix.Sends give)) (su : Option Prefix) (g : PrefixFound forms cells u su) where
       -- 31: the other's prefix is no receive.
-      pub no_receiver : ((d : Action) → su ≡ Some (prefix.Receives d) → ⊥) → Told tables (Err OtherPrefix)
+      pub no_receiver : ((d : Action) → su ≡ Some (prefix.Receives d) → ⊥) → Told threads types cells (Err OtherPrefix)
       unfolding communicate_step given sending_of
-      no_receiver not state turns few h =
-          let a = look forms z turns tables.threads tables.types tables.known tables.cells state m.sender t st threads_room h k et f in
-          let b = look forms z turns tables.threads tables.types tables.known tables.cells state m.receiver u su threads_room h l eu g in
-          answers_refused forms turns tables.threads tables.types tables.known tables.cells state OtherPrefix z (communicate_step state m.sender m.receiver)
+      no_receiver not state turns known few kr h =
+          let a = look forms z turns threads types known cells state m.sender t st threads_room h k et f in
+          let b = look forms z turns threads types known cells state m.receiver u su threads_room h l eu g in
+          answers_refused forms turns threads types known cells state OtherPrefix z (communicate_step state m.sender m.receiver)
           (rw (a.here, b.here, a.prefixed.sends ∙ ap (sending_of forms t) q, b.prefixed.receives, no_receive forms u su not) refl) h
 
       module _ (take : Action) (i : su ≡ Some (prefix.Receives take)) where
         -- 34: two channels.
-        pub other_channel : (give.channel ≡ take.channel → ⊥) → Told tables (Err OtherChannel)
+        pub other_channel : (give.channel ≡ take.channel → ⊥) → Told threads types cells (Err OtherChannel)
         unfolding guard
-        other_channel not state turns few h =
-            let a = look forms z turns tables.threads tables.types tables.known tables.cells state m.sender t st threads_room h k et f in
-            let b = look forms z turns tables.threads tables.types tables.known tables.cells state m.receiver u su threads_room h l eu g in
-            answers_refused forms turns tables.threads tables.types tables.known tables.cells state OtherChannel z (communicate_step state m.sender m.receiver)
+        other_channel not state turns known few kr h =
+            let a = look forms z turns threads types known cells state m.sender t st threads_room h k et f in
+            let b = look forms z turns threads types known cells state m.receiver u su threads_room h l eu g in
+            answers_refused forms turns threads types known cells state OtherChannel z (communicate_step state m.sender m.receiver)
             (rw (
               communication forms m t u give take state a.thread b.thread a.here b.here (a.prefixed.sends ∙ ap (sending_of forms t) q) (b.prefixed.receives ∙ ap (receiving_of forms u) i),
               ne_eqb give.channel take.channel not,
             ) refl) h
 
-        pub communicated : (front back : Place) (placed : Option Sizes) (tables' : Tables n) (r : Answer Moved MoveRefusal)
-            → length tables.cells ≡ n → give.channel ≡ take.channel → front ≡ continuation_of t give.next → back ≡ continuation_of u take.next
-            → Exchanging forms (record { sender = m.sender; receiver = m.receiver; mine = front; theirs = back; sent = give.object }) z tables tables' placed
+        pub communicated : (front back : Place) (placed : Option Sizes) (threads' types' cells' : List ℕ) (r : Answer Moved MoveRefusal)
+            → give.channel ≡ take.channel → front ≡ continuation_of t give.next → back ≡ continuation_of u take.next
+            → Exchanging forms (record { sender = m.sender; receiver = m.receiver; mine = front; theirs = back; sent = give.object }) z threads types cells threads' types' cells' placed
             → r ≡ outcome_of placed (record { number = 0; label = 1; channel = give.channel; name = give.object; actor = t.component; receiver = u.component })
-            → Told tables' r
+            → Told threads' types' cells' r
         unfolding guard sending_of receiving_of
-        communicated front back placed tables' r sized ch em ex exchanging o state turns few h =
-            let a = look forms z turns tables.threads tables.types tables.known tables.cells state m.sender t st threads_room h k et f in
-            let b = look forms z turns tables.threads tables.types tables.known tables.cells state m.receiver u su threads_room h l eu g in
+        communicated front back placed threads' types' cells' r ch em ex exchanging o state turns known few kr h =
+            let a = look forms z turns threads types known cells state m.sender t st threads_room h k et f in
+            let b = look forms z turns threads types known cells state m.receiver u su threads_room h l eu g in
             let v = a.thread in
             let w = b.thread in
-            let av : Acts forms tables.cells z.cells t v = a.acts in
-            let aw : Acts forms tables.cells z.cells u w = b.acts in
+            let av : Acts forms cells z.cells t v = a.acts in
+            let aw : Acts forms cells z.cells u w = b.acts in
             let send = a.prefixed.sends ∙ ap (sending_of forms t) q in
             let receive = b.prefixed.receives ∙ ap (receiving_of forms u) i in
-            let exchanging' : Exchanging forms (pair forms m t u give take) z tables tables' placed = rw (em, ex) at exchanging in
+            let exchanging' : Exchanging forms (pair forms m t u give take) z threads types cells threads' types' cells' placed = rw (em, ex) at exchanging in
             let xs =
-            exchanging' state v.component w.component turns (omega (arith, few, sized)) av.component aw.component (process_of_lem give.next av) (process_of_lem take.next aw)
+            exchanging' state v.component w.component turns known few kr av.component aw.component (process_of_lem give.next av) (process_of_lem take.next aw)
             (b.prefixed.binds take i) (a.prefixed.small give q)
             (apart state m.sender m.receiver v w _ _ a.here b.here send receive) h in
-            answers_placed forms turns tables'.threads tables'.types tables'.known tables'.cells state placed _ (exchanged forms (pair forms m t u give take) tables.cells state v.component w.component)
+            answers_placed forms turns threads' types' known cells' state placed _ (exchanged forms (pair forms m t u give take) cells state v.component w.component)
             (record_of 1 give.channel give.object v.component.number w.component.number) (communicate_step state m.sender m.receiver) z r
             (rw (communication forms m t u give take state v w a.here b.here send receive, eq-eqb give.channel take.channel ch)
-            (ap (λ n. taken n (record_of 1 give.channel give.object v.component.number w.component.number)) (met forms m t u give take state v w a.here b.here send receive tables.cells z.cells av aw)))
+            (ap (λ n. taken n (record_of 1 give.channel give.object v.component.number w.component.number)) (met forms m t u give take state v w a.here b.here send receive cells z.cells av aw)))
             o
             (record_bytes_lem 1 give.channel give.object t.component u.component (lit< tt) av.small aw.small
             ∙ ap₂ (λ a b. record_of 1 give.channel give.object a b) (sym av.component) (sym aw.component))
             xs.fits
             xs.taken
-            (λ y. later forms turns tables'.threads tables'.types tables'.known tables'.cells state z (xs.kept y turns z.cells (omega arith) h))
+            (λ y. later forms turns threads' types' known cells' state z (xs.kept y turns z.cells (omega arith) h))

@@ -12,7 +12,7 @@ use Rattle.script.specs.declared.Record.{Record}
 use Rattle.transitions.specs.declared.Moved.{Moved}
 use Rattle.transitions.specs.declared.MoveRefusal.{MoveRefusal}
 use Rattle.transitions.specs.declared.MoveRefusal.TheVariants.{NoRoom}
-use Rattle.transitions.specs.Steps.{number_of, refused_line, sizes_after, line_of, outcome_of, known_after}
+use Rattle.transitions.specs.Steps.{number_of, refused_line, refusal, sizes_after, line_of, outcome_of, known_after}
 
 -- A value that is another one.
 pub never : {A : Type 0} {r : Option A} {x y : A} → r ≡ Some x → (x ≡ y → ⊥) → r ≡ Some y → ⊥
@@ -23,10 +23,10 @@ pub logged_taken : (z : Sizes) (r : Answer Moved MoveRefusal) (moved : Moved) �
 unfolding sizes_after line_of
 logged_taken z r moved e = rw e refl
 
-pub logged_refused : (z : Sizes) (r : Answer Moved MoveRefusal) (refusal : MoveRefusal) (line : Record) → r ≡ Err refusal → line ≡ refused_line (number_of refusal)
-    → ◌≡◌ {A = Moved} (record { sizes = z; line = line }) (record { sizes = sizes_after z r; line = line_of r })
-unfolding sizes_after line_of
-logged_refused z r refusal line e f = rw (e, f) refl
+pub logged_refused : (z : Sizes) (r : Answer Moved MoveRefusal) (q : MoveRefusal) (n : ℕ) (moved : Moved) → r ≡ Err q → n ≡ number_of q
+    → moved ≡ refusal n z → moved ≡ record { sizes = sizes_after z r; line = line_of r }
+unfolding sizes_after line_of refused_line refusal
+logged_refused z r q n moved e k f = rw (e, f, k) refl
 
 -- The outcome of a move whose products were to be placed.
 pub outcome_taken : (p : Option Sizes) (z : Sizes) (line : Record) → p ≡ Some z → Ok (record { sizes = z; line = line }) ≡ outcome_of p line

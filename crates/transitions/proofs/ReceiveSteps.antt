@@ -28,11 +28,10 @@ use Rattle.continuations.specs.declared.Action.{Action}
 use Rattle.transitions.specs.declared.Moved.{Moved}
 use Rattle.transitions.specs.declared.MoveRefusal.{MoveRefusal}
 use Rattle.transitions.specs.declared.MoveRefusal.TheVariants.{NoThread, OtherPrefix, NotKnown, OtherType}
-use Rattle.continuations.specs.declared.Tables.{Tables}
 use Rattle.continuations.specs.declared.Prefix.{Prefix}
 use Rattle.continuations.specs.declared.Prefix.TheVariants as prefix
 use Rattle.continuations.specs.Prefixes.{continuation_of, receiving_of, PrefixFound}
-use Rattle.continuations.specs.Places.{Ranged, remaining_at, changed, put, Holding, Replaces, Replacing, under_cell, with_cell}
+use Rattle.continuations.specs.Places.{Ranged, remaining_at, changed, put, Tables, Replaces, Replacing, under_cell, with_cell}
 use Rattle.continuations.proofs.FormLaws.{no_receive}
 use Rattle.transitions.specs.Steps.{outcome_of, Stepped}
 use Rattle.transitions.proofs.MoveLaws.{Acts, record_bytes_lem, answers_refused, answers_placed, no_thread, after_one, look, known_is}
@@ -48,8 +47,15 @@ same_threads z = go (ltb z.cells 2304)
 pub wider_inside : (w z : Sizes) (i : ℕ) → w ≡ with_cell z → i < z.threads → i + 1 ≤ w.threads
 wider_inside w z i e h = omega (arith, ap (λ x. x.threads) e, same_threads z)
 
-pub wider_few : (w z : Sizes) → w ≡ with_cell z → z.threads ≤ 64 → w.threads ≤ 64
-wider_few w z e h = omega (arith, ap (λ x. x.threads) e, same_threads z)
+pub wider_tables : (w z : Sizes) (threads made types cells cells₁ : List ℕ) (cell env name : ℕ) → w ≡ with_cell z → cells₁ ≡ bound cells cell env name
+    → Tables z threads made types cells → Tables w threads made types cells₁
+wider_tables w z threads made types cells cells₁ cell env name e f t = record {
+  few = omega (arith, ap (λ x. x.threads) e, same_threads z, t.few);
+  thread_room = t.thread_room;
+  made_room = t.made_room;
+  type_room = t.type_room;
+  cell_room = omega (arith, ap length f, bound_length cells cell env name, t.cell_room);
+}
 
 wider_so : (w z : Sizes) → w ≡ with_cell z → z.cells < 2304 → w ≡ record { threads = z.threads; names = z.names; cells = z.cells + 1 }
 unfolding with_cell
@@ -128,40 +134,40 @@ module _ (forms : List ℕ) (t : Place) (act : Action) (m : Receipt) where
       (after_one state m.thread u here (threads_of u.component (u.names ++ (m.name ∷ [])) (length state.types) continuation) (news continuation)
       ∙ ap (λ ns. changed state (replaced state.threads m.thread (m.thread + 1) (threads_of u.component ns (length state.types) continuation)) (news continuation)) (sym names_are)))
 
-module _ {n : ℕ} (forms : List ℕ) (m : Receipt) (z : Sizes) (tables : Tables n) (threads_room : length tables.threads ≡ 128) where
-  abbrev Told : Tables n → Answer Moved MoveRefusal → Type 0
-  Told tables' r = Stepped forms z tables tables' (λ state. receive_step state m.thread m.name) r
+module _ (forms : List ℕ) (m : Receipt) (z : Sizes) (threads types : List ℕ) (known : List Bool) (cells : List ℕ) (threads_room : length threads ≡ 128) where
+  abbrev Told : List ℕ → List ℕ → List ℕ → Answer Moved MoveRefusal → Type 0
+  Told threads' types' cells' r = Stepped forms z threads types known cells threads' types' known cells' (λ state. receive_step state m.thread m.name) r
 
-  pub receive_no_thread : z.threads ≤ m.thread → Told tables (Err NoThread)
+  pub receive_no_thread : z.threads ≤ m.thread → Told threads types cells (Err NoThread)
   unfolding receive_step given
   receive_no_thread k state turns few h =
-      answers_refused forms turns tables.threads tables.types tables.known tables.cells state NoThread z (receive_step state m.thread m.name)
-      (rw (no_thread forms z turns tables.threads tables.types tables.known tables.cells state threads_room h m.thread k) refl) h
+      answers_refused forms turns threads types known cells state NoThread z (receive_step state m.thread m.name)
+      (rw (no_thread forms z turns threads types known cells state threads_room h m.thread k) refl) h
 
-  module _ (t : Place) (st : Option Prefix) (k : m.thread < z.threads) (e : t ≡ unpacked (get_or tables.threads m.thread 0)) (f : PrefixFound forms tables.cells t st) where
+  module _ (t : Place) (st : Option Prefix) (k : m.thread < z.threads) (e : t ≡ unpacked (get_or threads m.thread 0)) (f : PrefixFound forms cells t st) where
     -- 31: its prefix is no receive.
-    pub receive_other : ((d : Action) → st ≡ Some (prefix.Receives d) → ⊥) → Told tables (Err OtherPrefix)
+    pub receive_other : ((d : Action) → st ≡ Some (prefix.Receives d) → ⊥) → Told threads types cells (Err OtherPrefix)
     unfolding receive_step given
     receive_other not state turns few h =
-        let l = look forms z turns tables.threads tables.types tables.known tables.cells state m.thread t st threads_room h k e f in
-        answers_refused forms turns tables.threads tables.types tables.known tables.cells state OtherPrefix z (receive_step state m.thread m.name)
+        let l = look forms z turns threads types known cells state m.thread t st threads_room h k e f in
+        answers_refused forms turns threads types known cells state OtherPrefix z (receive_step state m.thread m.name)
         (rw (l.here, l.prefixed.receives, no_receive forms t st not) refl) h
 
-    module _ (act : Action) (q : st ≡ Some (prefix.Receives act)) (b : Bool) (eb : b ≡ get_or (take z.names tables.known) act.channel false) where
+    module _ (act : Action) (q : st ≡ Some (prefix.Receives act)) (b : Bool) (eb : b ≡ get_or (take z.names known) act.channel false) where
       -- 32: the environment does not know the channel, or the name.
-      pub channel_unknown : not b ≡ true → Told tables (Err NotKnown)
+      pub channel_unknown : not b ≡ true → Told threads types cells (Err NotKnown)
       unfolding guard
       channel_unknown h state turns few holds =
-          let l = look forms z turns tables.threads tables.types tables.known tables.cells state m.thread t st threads_room holds k e f in
-          answers_refused forms turns tables.threads tables.types tables.known tables.cells state NotKnown z (receive_step state m.thread m.name)
+          let l = look forms z turns threads types known cells state m.thread t st threads_room holds k e f in
+          answers_refused forms turns threads types known cells state NotKnown z (receive_step state m.thread m.name)
           (rw (receiving forms t act m state l.thread l.here (l.prefixed.receives ∙ ap (receiving_of forms t) q), known_is act.channel b eb holds, not-true b h) refl) holds
 
-      module _ (h : not b ≡ false) (v : Bool) (ev : v ≡ get_or (take z.names tables.known) m.name false) where
-        pub name_unknown : not v ≡ true → Told tables (Err NotKnown)
+      module _ (h : not b ≡ false) (v : Bool) (ev : v ≡ get_or (take z.names known) m.name false) where
+        pub name_unknown : not v ≡ true → Told threads types cells (Err NotKnown)
         unfolding guard
         name_unknown hv state turns few holds =
-            let l = look forms z turns tables.threads tables.types tables.known tables.cells state m.thread t st threads_room holds k e f in
-            answers_refused forms turns tables.threads tables.types tables.known tables.cells state NotKnown z (receive_step state m.thread m.name)
+            let l = look forms z turns threads types known cells state m.thread t st threads_room holds k e f in
+            answers_refused forms turns threads types known cells state NotKnown z (receive_step state m.thread m.name)
             (rw (
               receiving forms t act m state l.thread l.here (l.prefixed.receives ∙ ap (receiving_of forms t) q),
               known_is act.channel b eb holds,
@@ -170,16 +176,16 @@ module _ {n : ℕ} (forms : List ℕ) (m : Receipt) (z : Sizes) (tables : Tables
               not-true v hv,
             ) refl) holds
 
-        module _ (hv : not v ≡ false) (y : ℕ) (ey : y ≡ get_or (take z.names tables.types) m.name 0) where
-          type_is : (state : State) (turns : ℕ) → Holding forms z turns tables state → get_or state.types m.name 0 ≡ y
+        module _ (hv : not v ≡ false) (y : ℕ) (ey : y ≡ get_or (take z.names types) m.name 0) where
+          type_is : (state : State) (turns : ℕ) → Holds forms z turns threads types known cells state → get_or state.types m.name 0 ≡ y
           type_is state turns holds = sym (ey ∙ ap (λ l. get_or l m.name 0) holds.types)
 
           -- 33: the name has another type.
-          pub other_type : (y ≡ act.object → ⊥) → Told tables (Err OtherType)
+          pub other_type : (y ≡ act.object → ⊥) → Told threads types cells (Err OtherType)
           unfolding guard
           other_type not state turns few holds =
-              let l = look forms z turns tables.threads tables.types tables.known tables.cells state m.thread t st threads_room holds k e f in
-              answers_refused forms turns tables.threads tables.types tables.known tables.cells state OtherType z (receive_step state m.thread m.name)
+              let l = look forms z turns threads types known cells state m.thread t st threads_room holds k e f in
+              answers_refused forms turns threads types known cells state OtherType z (receive_step state m.thread m.name)
               (rw (
                 receiving forms t act m state l.thread l.here (l.prefixed.receives ∙ ap (receiving_of forms t) q),
                 known_is act.channel b eb holds,
@@ -190,36 +196,33 @@ module _ {n : ℕ} (forms : List ℕ) (m : Receipt) (z : Sizes) (tables : Tables
                 ne_eqb y act.object not,
               ) refl) holds
 
-          pub receive_placed : (follows body : Place) (wider : Sizes) (cells₁ : List ℕ) (placed : Option Sizes) (tables' : Tables n) (r : Answer Moved MoveRefusal)
-              → y ≡ act.object → length tables.known ≡ 1024 → length tables.cells ≡ n → n ≤ 2304
-              → follows ≡ continuation_of t act.next → body ≡ under_cell follows z.cells → cells₁ ≡ bound tables.cells z.cells t.env m.name → wider ≡ with_cell z
-              → Replacing forms body m.thread (m.thread + 1) wider
-              (record { threads = tables.threads; made = tables.made; types = tables.types; known = tables.known; cells = cells₁ }) tables' placed
+          pub receive_placed : (follows body : Place) (wider : Sizes) (cells₁ : List ℕ) (placed : Option Sizes) (threads' types' cells' : List ℕ) (r : Answer Moved MoveRefusal)
+              → y ≡ act.object → length known ≡ 1024 → length cells ≤ 2304
+              → follows ≡ continuation_of t act.next → body ≡ under_cell follows z.cells → cells₁ ≡ bound cells z.cells t.env m.name → wider ≡ with_cell z
+              → Replacing forms body m.thread (m.thread + 1) wider threads types cells₁ threads' types' cells' placed
               → r ≡ outcome_of placed (record { number = 0; label = 2; channel = act.channel; name = m.name; actor = t.component; receiver = 255 })
-              → Told tables' r
+              → Told threads' types' cells' r
           unfolding guard
-          receive_placed follows body wider cells₁ placed tables' r ty known_room sized most ef ebo ec ew replacing o state turns few holds =
-              let l = look forms z turns tables.threads tables.types tables.known tables.cells state m.thread t st threads_room holds k e f in
+          receive_placed follows body wider cells₁ placed threads' types' cells' r ty known_room cells_room ef ebo ec ew replacing o state turns few holds =
+              let l = look forms z turns threads types known cells state m.thread t st threads_room holds k e f in
               let u = l.thread in
-              let a : Acts forms tables.cells z.cells t u = l.acts in
+              let a : Acts forms cells z.cells t u = l.acts in
               let names : t.names + (t.nest - 1) < 128 = l.prefixed.binds act q in
-              let cells_room : length tables.cells ≤ 2304 = omega (arith, sized, most) in
-              let enough : turns + 1029 ≤ length tables.cells = omega (arith, sized, few) in
-              let given_name : m.name < z.names = known_given tables.known z.names m.name (sym ev ∙ not-false v hv) (omega (arith, holds.given, known_room)) in
+              let given_name : m.name < z.names = known_given known z.names m.name (sym ev ∙ not-false v hv) (omega (arith, holds.given, known_room)) in
               let small : m.name < 65536 = omega (arith, holds.given, given_name) in
               let process_is : body ≡ process forms t act m z.cells = unfold under_cell in rw (ebo, ef, lt-ltb t.names 128 (omega arith)) refl in
               let wider_is : wider ≡ record { threads = z.threads; names = z.names; cells = z.cells + 1 }
-              = wider_so wider z ew (omega (arith, holds.slack, holds.given, enough, cells_room)) in
+              = wider_so wider z ew (omega (arith, holds.slack, holds.given, few, cells_room)) in
               let fits : Ranged (process forms t act m z.cells) wider.cells = rw wider_is (record { component = a.small; scope = omega arith; deep = omega (arith, a.deep); place = mod-lt act.next (lit< tt); env = omega arith }) in
-              let held : Holds forms wider (turns + 1) tables.threads tables.types tables.known cells₁ state = rw (ew, ec) (holds_cell forms z turns tables.threads tables.types tables.known tables.cells state t.env m.name cells_room enough holds) in
-              let still : Holds forms z (turns + 1) tables.threads tables.types tables.known cells₁ state = rw ec (holds_bound forms z turns tables.threads tables.types tables.known tables.cells state t.env m.name holds) in
+              let held : Holds forms wider (turns + 1) threads types known cells₁ state = rw (ew, ec) (holds_cell forms z turns threads types known cells state t.env m.name cells_room few holds) in
+              let still : Holds forms z (turns + 1) threads types known cells₁ state = rw ec (holds_bound forms z turns threads types known cells state t.env m.name holds) in
               let rs : Replaces forms (process forms t act m z.cells) m.thread (m.thread + 1) wider (turns + 1)
-              (record { threads = tables.threads; made = tables.made; types = tables.types; known = tables.known; cells = cells₁ }) tables' state u.component placed
-              = rw process_is at (replacing state u.component (turns + 1) (omega (arith, enough, ap length ec, bound_length tables.cells z.cells t.env m.name)) (a.component ∙ ap (λ p. p.component) (sym process_is)) (rw process_is fits) held) in
+              threads threads' types types' known cells₁ cells' state u.component placed
+              = rw process_is at (replacing state u.component (turns + 1) known (omega (arith, few, ap length ec, bound_length cells z.cells t.env m.name)) known_room (a.component ∙ ap (λ p. p.component) (sym process_is)) (rw process_is fits) held) in
               let names_are : chain cells₁ (t.names + 1) z.cells ≡ u.names ++ (m.name ∷ [])
-              = rw ec (chain_bound tables.cells t.names z.cells t.env m.name a.env (omega (arith, enough, holds.slack, holds.given)) (omega (arith, enough, cells_room, holds.slack, holds.given)) small)
+              = rw ec (chain_bound cells t.names z.cells t.env m.name a.env (omega (arith, few, holds.slack, holds.given)) (omega (arith, few, cells_room, holds.slack, holds.given)) small)
               ∙ ap (λ ns. ns ++ (m.name ∷ [])) (sym a.names) in
-              answers_placed forms turns tables'.threads tables'.types tables'.known tables'.cells state placed _ (put forms (process forms t act m z.cells) m.thread (m.thread + 1) cells₁ state u.component)
+              answers_placed forms turns threads' types' known cells' state placed _ (put forms (process forms t act m z.cells) m.thread (m.thread + 1) cells₁ state u.component)
               (record_of 2 act.channel m.name u.component.number 255) (receive_step state m.thread m.name) z r
               (rw (
                 receiving forms t act m state u l.here (l.prefixed.receives ∙ ap (receiving_of forms t) q),
@@ -235,6 +238,6 @@ module _ {n : ℕ} (forms : List ℕ) (m : Receipt) (z : Sizes) (tables : Tables
               rs.fits
               rs.taken
               (λ y.
-              let kept : Holds forms z (turns + 1) tables.threads tables.types tables.known cells₁ state → Holding forms z (turns + 1) tables' state
+              let kept : Holds forms z (turns + 1) threads types known cells₁ state → Holds forms z (turns + 1) threads' types' known cells' state
               = rw wider_is at (rs.kept y (turns + 1) z.cells (omega (arith, ap (λ x. x.cells) wider_is))) in
               kept still)

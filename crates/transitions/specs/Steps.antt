@@ -1,5 +1,5 @@
 -- What a move asks, and its answer: the state that memory holds afterwards, and the record.
-use Rattle.std.specs.Prelude.{Option, Some, None, Result as Answer, Ok, Err, ℕ, ◌+◌, ◌<◌, ◌≤◌, ◌≡◌, List, Bool, true, cond, ltb, set}
+use Rattle.std.specs.Prelude.{Option, Some, None, Result as Answer, Ok, Err, ℕ, ◌+◌, ◌<◌, ◌≤◌, ◌≡◌, List, Bool, true, cond, ltb, length, set}
 use Rattle.running.specs.State.{State}
 use Rattle.running.specs.Moves.{Result, state_after, record_bytes}
 use Rattle.script.specs.Told.{bytes_of}
@@ -9,8 +9,6 @@ use Rattle.script.specs.declared.Move.TheVariants as move
 use Rattle.products.specs.declared.Sizes.{Sizes}
 use Rattle.products.specs.Held.{Holds}
 use Rattle.transitions.specs.declared.Moved.{Moved}
-use Rattle.continuations.specs.declared.Tables.{Tables}
-use Rattle.continuations.specs.Places.{Holding}
 use Rattle.transitions.specs.declared.MoveRefusal.{MoveRefusal}
 use Rattle.transitions.specs.declared.MoveRefusal.TheVariants.{NoThread, OtherPrefix, NotKnown, OtherType, OtherChannel, NoRoom}
 
@@ -35,6 +33,13 @@ number_of NoRoom = 35
 unfoldable pub refused_line : ℕ → Record
 refused_line number = record { number = number; label = 0; channel = 0; name = 0; actor = 0; receiver = 0 }
 
+-- A refused move: its number, and the sizes as they are.
+unfoldable pub refusal : ℕ → Sizes → Moved
+refusal number z = record {
+  sizes = z;
+  line = record { number = number; label = 0; channel = 0; name = 0; actor = 0; receiver = 0 };
+}
+
 -- The sizes after a move, and its record. A refused move leaves the sizes as they were.
 unfoldable pub sizes_after : Sizes → Answer Moved MoveRefusal → Sizes
 sizes_after z (Ok moved) = moved.sizes
@@ -58,9 +63,16 @@ outcome_of None rec = Err NoRoom
 unfoldable pub known_after : Sizes → ℕ → List Bool → List Bool
 known_after z name known = cond (ltb name z.names) (set known name true) known
 
--- What a move promises: from every state that the tables hold, with cells for one turn more, it answers `f` of that state, and the
--- tables hold the state afterwards.
-abbrev pub Stepped : {n : ℕ} → List ℕ → Sizes → Tables n → Tables n → (State → Result) → Answer Moved MoveRefusal → Type 0
-Stepped {n} forms z m m' f r =
-    (state : State) (turns : ℕ) → turns + 1029 ≤ n → Holding forms z turns m state
-    → Answers forms (turns + 1) m'.threads m'.types m'.known m'.cells state (f state) z r
+-- What a move promises: from every state that memory holds, with cells for one turn more, it answers `f` of that state, and memory
+-- holds the state afterwards. Memory is the tables of threads, types, known names and cells, first before the move and then after it.
+abbrev pub Stepped : List ℕ → Sizes → List ℕ → List ℕ → List Bool → List ℕ → List ℕ → List ℕ → List Bool → List ℕ → (State → Result)
+    → Answer Moved MoveRefusal → Type 0
+Stepped forms z threads types known cells threads' types' known' cells' f r =
+    (state : State) (turns : ℕ) → turns + 1029 ≤ length cells → Holds forms z turns threads types known cells state
+    → Answers forms (turns + 1) threads' types' known' cells' state (f state) z r
+
+-- The same of a move that is not lent what is known, whatever that is.
+abbrev pub SteppedAny : List ℕ → Sizes → List ℕ → List ℕ → List ℕ → List ℕ → List ℕ → List ℕ → (State → Result) → Answer Moved MoveRefusal → Type 0
+SteppedAny forms z threads types cells threads' types' cells' f r =
+    (state : State) (turns : ℕ) (known : List Bool) → turns + 1029 ≤ length cells → length known ≡ 1024
+    → Holds forms z turns threads types known cells state → Answers forms (turns + 1) threads' types' known cells' state (f state) z r

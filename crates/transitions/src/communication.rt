@@ -1,25 +1,28 @@
 // 04, a communication of a sender and a receiver on one channel.
-ghost use Rattle.std.specs.Prelude.{◌≡◌, ◌≤◌};
 ghost use Rattle.running.specs.Moves.{communicate_step};
-ghost use Rattle.transitions.specs.Steps.{Stepped};
+ghost use Rattle.continuations.specs.Places.{Tables};
+ghost use Rattle.transitions.specs.Steps.{SteppedAny};
 
 use crate::{MoveRefusal, Moved};
+use continuations::exchanging::exchange;
 use continuations::prefixes::{continuation, prefix_of, thread_at};
-use continuations::{Exchange, Prefix, Tables};
+use continuations::{Exchange, Prefix};
 use products::Sizes;
 use script::{Communication, Record};
 
 /// 04: a communication.
-pub fn communicate<const CELLS: usize>(
-    tables: &mut Tables<CELLS>,
+pub fn communicate(
     forms: &[usize],
     m: Communication,
     sizes: Sizes,
+    threads: &mut [usize],
+    made: &mut [usize],
+    types: &mut [u32],
+    cells: &mut [u32],
 ) -> Result<Moved, MoveRefusal>
-    requires few { sizes.threads ≤ 64 }
-    requires cells { CELLS ≤ 2304 }
-    ensures known { tables.new.known ≡ tables.old.known }
-    ensures stepped { Stepped forms.now sizes tables.old tables.new (λ state. communicate_step state m.sender m.receiver) result }
+    requires { Tables sizes threads.old made.old types.old cells.old }
+    ensures { SteppedAny forms.now sizes threads.old types.old cells.old
+        threads.new types.new cells.new (λ state. communicate_step state m.sender m.receiver) result }
 {
     if sizes.threads <= m.sender {
         return Err(MoveRefusal::NoThread);
@@ -27,15 +30,15 @@ pub fn communicate<const CELLS: usize>(
     if sizes.threads <= m.receiver {
         return Err(MoveRefusal::NoThread);
     }
-    let sender = thread_at(&tables.threads, m.sender);
-    let receiver = thread_at(&tables.threads, m.receiver);
-    let Some(front) = prefix_of(forms, sender, &tables.cells) else {
+    let sender = thread_at(threads, m.sender);
+    let receiver = thread_at(threads, m.receiver);
+    let Some(front) = prefix_of(forms, sender, cells) else {
         return Err(MoveRefusal::OtherPrefix);
     };
     let Prefix::Sends(give) = front else {
         return Err(MoveRefusal::OtherPrefix);
     };
-    let Some(back) = prefix_of(forms, receiver, &tables.cells) else {
+    let Some(back) = prefix_of(forms, receiver, cells) else {
         return Err(MoveRefusal::OtherPrefix);
     };
     let Prefix::Receives(take) = back else {
@@ -53,7 +56,7 @@ pub fn communicate<const CELLS: usize>(
         theirs,
         sent: give.object,
     };
-    let Some(sizes) = tables.exchange(forms, pair, sizes) else {
+    let Some(sizes) = exchange(forms, pair, sizes, threads, made, types, cells) else {
         return Err(MoveRefusal::NoRoom);
     };
     Ok(Moved {

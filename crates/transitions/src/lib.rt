@@ -1,4 +1,8 @@
-// The moves of a run on a state in the tables of a run (document 01, "Running").
+// The moves of a run on a state in lent memory (document 01, "Running").
+//
+// Five tables are lent: `threads`, the threads in order; `made`, room for what a move makes; `types`, the type of each name
+// given so far; `known`, which names are known to the environment; and `cells`, the run names of the binders passed.
+// They come in one by one, as in `continuations`.
 #![tactic(auto)]
 
 pub mod communication;

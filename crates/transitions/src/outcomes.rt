@@ -1,24 +1,36 @@
-// What a move tells: a refusal's record, and what is known after a move that is taken.
+// What a move tells: a refusal, the record of a move, and what is known after a move that is taken.
 ghost use Rattle.std.specs.Prelude.{◌≡◌};
-ghost use Rattle.transitions.specs.Steps.{number_of, refused_line, sizes_after, line_of, known_after};
+ghost use Rattle.transitions.specs.Steps.{number_of, refusal, sizes_after, line_of, known_after};
 
 use crate::{MoveRefusal, Moved};
 use memory::put;
 use products::Sizes;
 use script::Record;
 
-/// The record of a refused move: its number, and zeros in all other fields.
-#[tactic(auto, unfolding(crate::specs::Steps::refused_line))]
-pub fn refused(refusal: MoveRefusal) -> Record
-    ensures { result ≡ refused_line (number_of refusal) }
+impl MoveRefusal {
+    /// The number of the question that a move fails.
+    pub fn number(self) -> usize
+        ensures { result ≡ number_of self }
+    {
+        self as usize
+    }
+}
+
+/// A refused move: its number, and the sizes as they are.
+#[tactic(auto, unfolding(crate::specs::Steps::refusal))]
+pub fn refused(number: usize, sizes: Sizes) -> Moved
+    ensures { result ≡ refusal number sizes }
 {
-    Record {
-        number: refusal as usize,
-        label: 0,
-        channel: 0,
-        name: 0,
-        actor: 0,
-        receiver: 0,
+    Moved {
+        sizes,
+        line: Record {
+            number,
+            label: 0,
+            channel: 0,
+            name: 0,
+            actor: 0,
+            receiver: 0,
+        },
     }
 }
 
@@ -29,10 +41,7 @@ pub fn logged(outcome: Result<Moved, MoveRefusal>, sizes: Sizes) -> Moved
 {
     match outcome {
         Ok(moved) => moved,
-        Err(refusal) => Moved {
-            sizes,
-            line: refused(refusal),
-        },
+        Err(refusal) => refused(refusal.number(), sizes),
     }
 }
 

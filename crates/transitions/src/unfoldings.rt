@@ -1,38 +1,41 @@
 // 01, the unfolding of a replication (document 01: a copy): it makes what it repeats, which goes before it.
-ghost use Rattle.std.specs.Prelude.{◌≡◌, ◌≤◌};
 ghost use Rattle.running.specs.Moves.{unfold_step};
-ghost use Rattle.transitions.specs.Steps.{Stepped};
+ghost use Rattle.continuations.specs.Places.{Tables};
+ghost use Rattle.transitions.specs.Steps.{SteppedAny};
 
 use crate::{MoveRefusal, Moved};
+use continuations::Prefix;
+use continuations::placing::replace;
 use continuations::prefixes::{continuation, prefix_of, thread_at};
-use continuations::{Prefix, Tables};
 use products::Sizes;
 use script::Record;
 
 /// 01: the unfolding of the replication at index `i`.
-pub fn unfold_replication<const CELLS: usize>(
-    tables: &mut Tables<CELLS>,
+pub fn unfold_replication(
     forms: &[usize],
     i: usize,
     sizes: Sizes,
+    threads: &mut [usize],
+    made: &mut [usize],
+    types: &mut [u32],
+    cells: &mut [u32],
 ) -> Result<Moved, MoveRefusal>
-    requires few { sizes.threads ≤ 64 }
-    requires cells { CELLS ≤ 2304 }
-    ensures known { tables.new.known ≡ tables.old.known }
-    ensures stepped { Stepped forms.now sizes tables.old tables.new (λ state. unfold_step state i) result }
+    requires { Tables sizes threads.old made.old types.old cells.old }
+    ensures { SteppedAny forms.now sizes threads.old types.old cells.old
+        threads.new types.new cells.new (λ state. unfold_step state i) result }
 {
     if sizes.threads <= i {
         return Err(MoveRefusal::NoThread);
     }
-    let thread = thread_at(&tables.threads, i);
-    let Some(prefix) = prefix_of(forms, thread, &tables.cells) else {
+    let thread = thread_at(threads, i);
+    let Some(prefix) = prefix_of(forms, thread, cells) else {
         return Err(MoveRefusal::OtherPrefix);
     };
     let Prefix::Repeats(next) = prefix else {
         return Err(MoveRefusal::OtherPrefix);
     };
     let copy = continuation(thread, next);
-    let Some(sizes) = tables.replace(forms, copy, i, i, sizes) else {
+    let Some(sizes) = replace(forms, copy, i, i, sizes, threads, made, types, cells) else {
         return Err(MoveRefusal::NoRoom);
     };
     Ok(Moved {

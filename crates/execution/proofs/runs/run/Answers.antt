@@ -4,13 +4,14 @@ use Rattle.execution.proofs.RunSteps.{run_steps, run_falls}
 use Rattle.execution.proofs.runs.run.Goals as goal
 
 pub loop-p-smaller : goal.loop-p-smaller
-loop-p-smaller g c = run_falls _ _ _ _ _ _ _ c.loop-p.tables c.turn-p.new.tables
+loop-p-smaller c =
+    run_falls _ _ _ _ _ _ _ _ _ _ _ _ _ _ _
     c.loop-p.invariant.ongoing
     c.turn-p.ensures
     c.loop-p-test.true
 
 pub loop-p-preserved : goal.loop-p-preserved
-loop-p-preserved g c = search run_steps
+loop-p-preserved c = search run_steps
 
 pub returns : goal.returns
-returns g c = search run_steps
+returns c = search run_steps
